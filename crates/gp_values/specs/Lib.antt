@@ -1,0 +1,4 @@
+pub mod Texts
+pub mod Atoms
+pub mod Graph
+pub mod Laws

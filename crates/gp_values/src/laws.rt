@@ -1,0 +1,23 @@
+//! What holds of graphs as the specifications define them. Each function does nothing: its contract is the law.
+
+ghost use Rattle.gp_values.specs.Laws.{EditsKeepGraphs, EditsChangeOnePlace, SameGraphs, TestsEquality};
+
+/// Each edit of a graph leaves a graph.
+pub fn edits_keep_graphs()
+    ensures { EditsKeepGraphs }
+{}
+
+/// An edit changes what it names, and nothing else.
+pub fn edits_change_one_place()
+    ensures { EditsChangeOnePlace }
+{}
+
+/// Graphs are equal where their nodes, edges and next numbers are.
+pub fn same_graphs()
+    ensures { SameGraphs }
+{}
+
+/// The test of equality of the definitions is exact.
+pub fn tests_equality()
+    ensures { TestsEquality }
+{}

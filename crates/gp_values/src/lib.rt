@@ -1,0 +1,15 @@
+//! Atoms, lists and marks, and what a graph is to every contract above.
+#![tactic(auto)]
+
+mod atom;
+mod chars;
+pub mod laws;
+mod list;
+mod marks;
+mod memory;
+
+pub use atom::Atom;
+pub use chars::Chars;
+pub use list::List;
+pub use marks::{EdgeMark, NodeMark};
+pub use memory::NoMemory;

@@ -1,0 +1,21 @@
+//! The marks of nodes and edges.
+
+/// The mark of a node of a host graph (Bak 2015, "Marks").
+#[derive(Clone, Copy, Debug, PartialEq, Eq)]
+pub enum NodeMark {
+    None,
+    Red,
+    Green,
+    Blue,
+    Grey,
+}
+
+/// The mark of an edge of a host graph.
+#[derive(Clone, Copy, Debug, PartialEq, Eq)]
+pub enum EdgeMark {
+    None,
+    Red,
+    Green,
+    Blue,
+    Dashed,
+}
