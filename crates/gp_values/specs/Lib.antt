@@ -1,4 +1,6 @@
 pub mod Texts
 pub mod Atoms
+pub mod Names
+pub mod Marks
 pub mod Graph
 pub mod Laws

@@ -1,0 +1,12 @@
+pub mod Expression
+pub mod Value
+pub mod Truth
+pub mod Rule
+pub mod Match
+pub mod Step
+pub mod Run
+pub mod Replay
+pub mod Share
+pub mod Declaration
+pub mod Laws
+pub mod Rows

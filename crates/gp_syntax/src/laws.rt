@@ -1,0 +1,45 @@
+//! What holds of the definitions: laws, and worked examples. Each function does nothing: its contract is the law.
+
+ghost use Rattle.gp_syntax.specs.Laws.{StepIsUnique, StepWithoutVariablesIsUnique, RunsReplay};
+ghost use Rattle.gp_syntax.specs.Rows.{DanglingEdgeBlocks, IsolatedNodeIsDeleted, OneEdgeIsNotTwo, ParallelEdgesMatch, RootWantsRoot, RootIsTakenAway, RootStays, AnyKeepsMark, IfTakesBack, TryTakesBack, FailedBodyIsTakenBack, BreakKeepsBody, EmptySetEndsLoop, SkipLoopStands};
+
+/// A match leads, by its assignment, to one graph.
+pub fn step_is_unique()
+    ensures by_assignment { StepIsUnique }
+    ensures without_variables { StepWithoutVariablesIsUnique }
+{}
+
+/// A run's trace leads to the graph at which it ends, and each beginning of it to some graph.
+pub fn runs_replay()
+    ensures { RunsReplay }
+{}
+
+/// Nodes with edges that are not matched are not deleted.
+pub fn dangling_examples()
+    ensures blocks { DanglingEdgeBlocks }
+    ensures isolated { IsolatedNodeIsDeleted }
+{}
+
+/// Two left edges want two edges.
+pub fn parallel_edge_examples()
+    ensures one { OneEdgeIsNotTwo }
+    ensures two { ParallelEdgesMatch }
+{}
+
+/// Roots, and the mark `any`.
+pub fn root_and_mark_examples()
+    ensures wanted { RootWantsRoot }
+    ensures taken { RootIsTakenAway }
+    ensures stays { RootStays }
+    ensures any { AnyKeepsMark }
+{}
+
+/// What is taken back, and what is kept.
+pub fn command_examples()
+    ensures condition { IfTakesBack }
+    ensures tried { TryTakesBack }
+    ensures failed_body { FailedBodyIsTakenBack }
+    ensures broken_body { BreakKeepsBody }
+    ensures empty_set { EmptySetEndsLoop }
+    ensures standing { SkipLoopStands }
+{}
