@@ -8,5 +8,6 @@ pub mod Run
 pub mod Replay
 pub mod Share
 pub mod Declaration
+pub mod Plain
 pub mod Laws
 pub mod Rows

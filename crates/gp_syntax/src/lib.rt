@@ -4,5 +4,7 @@
 
 mod kinds;
 pub mod laws;
+mod plain;
 
 pub use kinds::{Comparison, NumberKind, VariableType};
+pub use plain::{PlainLeftEdge, PlainLeftNode, PlainRightEdge, PlainRightNode, PlainRule};
