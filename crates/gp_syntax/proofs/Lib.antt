@@ -1,1 +1,3 @@
 pub mod Unique
+pub mod Traces
+pub mod Runs
