@@ -136,10 +136,10 @@ pub traced-append : {rules : List Rule} {g h k : Graph} {t u : List Item} → Tr
 traced-append {rules} {g} {h} {k} {t} {u} a b = record {
   whole = replays-append rules t u g h k a.whole b.whole;
   beginnings = λ w v e. elim (split t u w v e) [
-      | inl p ↦ a.beginnings w p.0 p.1
-      | inr p ↦ (let c = b.beginnings p.0 v p.2 in
-          (c.0, subst (λ (z : List Item). Replays rules g z c.0) (sym p.1) (replays-append rules t p.0 g h c.0 a.whole c.1)))
-    ];
+    | inl p ↦ a.beginnings w p.0 p.1
+    | inr p ↦ (let c = b.beginnings p.0 v p.2 in
+        (c.0, subst (λ (z : List Item). Replays rules g z c.0) (sym p.1) (replays-append rules t p.0 g h c.0 a.whole c.1)))
+  ];
 }
 
 begins_undone : (rules : List Rule) (g h : Graph) (t a v : List Item) → Traced rules g t h → Back (length (live t)) ∷ [] ≡ a ++ v → (k : Graph) × Replays rules g (t ++ a) k
@@ -153,9 +153,9 @@ pub traced-undone : {rules : List Rule} {g h : Graph} {t : List Item} → Traced
 traced-undone {rules} {g} {h} {t} b = record {
   whole = replays-undone rules t g h b.whole;
   beginnings = λ w v e. elim (split t (Back (length (live t)) ∷ []) w v e) [
-      | inl p ↦ b.beginnings w p.0 p.1
-      | inr p ↦ (let c = begins_undone rules g h t p.0 v b p.2 in (c.0, subst (λ (z : List Item). Replays rules g z c.0) (sym p.1) c.1))
-    ];
+    | inl p ↦ b.beginnings w p.0 p.1
+    | inr p ↦ (let c = begins_undone rules g h t p.0 v b p.2 in (c.0, subst (λ (z : List Item). Replays rules g z c.0) (sym p.1) c.1))
+  ];
 }
 
 pub traced-turned : {rules : List Rule} {g h : Graph} {t : List Item} → Traced rules g t h → Traced rules g (Turned ∷ t) h

@@ -23,9 +23,9 @@ contained (m ∷ ns) n =
     elim (cases_eq m n) [
       | inl e ↦ inl (0, omega arith, e)
       | inr d ↦ elim (contained ns n) [
-          | inl c ↦ (let l : c.0 < length ns = c.1 in inl (suc c.0, omega arith, c.2))
-          | inr apart ↦ inr (λ c. apart (in_tail m ns n c.0 c.1 c.2 d))
-        ]
+        | inl c ↦ (let l : c.0 < length ns = c.1 in inl (suc c.0, omega arith, c.2))
+        | inr apart ↦ inr (λ c. apart (in_tail m ns n c.0 c.1 c.2 d))
+      ]
     ]
 
 -- the place at which a number stands
@@ -45,9 +45,9 @@ same_image r g m is js a b j q (Some i) h e = a.kept j i q h e ∙ sym (b.kept j
 pub same_images : (r : Rule) (g : Graph) (m : Found) (is js : List ℕ) → Places r g m is → Places r g m js → is ≡ js
 same_images r g m is js a b =
     ext_get_or 0 is js (a.count ∙ sym b.count) (λ j l.
-      let k : length is ≡ length r.right_nodes = a.count in
-      let s = element r.right_nodes j (omega arith) in
-      same_image r g m is js a b j s.0 s.0.origin s.1 refl)
+    let k : length is ≡ length r.right_nodes = a.count in
+    let s = element r.right_nodes j (omega arith) in
+    same_image r g m is js a b j s.0 s.0.origin s.1 refl)
 
 -- ---- what is made
 
@@ -119,10 +119,10 @@ module _ {r : Rule} {g : Graph} {m : Found} {a : Assignment} {h k : Graph} where
       elim (cases_lt e g.next_edge) [
         | inl b ↦ edges_elsewhere s t e (λ i l p. omega arith)
         | inr b ↦ elim (cases_lt (e - g.next_edge) (length r.right_edges)) [
-            | inl l ↦ (let p : g.next_edge + (e - g.next_edge) ≡ e = omega arith in
-                subst (λ n. edge_at h n ≡ edge_at k n) p (edges_at_new s t (e - g.next_edge) l))
-            | inr l ↦ edges_elsewhere s t e (λ i o p. omega arith)
-          ]
+          | inl l ↦ (let p : g.next_edge + (e - g.next_edge) ≡ e = omega arith in
+              subst (λ n. edge_at h n ≡ edge_at k n) p (edges_at_new s t (e - g.next_edge) l))
+          | inr l ↦ edges_elsewhere s t e (λ i o p. omega arith)
+        ]
       ]
 
   pub one_graph : StepBy r g m a h → StepBy r g m a k → h ≡ k
