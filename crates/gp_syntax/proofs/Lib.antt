@@ -5,3 +5,4 @@ pub mod Small
 pub mod Blocked
 pub mod Parallel
 pub mod Commands
+pub mod Loops
