@@ -6,3 +6,4 @@ pub mod Blocked
 pub mod Parallel
 pub mod Commands
 pub mod Loops
+pub mod Declarations

@@ -1,6 +1,6 @@
 //! What holds of the definitions: laws, and worked examples. Each function does nothing: its contract is the law.
 
-ghost use Rattle.gp_syntax.specs.Laws.{StepIsUnique, StepWithoutVariablesIsUnique, RunsReplay};
+ghost use Rattle.gp_syntax.specs.Laws.{StepIsUnique, StepWithoutVariablesIsUnique, RunsReplay, RulesOfDeclarationsFit};
 ghost use Rattle.gp_syntax.specs.Rows.{DanglingEdgeBlocks, IsolatedNodeIsDeleted, OneEdgeIsNotTwo, ParallelEdgesMatch, RootWantsRoot, RootIsTakenAway, RootStays, AnyKeepsMark, IfTakesBack, TryTakesBack, FailedBodyIsTakenBack, BreakKeepsBody, EmptySetEndsLoop, SkipLoopStands};
 
 /// A match leads, by its assignment, to one graph.
@@ -12,6 +12,11 @@ pub fn step_is_unique()
 /// A run's trace leads to the graph at which it ends, and each beginning of it to some graph.
 pub fn runs_replay()
     ensures { RunsReplay }
+{}
+
+/// The rule of a well named declaration has its nodes and edges, and names places that are there.
+pub fn rules_of_declarations_fit()
+    ensures { RulesOfDeclarationsFit }
 {}
 
 /// Nodes with edges that are not matched are not deleted.
