@@ -7,3 +7,4 @@ pub mod Parallel
 pub mod Commands
 pub mod Loops
 pub mod Declarations
+pub mod Constants

@@ -1,12 +1,17 @@
 -- What holds of matches, steps and runs, whoever makes them.
-use Rattle.std.specs.Prelude.{◌≡◌, ℕ, ◌<◌, Bool, List, [], ◌++◌, length, slice_get, Some}
+use Rattle.std.specs.Prelude.{◌≡◌, ◌↔◌, ℕ, ◌<◌, Bool, List, [], ◌++◌, length, slice_get, Some}
 use Rattle.gp_values.specs.Graph.{Graph}
-use Rattle.gp_syntax.specs.Value.{Assignment}
+use Rattle.gp_values.specs.Names.{Name}
+use Rattle.gp_syntax.specs.declared.kinds.NumberKind.{NumberKind}
+use Rattle.gp_syntax.specs.Expression.{Expression, renamed}
+use Rattle.gp_syntax.specs.Value.{Assignment, Setting, Value, value_of}
+use Rattle.gp_syntax.specs.Match.{Match}
 use Rattle.gp_syntax.specs.Rule.{Rule, LeftEdge, RightNode, RightEdge, Found}
-use Rattle.gp_syntax.specs.Step.{StepBy, Step}
+use Rattle.gp_syntax.specs.Step.{StepBy, Step, Applies, IsFaulty}
 use Rattle.gp_syntax.specs.Run.{Command, Program, Item, Ending, graph_at, Run}
 use Rattle.gp_syntax.specs.Replay.{Replays}
 use Rattle.gp_syntax.specs.Declaration.{Declaration, IsWellNamed, rule_of}
+use Rattle.gp_syntax.specs.Constant.{IsConstant, constant_of, HasNoArithmetic, IsFaultless}
 
 -- A match leads, by an assignment, to one graph.
 abbrev pub StepIsUnique : Type 0
@@ -38,3 +43,18 @@ pub record FitsDeclaration (d : Declaration) (r : Rule) : Type 0 where
 
 abbrev pub RulesOfDeclarationsFit : Type 0
 RulesOfDeclarationsFit = (d : Declaration) → IsWellNamed d → FitsDeclaration d (rule_of d)
+
+-- A constant has the same value everywhere, in a rule as in its declaration.
+pub record ConstantsHaveTheirValue : Type 0 where
+  pub value : (e : Expression ℕ) (s : Setting) → IsConstant e → value_of e s ≡ Value (constant_of e)
+  pub stays : (v n : Name → ℕ) (e : Expression Name) → IsConstant e → IsConstant (renamed v n e)
+  pub same : (v n : Name → ℕ) (e : Expression Name) → IsConstant e → constant_of (renamed v n e) ≡ constant_of e
+  pub no_arithmetic : (e : Expression ℕ) → IsConstant e → HasNoArithmetic e
+
+-- What matches applies, and is not faulty.
+pub record MatchesApply (r : Rule) (g : Graph) (m : Found) : Type 0 where
+  pub applies : Match r g m ↔ Applies r g m
+  pub not_faulty : (kind : NumberKind) → IsFaulty r g m kind → ⊥
+
+abbrev pub FaultlessRulesApply : Type 0
+FaultlessRulesApply = (r : Rule) (g : Graph) (m : Found) → IsFaultless r → MatchesApply r g m

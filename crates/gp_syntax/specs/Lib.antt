@@ -8,5 +8,6 @@ pub mod Run
 pub mod Replay
 pub mod Share
 pub mod Declaration
+pub mod Constant
 pub mod Laws
 pub mod Rows

@@ -1,6 +1,6 @@
 //! What holds of the definitions: laws, and worked examples. Each function does nothing: its contract is the law.
 
-ghost use Rattle.gp_syntax.specs.Laws.{StepIsUnique, StepWithoutVariablesIsUnique, RunsReplay, RulesOfDeclarationsFit};
+ghost use Rattle.gp_syntax.specs.Laws.{StepIsUnique, StepWithoutVariablesIsUnique, RunsReplay, RulesOfDeclarationsFit, ConstantsHaveTheirValue, FaultlessRulesApply};
 ghost use Rattle.gp_syntax.specs.Rows.{DanglingEdgeBlocks, IsolatedNodeIsDeleted, OneEdgeIsNotTwo, ParallelEdgesMatch, RootWantsRoot, RootIsTakenAway, RootStays, AnyKeepsMark, IfTakesBack, TryTakesBack, FailedBodyIsTakenBack, BreakKeepsBody, EmptySetEndsLoop, SkipLoopStands};
 
 /// A match leads, by its assignment, to one graph.
@@ -17,6 +17,16 @@ pub fn runs_replay()
 /// The rule of a well named declaration has its nodes and edges, and names places that are there.
 pub fn rules_of_declarations_fit()
     ensures { RulesOfDeclarationsFit }
+{}
+
+/// Numbers, strings and lists of these have the value that is written, wherever they stand.
+pub fn constants_have_their_value()
+    ensures { ConstantsHaveTheirValue }
+{}
+
+/// Without a condition and arithmetic on the right, what matches applies.
+pub fn faultless_rules_apply()
+    ensures { FaultlessRulesApply }
 {}
 
 /// Nodes with edges that are not matched are not deleted.
