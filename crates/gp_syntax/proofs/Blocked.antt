@@ -4,7 +4,6 @@ use Rattle.std.specs.Prelude.{pos}
 use Rattle.std.proofs.lemmas.Option.{none-some}
 use Rattle.gp_values.specs.declared.marks.NodeMark.TheVariants as node_marks
 use Rattle.gp_values.specs.declared.marks.EdgeMark.TheVariants as edge_marks
-use Rattle.gp_values.specs.Graph.{Edge}
 use Rattle.gp_syntax.specs.Expression.{Variable, Marked, AnyMark}
 use Rattle.gp_syntax.specs.Value.{Assignment}
 use Rattle.gp_syntax.specs.Rule.{LeftEdge, Found}

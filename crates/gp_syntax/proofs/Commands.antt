@@ -1,11 +1,11 @@
 -- What small commands do, one example each.
-use Rattle.std.proofs.Common.{◌≡◌, ℕ, ◌<◌, false, [], ◌∷◌, refl, arith}
-use Rattle.std.specs.Prelude.{pos, Contains}
+use Rattle.std.proofs.Common.{◌<◌, false, [], ◌∷◌, refl, arith}
+use Rattle.std.specs.Prelude.{pos}
 use Rattle.gp_values.specs.declared.marks.NodeMark.TheVariants as node_marks
 use Rattle.gp_syntax.specs.declared.kinds.VariableType.TheVariants as types
 use Rattle.gp_syntax.specs.Expression.{Marked, Variable, Number, Plus}
-use Rattle.gp_syntax.specs.Step.{CallsTo, Step}
-use Rattle.gp_syntax.specs.Run.{Run, Call, Seq, Skip, Fail, Break, Loop, Stepped, Turned, Back, Gives, Fails, AtTurn, call_steps, call_fails, seq, seq_fails, seq_breaks, if_then, try_else, loop_stands, loop_goes_on, loop_ends, loop_breaks, skips, fails, breaks}
+use Rattle.gp_syntax.specs.Step.{Step}
+use Rattle.gp_syntax.specs.Run.{Run, Call, Stepped, Gives, Fails, call_steps, call_fails, seq, if_then, try_else, loop_stands, loop_goes_on, loop_ends, loop_breaks, skips, fails, breaks}
 use Rattle.gp_syntax.specs.Rows.{plain, del, inc, program, start, raised, no_nodes, at_first, IfTakesBack, TryTakesBack, FailedBodyIsTakenBack, BreakKeepsBody, EmptySetEndsLoop, SkipLoopStands}
 use Rattle.gp_syntax.proofs.Small.{step_deleted, step_kept, blocked_nothing}
 use Rattle.gp_syntax.proofs.Blocked.{red_blocked}

@@ -1,17 +1,17 @@
 -- Constants have their value, and rules without arithmetic are not faulty.
-use Rattle.std.proofs.Common.{◌≡◌, ◌⊎◌, ◌↔◌, inl, inr, ℕ, zero, suc, true, List, [], ◌∷◌, ◌++◌, map, slice_get, Option, Some, None, refl, sym, ap, subst, ◌∙◌}
+use Rattle.std.proofs.Common.{◌≡◌, inl, inr, ℕ, suc, true, List, [], ◌∷◌, ◌++◌, map, slice_get, Some, None, refl, sym, ap, subst, ◌∙◌}
 use Rattle.std.proofs.lemmas.Option.{none-some}
 use Rattle.gp_values.specs.declared.atom.Atom.{Atom}
-use Rattle.gp_values.specs.declared.atom.Atom.TheVariants.{Int, Str}
+use Rattle.gp_values.specs.declared.atom.Atom.TheVariants.{Str}
 use Rattle.gp_values.specs.Graph.{Graph}
 use Rattle.gp_values.specs.Names.{Name}
 use Rattle.gp_syntax.specs.declared.kinds.NumberKind.{NumberKind}
-use Rattle.gp_syntax.specs.Expression.{Expression, Number, Text, Variable, In_degree, Out_degree, Length_of, Negated, Plus, Minus, Times, Over, Dot, Empty, Join, renamed}
+use Rattle.gp_syntax.specs.Expression.{Expression, Number, Text, Variable, In_degree, Out_degree, Length_of, Dot, Empty, Join, renamed}
 use Rattle.gp_syntax.specs.Value.{Setting, Valued, Value, NoValue, ◌>>=◌, value_of, characters}
 use Rattle.gp_syntax.specs.Truth.{truth_of}
 use Rattle.gp_syntax.specs.Rule.{Rule, RightNode, RightEdge, Found}
-use Rattle.gp_syntax.specs.Match.{Match, MatchBy, setting_of}
-use Rattle.gp_syntax.specs.Step.{Applies, AppliesBy, IsFaulty, FaultyBy, kind_or, first_fault, right_labels}
+use Rattle.gp_syntax.specs.Match.{setting_of}
+use Rattle.gp_syntax.specs.Step.{IsFaulty, kind_or, first_fault, right_labels}
 use Rattle.gp_syntax.specs.Constant.{IsConstant, constant_of, HasNoArithmetic, IsFaultless}
 use Rattle.gp_syntax.specs.Laws.{ConstantsHaveTheirValue, MatchesApply}
 use Rattle.gp_syntax.proofs.Declarations.{from_map}
@@ -83,16 +83,16 @@ no_fault (e ∷ es) s h = ap (λ v. kind_or v (first_fault es s)) (has_value e s
 no_fault_on : (ds es : List (Expression ℕ)) (s : Setting) → first_fault ds s ≡ None → first_fault es s ≡ None → first_fault (ds ++ es) s ≡ None
 no_fault_on [] es s h k = k
 no_fault_on (d ∷ ds) es s h k = go (value_of d s) h (λ l. no_fault_on ds es s l k)
-    where
-  go : (v : Valued (List Atom)) → kind_or v (first_fault ds s) ≡ None → (first_fault ds s ≡ None → first_fault (ds ++ es) s ≡ None) → kind_or v (first_fault (ds ++ es) s) ≡ None
-  go (Value x) l rest = rest l
-  go (NoValue c) l rest = absurd (none-some c (sym l))
+  where
+    go : (v : Valued (List Atom)) → kind_or v (first_fault ds s) ≡ None → (first_fault ds s ≡ None → first_fault (ds ++ es) s ≡ None) → kind_or v (first_fault (ds ++ es) s) ≡ None
+    go (Value x) l rest = rest l
+    go (NoValue c) l rest = absurd (none-some c (sym l))
 
 labels_valued : (r : Rule) (s : Setting) → IsFaultless r → first_fault (right_labels r) s ≡ None
 labels_valued r s f =
     no_fault_on (map (λ (q : RightNode). q.label) r.right_nodes) (map (λ (q : RightEdge). q.label) r.right_edges) s
-      (no_fault _ s (λ i e h. let x = from_map (λ (q : RightNode). q.label) r.right_nodes i e h in subst (λ (d : Expression ℕ). HasNoArithmetic d) x.2 (f.right_nodes i x.0 x.1)))
-      (no_fault _ s (λ i e h. let x = from_map (λ (q : RightEdge). q.label) r.right_edges i e h in subst (λ (d : Expression ℕ). HasNoArithmetic d) x.2 (f.right_edges i x.0 x.1)))
+    (no_fault _ s (λ i e h. let x = from_map (λ (q : RightNode). q.label) r.right_nodes i e h in subst (λ (d : Expression ℕ). HasNoArithmetic d) x.2 (f.right_nodes i x.0 x.1)))
+    (no_fault _ s (λ i e h. let x = from_map (λ (q : RightEdge). q.label) r.right_edges i e h in subst (λ (d : Expression ℕ). HasNoArithmetic d) x.2 (f.right_edges i x.0 x.1)))
 
 true_condition : (r : Rule) (s : Setting) → IsFaultless r → truth_of r.condition s ≡ Value true
 true_condition r s f = ap (λ c. truth_of c s) f.condition

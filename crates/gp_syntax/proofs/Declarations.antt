@@ -1,13 +1,12 @@
 -- The rule of a well named declaration: its edges end at its nodes, and the interface pairs nodes of the two sides.
-use Rattle.std.proofs.Common.{◌≡◌, ◌≢◌, ◌⊎◌, inl, inr, ℕ, zero, suc, ◌+◌, ◌<◌, ◌≤◌, Bool, true, false, cond, if◌then◌else◌, ◌||◌, List, [], ◌∷◌, ◌++◌, map, length, flat_map, slice_get, Option, Some, None, unwrap_or, option_map, refl, sym, ap, subst, ◌∙◌, arith}
-use Rattle.std.specs.Prelude.{nat_eq}
-use Rattle.std.specs.List.{list_any, position_from}
-use Rattle.std.specs.Cmp.Lexicographic.{same_text, other_text, pointwise}
+use Rattle.std.proofs.Common.{◌≡◌, ℕ, zero, suc, ◌+◌, ◌<◌, Bool, true, false, cond, if◌then◌else◌, ◌||◌, List, [], ◌∷◌, ◌++◌, map, length, flat_map, slice_get, Some, None, unwrap_or, option_map, refl, sym, ap, subst, ◌∙◌, arith}
+use Rattle.std.specs.List.{position_from}
+use Rattle.std.specs.Cmp.Lexicographic.{same_text, other_text}
 use Rattle.std.proofs.lemmas.List.{length-map}
 use Rattle.std.proofs.lemmas.Option.{same_Some, none-some, slice_get-map}
-use Rattle.gp_values.specs.Names.{Name, same_name, has_name, place_of, first_doubled, first_doubled_behind, first_unknown}
-use Rattle.gp_syntax.specs.Rule.{Rule, LeftNode, LeftEdge, RightNode, RightEdge}
-use Rattle.gp_syntax.specs.Declaration.{Declaration, DeclaredNode, DeclaredEdge, Side, IsWellNamed, node_names, end_names, place_in, origin_in, rule_of}
+use Rattle.gp_values.specs.Names.{Name, same_name, has_name, place_of, first_doubled_behind, first_unknown}
+use Rattle.gp_syntax.specs.Rule.{LeftEdge, RightNode, RightEdge}
+use Rattle.gp_syntax.specs.Declaration.{Declaration, DeclaredNode, DeclaredEdge, IsWellNamed, node_names, place_in, origin_in, rule_of}
 use Rattle.gp_syntax.specs.Laws.{FitsDeclaration}
 
 -- ---- names
@@ -18,23 +17,23 @@ same_name_told a b e = same_text a b (sym e)
 
 pub same_name_itself : (a : Name) → same_name a a ≡ true
 same_name_itself a = go (same_name a a) refl
-    where
-  go : (x : Bool) → same_name a a ≡ x → same_name a a ≡ true
-  go true e = e
-  go false e = absurd (other_text a a (sym e) refl)
+  where
+    go : (x : Bool) → same_name a a ≡ x → same_name a a ≡ true
+    go true e = e
+    go false e = absurd (other_text a a (sym e) refl)
 
 -- a name that a list has has a place below its length
 first_place : (names : List Name) (n : Name) (s : ℕ) → has_name names n ≡ true → (i : ℕ) × (position_from (same_name n) s names ≡ Some i) × (i < s + length names)
 first_place [] n s h = absurd cc
 first_place (m ∷ names) n s h = go (same_name n m) refl h (λ k. first_place names n (s + 1) k)
-    where
-  go : (b : Bool) → same_name n m ≡ b → (b || has_name names n) ≡ true → (has_name names n ≡ true → (i : ℕ) × (position_from (same_name n) (s + 1) names ≡ Some i) × (i < (s + 1) + length names)) →
-      (i : ℕ) × (position_from (same_name n) s (m ∷ names) ≡ Some i) × (i < s + suc (length names))
-  go true e h rest = (s, ap (λ b. cond b (Some s) (position_from (same_name n) (s + 1) names)) e, omega arith)
-  go false e h rest =
-      let r = rest h in
-      let l : r.0 < (s + 1) + length names = r.2 in
-      (r.0, ap (λ b. cond b (Some s) (position_from (same_name n) (s + 1) names)) e ∙ r.1, omega arith)
+  where
+    go : (b : Bool) → same_name n m ≡ b → (b || has_name names n) ≡ true → (has_name names n ≡ true → (i : ℕ) × (position_from (same_name n) (s + 1) names ≡ Some i) × (i < (s + 1) + length names)) →
+        (i : ℕ) × (position_from (same_name n) s (m ∷ names) ≡ Some i) × (i < s + suc (length names))
+    go true e h rest = (s, ap (λ b. cond b (Some s) (position_from (same_name n) (s + 1) names)) e, omega arith)
+    go false e h rest =
+        let r = rest h in
+        let l : r.0 < (s + 1) + length names = r.2 in
+        (r.0, ap (λ b. cond b (Some s) (position_from (same_name n) (s + 1) names)) e ∙ r.1, omega arith)
 
 pub place_below : (names : List Name) (n : Name) → has_name names n ≡ true → place_in names n < length names
 place_below names n h =
@@ -47,19 +46,19 @@ place_below names n h =
 standing_from : (names : List Name) (n : Name) (s i : ℕ) → position_from (same_name n) s names ≡ Some i → (k : ℕ) × (i ≡ s + k) × (k < length names) × (slice_get names k ≡ Some n)
 standing_from [] n s i h = absurd cc
 standing_from (m ∷ names) n s i h = go (same_name n m) refl h (λ k. standing_from names n (s + 1) i k)
-    where
-  go : (b : Bool) → same_name n m ≡ b → cond b (Some s) (position_from (same_name n) (s + 1) names) ≡ Some i →
-      (position_from (same_name n) (s + 1) names ≡ Some i → (k : ℕ) × (i ≡ (s + 1) + k) × (k < length names) × (slice_get names k ≡ Some n)) →
-      (k : ℕ) × (i ≡ s + k) × (k < suc (length names)) × (slice_get (m ∷ names) k ≡ Some n)
-  go true e h rest =
-      let f : s ≡ i = cc in
-      let d : n ≡ m = same_name_told n m e in
-      (0, omega arith, omega arith, ap (λ x. Some x) (sym d))
-  go false e h rest =
-      let r = rest h in
-      let f : i ≡ (s + 1) + r.0 = r.1 in
-      let l : r.0 < length names = r.2 in
-      (suc r.0, omega arith, omega arith, r.3)
+  where
+    go : (b : Bool) → same_name n m ≡ b → cond b (Some s) (position_from (same_name n) (s + 1) names) ≡ Some i →
+        (position_from (same_name n) (s + 1) names ≡ Some i → (k : ℕ) × (i ≡ (s + 1) + k) × (k < length names) × (slice_get names k ≡ Some n)) →
+        (k : ℕ) × (i ≡ s + k) × (k < suc (length names)) × (slice_get (m ∷ names) k ≡ Some n)
+    go true e h rest =
+        let f : s ≡ i = cc in
+        let d : n ≡ m = same_name_told n m e in
+        (0, omega arith, omega arith, ap (λ x. Some x) (sym d))
+    go false e h rest =
+        let r = rest h in
+        let f : i ≡ (s + 1) + r.0 = r.1 in
+        let l : r.0 < length names = r.2 in
+        (suc r.0, omega arith, omega arith, r.3)
 
 pub place_has : (names : List Name) (n : Name) (i : ℕ) → place_of names n ≡ Some i → (i < length names) × (slice_get names i ≡ Some n)
 place_has names n i h =
@@ -81,10 +80,10 @@ neither false false c h = (refl, refl)
 -- what the test of doubled names says of the first name and of the others
 once_head : (seen : List Name) (n : Name) (names : List Name) → first_doubled_behind seen (n ∷ names) ≡ None → (has_name seen n ≡ false) × (first_doubled_behind (seen ++ n ∷ []) names ≡ None)
 once_head seen n names h = go (has_name seen n) refl h
-    where
-  go : (b : Bool) → has_name seen n ≡ b → (if b then Some n else first_doubled_behind (seen ++ n ∷ []) names) ≡ None → (has_name seen n ≡ false) × (first_doubled_behind (seen ++ n ∷ []) names ≡ None)
-  go true e h = absurd (none-some n (sym h))
-  go false e h = (e, h)
+  where
+    go : (b : Bool) → has_name seen n ≡ b → (if b then Some n else first_doubled_behind (seen ++ n ∷ []) names) ≡ None → (has_name seen n ≡ false) × (first_doubled_behind (seen ++ n ∷ []) names ≡ None)
+    go true e h = absurd (none-some n (sym h))
+    go false e h = (e, h)
 
 -- no name stands again that was seen
 unseen : (seen names : List Name) (j : ℕ) (n : Name) → first_doubled_behind seen names ≡ None → slice_get names j ≡ Some n → has_name seen n ≡ false
@@ -93,20 +92,20 @@ unseen seen (m ∷ names) zero n h e = subst (λ x. has_name seen x ≡ false) (
 unseen seen (m ∷ names) (suc j) n h e =
     let u : has_name (seen ++ m ∷ []) n ≡ false = unseen (seen ++ m ∷ []) names j n (once_head seen m names h).1 e in
     go (has_name seen n) (has_name (m ∷ []) n) (sym (has_append seen (m ∷ []) n) ∙ u)
-    where
-  go : (a b : Bool) → (a || b) ≡ false → a ≡ false
-  go true b h = absurd cc
-  go false b h = refl
+  where
+    go : (a b : Bool) → (a || b) ≡ false → a ≡ false
+    go true b h = absurd cc
+    go false b h = refl
 
 seen_again : (seen : List Name) (m : Name) (names : List Name) (k : ℕ) (n : Name) → first_doubled_behind seen (m ∷ names) ≡ None → m ≡ n → slice_get names k ≡ Some n → ⊥
 seen_again seen m names k n h d f =
     let u : has_name (seen ++ m ∷ []) n ≡ false = unseen (seen ++ m ∷ []) names k n (once_head seen m names h).1 f in
     let v : has_name (seen ++ m ∷ []) n ≡ true = has_append seen (m ∷ []) n ∙ last (has_name seen n) in
     cc
-    where
-  last : (a : Bool) → (a || has_name (m ∷ []) n) ≡ true
-  last true = refl
-  last false = ap (λ b. b || false) (subst (λ x. same_name n x ≡ true) (sym d) (same_name_itself n))
+  where
+    last : (a : Bool) → (a || has_name (m ∷ []) n) ≡ true
+    last true = refl
+    last false = ap (λ b. b || false) (subst (λ x. same_name n x ≡ true) (sym d) (same_name_itself n))
 
 stands_once : (seen names : List Name) (j k : ℕ) (n : Name) → first_doubled_behind seen names ≡ None → slice_get names j ≡ Some n → slice_get names k ≡ Some n → j ≡ k
 stands_once seen [] j k n h e f = absurd (none-some n e)
@@ -119,12 +118,12 @@ stands_once seen (m ∷ names) (suc j) (suc k) n h e f = ap suc (stands_once (se
 
 known_both : (known : List Name) (a b : Name) (rest : List Name) → first_unknown known (a ∷ b ∷ rest) ≡ None → (has_name known a ≡ true) × (has_name known b ≡ true) × (first_unknown known rest ≡ None)
 known_both known a b rest h = go (has_name known a) (has_name known b) refl refl h
-    where
-  go : (x y : Bool) → has_name known a ≡ x → has_name known b ≡ y → (if x then (if y then first_unknown known rest else Some b) else Some a) ≡ None →
-      (has_name known a ≡ true) × (has_name known b ≡ true) × (first_unknown known rest ≡ None)
-  go false y e f h = absurd (none-some a (sym h))
-  go true false e f h = absurd (none-some b (sym h))
-  go true true e f h = (e, f, h)
+  where
+    go : (x y : Bool) → has_name known a ≡ x → has_name known b ≡ y → (if x then (if y then first_unknown known rest else Some b) else Some a) ≡ None →
+        (has_name known a ≡ true) × (has_name known b ≡ true) × (first_unknown known rest ≡ None)
+    go false y e f h = absurd (none-some a (sym h))
+    go true false e f h = absurd (none-some b (sym h))
+    go true true e f h = (e, f, h)
 
 ends_known : (known : List Name) (es : List DeclaredEdge) → first_unknown known (flat_map (λ (e : DeclaredEdge). e.source ∷ e.target ∷ []) es) ≡ None → (i : ℕ) (e : DeclaredEdge) → slice_get es i ≡ Some e →
     (has_name known e.source ≡ true) × (has_name known e.target ≡ true)
@@ -144,10 +143,10 @@ from_map f (x ∷ xs) (suc i) y e = from_map f xs i y e
 
 in_interface : (d : Declaration) (n : Name) (i : ℕ) → origin_in d n ≡ Some i → place_of (node_names d.left) n ≡ Some i
 in_interface d n i h = go (has_name d.interface n) h
-    where
-  go : (b : Bool) → (if b then place_of (node_names d.left) n else None) ≡ Some i → place_of (node_names d.left) n ≡ Some i
-  go true h = h
-  go false h = absurd (none-some i h)
+  where
+    go : (b : Bool) → (if b then place_of (node_names d.left) n else None) ≡ Some i → place_of (node_names d.left) n ≡ Some i
+    go true h = h
+    go false h = absurd (none-some i h)
 
 left_ends : (d : Declaration) → IsWellNamed d → (i : ℕ) (e : LeftEdge) → slice_get (rule_of d).left_edges i ≡ Some e → (e.source < length (rule_of d).left_nodes) × (e.target < length (rule_of d).left_nodes)
 left_ends d w i e h =

@@ -1,5 +1,5 @@
 -- A match of two parallel edges, and the step that deletes both.
-use Rattle.std.proofs.Common.{◌≡◌, inl, inr, ℕ, zero, suc, ◌+◌, ◌<◌, Bool, true, false, List, [], ◌∷◌, length, slice_get, slice_index, slice_index_or, get_or, Option, Some, None, IsSomeAnd, Contains, refl, sym, ap, subst, ◌∙◌, ◌||◌, ◌&&◌, arith}
+use Rattle.std.proofs.Common.{◌≡◌, ℕ, zero, suc, ◌+◌, ◌<◌, true, false, [], ◌∷◌, slice_get, slice_index, slice_index_or, get_or, Option, Some, None, IsSomeAnd, Contains, refl, sym, ap, subst, ◌∙◌, ◌&&◌, arith}
 use Rattle.std.specs.Prelude.{pos}
 use Rattle.std.specs.Option.{option_map_or}
 use Rattle.std.specs.FinMap as map
@@ -8,14 +8,13 @@ use Rattle.std.specs.Cmp.{unsigned_tied}
 use Rattle.std.proofs.lemmas.Grind.{common_steps}
 use Rattle.std.proofs.lemmas.Option.{same_Some, none-some}
 use Rattle.gp_values.specs.declared.atom.Atom.TheVariants.{Int}
-use Rattle.gp_values.specs.declared.marks.EdgeMark.TheVariants as edge_marks
 use Rattle.gp_values.specs.Graph.{Graph, Node, Edge, node_at, edge_at}
 use Rattle.gp_syntax.specs.declared.kinds.VariableType.TheVariants as types
-use Rattle.gp_syntax.specs.Expression.{Variable, Marked}
+use Rattle.gp_syntax.specs.Expression.{Variable}
 use Rattle.gp_syntax.specs.Value.{Assignment, is_of}
 use Rattle.gp_syntax.specs.Rule.{LeftNode, LeftEdge, RightNode, Found}
 use Rattle.gp_syntax.specs.Match.{MatchBy, FitsNode, FitsEdge, AreApart, setting_of}
-use Rattle.gp_syntax.specs.Step.{AppliesBy, MakesNode, StepBy, Step, new_before}
+use Rattle.gp_syntax.specs.Step.{MakesNode, StepBy, new_before}
 use Rattle.gp_syntax.specs.Rows.{par, two_nodes, plain, edge, left, unmarked, found, ParallelEdgesMatch}
 use Rattle.gp_syntax.proofs.Small.{at_none}
 use Rattle.gp_syntax.proofs.Blocked.{between}

@@ -1,23 +1,21 @@
 -- Matches and steps in graphs of one node and two.
-use Rattle.std.proofs.Common.{◌≡◌, ◌⊎◌, inl, inr, ℕ, ℤ, zero, suc, ◌+◌, ◌-◌, ◌<◌, ◌≤◌, Bool, true, false, ◌||◌, ◌&&◌, not, List, [], ◌∷◌, length, slice_get, slice_index, slice_index_or, get_or, Option, Some, None, IsSomeAnd, Contains, refl, sym, ap, subst, ◌∙◌, arith}
+use Rattle.std.proofs.Common.{◌≡◌, ℕ, zero, suc, ◌+◌, ◌<◌, Bool, true, false, List, [], ◌∷◌, slice_get, slice_index, slice_index_or, get_or, Option, Some, None, IsSomeAnd, Contains, refl, sym, ap, subst, ◌∙◌, arith}
 use Rattle.std.proofs.lemmas.Grind.{common_steps}
 use Rattle.std.proofs.lemmas.Option.{same_Some, none-some}
 use Rattle.std.specs.Ordering.{nat_cmp}
 use Rattle.std.specs.Cmp.{unsigned_tied}
 use Rattle.std.specs.Option.{option_map, option_map_or}
 use Rattle.std.specs.FinMap as map
-use Rattle.gp_values.specs.declared.atom.Atom.{Atom}
 use Rattle.gp_values.specs.declared.marks.NodeMark.{NodeMark}
 use Rattle.gp_values.specs.declared.marks.NodeMark.TheVariants as node_marks
 use Rattle.gp_values.specs.Graph.{Graph, Node, Edge, node_at, edge_at}
 use Rattle.gp_syntax.specs.declared.kinds.VariableType.{VariableType}
-use Rattle.gp_syntax.specs.declared.kinds.NumberKind.{NumberKind}
 use Rattle.gp_syntax.specs.declared.kinds.VariableType.TheVariants as types
 use Rattle.gp_syntax.specs.Expression.{Expression, Variable, Holds, MarkPattern}
-use Rattle.gp_syntax.specs.Value.{Setting, Valued, Value, Assignment, is_of, value_of}
-use Rattle.gp_syntax.specs.Rule.{Rule, LeftNode, LeftEdge, RightNode, RightEdge, Found}
+use Rattle.gp_syntax.specs.Value.{Setting, Value, Assignment, is_of, value_of}
+use Rattle.gp_syntax.specs.Rule.{Rule, LeftNode, LeftEdge, RightNode, Found}
 use Rattle.gp_syntax.specs.Match.{MatchBy, FitsEdge, FitsNode, Agrees, setting_of}
-use Rattle.gp_syntax.specs.Step.{AppliesBy, Places, MakesNode, StepBy, Step, Blocked, kind_or, new_before, made_mark, made_root}
+use Rattle.gp_syntax.specs.Step.{MakesNode, Step, Blocked, kind_or, new_before, made_mark, made_root}
 use Rattle.gp_syntax.specs.Rows.{one_node, no_nodes, left, right, at_first}
 
 -- ---- lists of no element and of one

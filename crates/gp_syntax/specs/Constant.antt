@@ -2,7 +2,7 @@
 use Rattle.std.specs.Prelude.{◌≡◌, ℕ, List, [], ◌∷◌, ◌++◌, Some, slice_get}
 use Rattle.gp_values.specs.declared.atom.Atom.{Atom}
 use Rattle.gp_values.specs.declared.atom.Atom.TheVariants.{Int, Str}
-use Rattle.gp_syntax.specs.Expression.{Expression, Number, Text, Variable, In_degree, Out_degree, Length_of, Negated, Plus, Minus, Times, Over, Dot, Empty, Join, Holds}
+use Rattle.gp_syntax.specs.Expression.{Expression, Number, Text, Negated, Plus, Minus, Times, Over, Dot, Empty, Join, Holds}
 use Rattle.gp_syntax.specs.Rule.{Rule, RightNode, RightEdge}
 
 -- numbers, strings, `empty`, and lists of these

@@ -1,5 +1,5 @@
 use Rattle.std.proofs.Common.{refl}
-use Rattle.std.specs.Prelude.{ℕ, pos, false, slice_index}
+use Rattle.std.specs.Prelude.{pos, false}
 use Rattle.gp_values.specs.declared.marks.NodeMark.TheVariants as node_marks
 use Rattle.gp_syntax.specs.declared.kinds.VariableType.TheVariants as types
 use Rattle.gp_syntax.specs.Expression.{Marked}

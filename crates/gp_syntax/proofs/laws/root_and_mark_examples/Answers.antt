@@ -1,8 +1,8 @@
-use Rattle.std.proofs.Common.{◌≡◌, ℕ, refl, Bool, true, false, List, [], ◌∷◌, slice_index}
+use Rattle.std.proofs.Common.{refl, true, false}
 use Rattle.std.specs.Prelude.{pos}
 use Rattle.gp_values.specs.declared.marks.NodeMark.TheVariants as node_marks
 use Rattle.gp_syntax.specs.declared.kinds.VariableType.TheVariants as types
-use Rattle.gp_syntax.specs.Expression.{Marked, AnyMark, Variable, Number, Plus}
+use Rattle.gp_syntax.specs.Expression.{Marked, AnyMark, Variable, Number}
 use Rattle.gp_syntax.specs.Rows.{plain, rooted, marked}
 use Rattle.gp_syntax.proofs.Small.{step_kept}
 use Rattle.gp_syntax.proofs.Blocked.{root_wants_root}
