@@ -12,6 +12,7 @@ use Rattle.gp_syntax.specs.Step.{Blocked}
 use Rattle.gp_syntax.specs.Rows.{del, par, red, unroot, program, start, raised, looped, two_nodes, plain, edge, left, unmarked, DanglingEdgeBlocks, OneEdgeIsNotTwo, RootWantsRoot}
 use Rattle.gp_syntax.proofs.Small.{at_one, one_has, image_fits, only_image, edge_image, blocked_alone}
 
+-- the loop would have to be matched, and del has no edge
 del_dangles : (m : Found) (a : Assignment) → MatchBy del looped m a → ⊥
 del_dangles m a h =
     let f = image_fits 0 (left (Variable 0) unmarked false) h refl in
@@ -25,9 +26,11 @@ del_dangles m a h =
 pub loop_dangles : DanglingEdgeBlocks
 loop_dangles = blocked_alone (del ∷ []) 0 del looped refl del_dangles
 
+-- an edge of `par`, with the variable of its label
 abbrev pub between : ℕ → LeftEdge
 between x = record { source = 0; target = 1; label = Variable x; mark = Marked edge_marks.None; bidirectional = false }
 
+-- both left edges would lie on edge 0
 par_wants_two : (m : Found) (a : Assignment) → MatchBy par (two_nodes ((0, edge 0 1) ∷ []) 1) m a → ⊥
 par_wants_two m a h =
     let e = edge_image 0 (between 2) h refl in
@@ -41,6 +44,7 @@ par_wants_two m a h =
 pub one_is_not_two : OneEdgeIsNotTwo
 one_is_not_two = blocked_alone (par ∷ []) 0 par (two_nodes ((0, edge 0 1) ∷ []) 1) refl par_wants_two
 
+-- the only node is no root
 unroot_wants_root : (m : Found) (a : Assignment) → MatchBy unroot start m a → ⊥
 unroot_wants_root m a h =
     let r : false ≡ true = (only_image (plain (pos 1)) 0 (left (Variable 0) AnyMark true) h refl).root refl in
@@ -50,10 +54,12 @@ unroot_wants_root m a h =
 pub root_wants_root : RootWantsRoot
 root_wants_root = blocked_alone (unroot ∷ []) 0 unroot start refl unroot_wants_root
 
+-- the only node has no mark
 red_wants_red : (m : Found) (a : Assignment) → MatchBy red raised m a → ⊥
 red_wants_red m a h =
     let r : node_marks.Red ≡ node_marks.None = (only_image (plain (pos 2)) 0 (left (Variable 0) (Marked node_marks.Red) false) h refl).mark in
     cc
 
+-- no red node where the only one has no mark
 pub red_blocked : Blocked program.rules (2 ∷ []) raised
 red_blocked = blocked_alone program.rules 2 red raised refl red_wants_red

@@ -15,6 +15,7 @@ use Rattle.gp_syntax.specs.Laws.{FitsDeclaration}
 pub same_name_told : (a b : Name) → same_name a b ≡ true → a ≡ b
 same_name_told a b e = same_text a b (sym e)
 
+-- a name passes its own test
 pub same_name_itself : (a : Name) → same_name a a ≡ true
 same_name_itself a = go (same_name a a) refl
   where
@@ -35,6 +36,7 @@ first_place (m ∷ names) n s h = go (same_name n m) refl h (λ k. first_place n
         let l : r.0 < (s + 1) + length names = r.2 in
         (r.0, ap (λ b. cond b (Some s) (position_from (same_name n) (s + 1) names)) e ∙ r.1, omega arith)
 
+-- the same from the front of the list
 pub place_below : (names : List Name) (n : Name) → has_name names n ≡ true → place_in names n < length names
 place_below names n h =
     let r = first_place names n 0 h in
@@ -60,6 +62,7 @@ standing_from (m ∷ names) n s i h = go (same_name n m) refl h (λ k. standing_
         let l : r.0 < length names = r.2 in
         (suc r.0, omega arith, omega arith, r.3)
 
+-- the same from the front of the list
 pub place_has : (names : List Name) (n : Name) (i : ℕ) → place_of names n ≡ Some i → (i < length names) × (slice_get names i ≡ Some n)
 place_has names n i h =
     let r = standing_from names n 0 i h in
@@ -68,14 +71,10 @@ place_has names n i h =
 
 -- ---- names that stand once
 
+-- a name of two lists is one of either
 has_append : (xs ys : List Name) (n : Name) → has_name (xs ++ ys) n ≡ (has_name xs n || has_name ys n)
 has_append [] ys n = refl
 has_append (x ∷ xs) ys n = elim (same_name n x) as (λ b. (b || has_name (xs ++ ys) n) ≡ ((b || has_name xs n) || has_name ys n)) [ true ↦ refl | false ↦ has_append xs ys n ]
-
-neither : (a b c : Bool) → (a || (b || c)) ≡ false → (a ≡ false) × (b ≡ false)
-neither true b c h = absurd cc
-neither false true c h = absurd cc
-neither false false c h = (refl, refl)
 
 -- what the test of doubled names says of the first name and of the others
 once_head : (seen : List Name) (n : Name) (names : List Name) → first_doubled_behind seen (n ∷ names) ≡ None → (has_name seen n ≡ false) × (first_doubled_behind (seen ++ n ∷ []) names ≡ None)
@@ -97,6 +96,7 @@ unseen seen (m ∷ names) (suc j) n h e =
     go true b h = absurd cc
     go false b h = refl
 
+-- the first name does not stand again behind itself
 seen_again : (seen : List Name) (m : Name) (names : List Name) (k : ℕ) (n : Name) → first_doubled_behind seen (m ∷ names) ≡ None → m ≡ n → slice_get names k ≡ Some n → ⊥
 seen_again seen m names k n h d f =
     let u : has_name (seen ++ m ∷ []) n ≡ false = unseen (seen ++ m ∷ []) names k n (once_head seen m names h).1 f in
@@ -107,6 +107,7 @@ seen_again seen m names k n h d f =
     last true = refl
     last false = ap (λ b. b || false) (subst (λ x. same_name n x ≡ true) (sym d) (same_name_itself n))
 
+-- where no name is doubled, two places of one name are one place
 stands_once : (seen names : List Name) (j k : ℕ) (n : Name) → first_doubled_behind seen names ≡ None → slice_get names j ≡ Some n → slice_get names k ≡ Some n → j ≡ k
 stands_once seen [] j k n h e f = absurd (none-some n e)
 stands_once seen (m ∷ names) zero zero n h e f = refl
@@ -116,6 +117,7 @@ stands_once seen (m ∷ names) (suc j) (suc k) n h e f = ap suc (stands_once (se
 
 -- ---- ends of edges
 
+-- the ends of the first edge are known, and so are the rest
 known_both : (known : List Name) (a b : Name) (rest : List Name) → first_unknown known (a ∷ b ∷ rest) ≡ None → (has_name known a ≡ true) × (has_name known b ≡ true) × (first_unknown known rest ≡ None)
 known_both known a b rest h = go (has_name known a) (has_name known b) refl refl h
   where
@@ -125,6 +127,7 @@ known_both known a b rest h = go (has_name known a) (has_name known b) refl refl
     go true false e f h = absurd (none-some b (sym h))
     go true true e f h = (e, f, h)
 
+-- the ends of each edge are known
 ends_known : (known : List Name) (es : List DeclaredEdge) → first_unknown known (flat_map (λ (e : DeclaredEdge). e.source ∷ e.target ∷ []) es) ≡ None → (i : ℕ) (e : DeclaredEdge) → slice_get es i ≡ Some e →
     (has_name known e.source ≡ true) × (has_name known e.target ≡ true)
 ends_known known [] h i e s = absurd (none-some e s)
@@ -141,6 +144,7 @@ from_map f (x ∷ xs) (suc i) y e = from_map f xs i y e
 
 -- ---- the rule
 
+-- an origin is the place of the name on the left side
 in_interface : (d : Declaration) (n : Name) (i : ℕ) → origin_in d n ≡ Some i → place_of (node_names d.left) n ≡ Some i
 in_interface d n i h = go (has_name d.interface n) h
   where
@@ -148,6 +152,7 @@ in_interface d n i h = go (has_name d.interface n) h
     go true h = h
     go false h = absurd (none-some i h)
 
+-- the ends of left edges are left nodes
 left_ends : (d : Declaration) → IsWellNamed d → (i : ℕ) (e : LeftEdge) → slice_get (rule_of d).left_edges i ≡ Some e → (e.source < length (rule_of d).left_nodes) × (e.target < length (rule_of d).left_nodes)
 left_ends d w i e h =
     let x = from_map _ d.left.edges i e h in
@@ -160,6 +165,7 @@ left_ends d w i e h =
     let t : place_in (node_names d.left) x.0.target ≡ e.target = ap (λ (y : LeftEdge). y.target) x.2 in
     (omega arith, omega arith)
 
+-- the ends of right edges are right nodes
 right_ends : (d : Declaration) → IsWellNamed d → (i : ℕ) (e : RightEdge) → slice_get (rule_of d).right_edges i ≡ Some e → (e.source < length (rule_of d).right_nodes) × (e.target < length (rule_of d).right_nodes)
 right_ends d w i e h =
     let x = from_map _ d.right.edges i e h in
@@ -181,6 +187,7 @@ right_origin d j i q h o =
     let p = place_has (node_names d.left) x.0.name i (in_interface d x.0.name i e) in
     (x.0.name, slice_get-map (λ (n : DeclaredNode). n.name) d.right.nodes j ∙ ap (λ z. option_map (λ (n : DeclaredNode). n.name) z) x.1, p.0, p.1)
 
+-- an origin is a left node
 origins : (d : Declaration) (j i : ℕ) (q : RightNode) → slice_get (rule_of d).right_nodes j ≡ Some q → q.origin ≡ Some i → i < length (rule_of d).left_nodes
 origins d j i q h o =
     let r = right_origin d j i q h o in
@@ -189,6 +196,7 @@ origins d j i q h o =
     let m : length (rule_of d).left_nodes ≡ length d.left.nodes = length-map d.left.nodes _ in
     omega arith
 
+-- two right nodes have two origins
 origins_apart : (d : Declaration) → IsWellNamed d → (j k i : ℕ) (p q : RightNode) → slice_get (rule_of d).right_nodes j ≡ Some p → slice_get (rule_of d).right_nodes k ≡ Some q → p.origin ≡ Some i → q.origin ≡ Some i → j ≡ k
 origins_apart d w j k i p q h f a b =
     let r = right_origin d j i p h a in
@@ -196,6 +204,7 @@ origins_apart d w j k i p q h f a b =
     let e : s.0 ≡ r.0 = same_Some s.0 r.0 (sym s.3 ∙ r.3) in
     stands_once [] (node_names d.right) j k r.0 w.once.right_nodes r.1 (s.1 ∙ ap (λ n. Some n) e)
 
+-- all of it together
 pub fits_declaration : (d : Declaration) → IsWellNamed d → FitsDeclaration d (rule_of d)
 fits_declaration d w = record {
   left_nodes = length-map d.left.nodes _;

@@ -5,6 +5,7 @@ use Rattle.gp_syntax.specs.Run.{Command, Program, Item, Ending, graph_at, Run, c
 use Rattle.gp_syntax.specs.Laws.{TraceReplays}
 use Rattle.gp_syntax.proofs.Traces.{Traced, traced-nothing, traced-step, traced-append, traced-undone, traced-turned, traced_as}
 
+-- by the rows of the relation, one clause each
 pub traced : {program : Program} {p : Command} {g : Graph} {a : List Bool} {t : List Item} {x : Ending} → Run program p g a t x → Traced program.rules g t (graph_at x)
 traced (call_steps s h) = traced-step h.is_rule h.step
 traced (call_fails s h) = traced-nothing
@@ -31,5 +32,6 @@ traced fails = traced-nothing
 traced breaks = traced-nothing
 traced (procedure s r) = traced r
 
+-- the law, from what holds of the trace
 pub replays : (program : Program) (p : Command) (g : Graph) (picks : List Bool) (t : List Item) (x : Ending) → Run program p g picks t x → TraceReplays program g t x
 replays program p g picks t x r = record { whole = (traced r).whole; beginnings = (traced r).beginnings }

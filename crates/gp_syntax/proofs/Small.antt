@@ -20,13 +20,16 @@ use Rattle.gp_syntax.specs.Rows.{one_node, no_nodes, left, right, at_first}
 
 -- ---- lists of no element and of one
 
+-- nothing stands in the empty list
 pub at_none : {X : Type 0} (P : ℕ → X → Type 0) (i : ℕ) (y : X) → slice_get [] i ≡ Some y → P i y
 at_none P i y e = absurd (none-some y e)
 
+-- what holds of the only element holds at each place
 pub at_only : {X : Type 0} (P : ℕ → X → Type 0) (x : X) → P 0 x → (i : ℕ) (y : X) → slice_get (x ∷ []) i ≡ Some y → P i y
 at_only P x h zero y e = subst (P 0) (same_Some x y e) h
 at_only P x h (suc i) y e = absurd (none-some y e)
 
+-- a list of one has that one alone
 pub only_contains : (n k : ℕ) → Contains (n ∷ []) k → n ≡ k
 only_contains n k c = go c.0 c.1 c.2
   where
@@ -34,17 +37,21 @@ only_contains n k c = go c.0 c.1 c.2
     go zero l e = e
     go (suc i) l e = absurd (omega arith)
 
+-- the empty list has nothing
 pub nothing_contains : (k : ℕ) → Contains [] k → ⊥
 nothing_contains k c = let l : c.0 < 0 = c.1 in omega arith
 
 -- ---- graphs
 
+-- what stands at 0 of a map of one entry
 pub at_one : {X : Type 0} (x : X) → map.get (map.from_sorted {R = nat_cmp} ((0, x) ∷ [])) 0 ≡ Some x
 at_one x = map.get-from_sorted nat_cmp ((0, x) ∷ []) 0 tt
 
+-- and nowhere else does anything
 pub past_one : {X : Type 0} (x : X) (n : ℕ) → (0 ≡ n → ⊥) → map.get (map.from_sorted {R = nat_cmp} ((0, x) ∷ [])) n ≡ None
 past_one x n d = map.get-from_sorted nat_cmp ((0, x) ∷ []) n tt ∙ grind (arith, common_steps, unsigned_tied n 0)
 
+-- where something stands is 0
 pub one_has : {X : Type 0} (x y : X) (n : ℕ) → map.get (map.from_sorted {R = nat_cmp} ((0, x) ∷ [])) n ≡ Some y → n ≡ 0
 one_has x y n e = grind (arith, common_steps, unsigned_tied n 0, map.get-from_sorted nat_cmp ((0, x) ∷ []) n tt)
 
@@ -60,6 +67,7 @@ blocked_alone rules k r g e never = record {
     same : (i : ℕ) (q : Rule) → Contains (k ∷ []) i → slice_get rules i ≡ Some q → q ≡ r
     same i q c s = same_Some q r (sym s ∙ sym (ap (λ j. slice_get rules j) (only_contains k i c)) ∙ e)
 
+-- a set of no rule is blocked
 pub blocked_nothing : (rules : List Rule) (g : Graph) → Blocked rules [] g
 blocked_nothing rules g = record {
   none_applies = λ i r m c s x. nothing_contains i c;

@@ -11,6 +11,7 @@ use Rattle.gp_syntax.specs.Value.{Assignment}
 use Rattle.gp_syntax.specs.Rule.{Rule, RightNode, RightEdge, Found}
 use Rattle.gp_syntax.specs.Step.{Places, MakesNode, MakesEdge, StepBy, Step}
 
+-- a number that is not the first one stands behind it
 in_tail : (m : ℕ) (ns : List ℕ) (n k : ℕ) → k < suc (length ns) → get_or (m ∷ ns) k n ≡ n → (m ≡ n → ⊥) → Contains ns n
 in_tail m ns n zero l e d = absurd (d e)
 in_tail m ns n (suc k) l e d = (k, omega arith, e)
@@ -37,10 +38,12 @@ element xs i l = elim (slice_get_cases xs i).1 [ inl s ↦ (s.0, s.2) | inr p �
 
 -- ---- the images of the right nodes
 
+-- the image of a right node, by its origin
 same_image : (r : Rule) (g : Graph) (m : Found) (is js : List ℕ) → Places r g m is → Places r g m js → (j : ℕ) (q : RightNode) (o : Option ℕ) → slice_get r.right_nodes j ≡ Some q → q.origin ≡ o → slice_index is j ≡ slice_index js j
 same_image r g m is js a b j q None h e = a.new j q h e ∙ sym (b.new j q h e)
 same_image r g m is js a b j q (Some i) h e = a.kept j i q h e ∙ sym (b.kept j i q h e)
 
+-- two maps of the right nodes are one
 pub same_images : (r : Rule) (g : Graph) (m : Found) (is js : List ℕ) → Places r g m is → Places r g m js → is ≡ js
 same_images r g m is js a b =
     ext_get_or 0 is js (a.count ∙ sym b.count) (λ j l.
@@ -50,17 +53,21 @@ same_images r g m is js a b =
 
 -- ---- what is made
 
+-- a node is what it carries
 same_node : (x y : Node) → x.label ≡ y.label → x.mark ≡ y.mark → x.root ≡ y.root → x ≡ y
 same_node x y a b c = λ i. record { label = a i; mark = b i; root = c i }
 
+-- and so is an edge
 same_edge : (x y : Edge) → x.source ≡ y.source → x.target ≡ y.target → x.label ≡ y.label → x.mark ≡ y.mark → x ≡ y
 same_edge x y a b c d = λ i. record { source = a i; target = b i; label = c i; mark = d i }
 
+-- what a right node asks is one node
 made_node : {r : Rule} {g : Graph} {m : Found} {a : Assignment} {q : RightNode} {x y : Node} → MakesNode r g m a q x → MakesNode r g m a q y → x ≡ y
 made_node {x = x} {y = y} b c =
     let l : x.label ≡ y.label = cc (b.label, c.label) in
     same_node x y l (b.mark ∙ sym c.mark) (b.root ∙ sym c.root)
 
+-- what a right edge asks is one edge
 made_edge : {r : Rule} {g : Graph} {m : Found} {a : Assignment} {is : List ℕ} {q : RightEdge} {x y : Edge} → MakesEdge r g m a is q x → MakesEdge r g m a is q y → x ≡ y
 made_edge {x = x} {y = y} b c =
     let l : x.label ≡ y.label = cc (b.label, c.label) in
@@ -69,9 +76,11 @@ made_edge {x = x} {y = y} b c =
 -- ---- what stands at each number
 
 module _ {r : Rule} {g : Graph} {m : Found} {a : Assignment} {h k : Graph} where
+  -- both steps put the right nodes at one place
   one_places : (s : StepBy r g m a h) (t : StepBy r g m a k) → t.images ≡ s.images
   one_places s t = same_images r g m t.images s.images t.places s.places
 
+  -- at an image of a right node
   nodes_at_image : (s : StepBy r g m a h) (t : StepBy r g m a k) (n : ℕ) → Contains s.images n → node_at h n ≡ node_at k n
   nodes_at_image s t n c =
       let l : length s.images ≡ length r.right_nodes = s.places.count in
@@ -86,6 +95,7 @@ module _ {r : Rule} {g : Graph} {m : Found} {a : Assignment} {h k : Graph} where
       let v : node_at k n ≡ Some y.0 = subst (λ i. node_at k i ≡ Some y.0) f y.1 in
       u ∙ ap (λ w. Some w) z ∙ sym v
 
+  -- at each number of a node
   nodes_same : (s : StepBy r g m a h) (t : StepBy r g m a k) (n : ℕ) → node_at h n ≡ node_at k n
   nodes_same s t n =
       elim (contained s.images n) [
@@ -97,6 +107,7 @@ module _ {r : Rule} {g : Graph} {m : Found} {a : Assignment} {h k : Graph} where
             ])
       ]
 
+  -- at the number of a right edge
   edges_at_new : (s : StepBy r g m a h) (t : StepBy r g m a k) (i : ℕ) → i < length r.right_edges → edge_at h (g.next_edge + i) ≡ edge_at k (g.next_edge + i)
   edges_at_new s t i l =
       let q = element r.right_edges i l in
@@ -106,6 +117,7 @@ module _ {r : Rule} {g : Graph} {m : Found} {a : Assignment} {h k : Graph} where
       let z : x.0 ≡ y.0 = made_edge x.2 made in
       x.1 ∙ ap (λ w. Some w) z ∙ sym y.1
 
+  -- at another number of an edge
   edges_elsewhere : (s : StepBy r g m a h) (t : StepBy r g m a k) (e : ℕ) → ((i : ℕ) → i < length r.right_edges → e ≡ g.next_edge + i → ⊥) → edge_at h e ≡ edge_at k e
   edges_elsewhere s t e out =
       elim (contained m.edges e) [
@@ -113,6 +125,7 @@ module _ {r : Rule} {g : Graph} {m : Found} {a : Assignment} {h k : Graph} where
         | inr none ↦ s.other_edges e out none ∙ sym (t.other_edges e out none)
       ]
 
+  -- at each number of an edge
   edges_same : (s : StepBy r g m a h) (t : StepBy r g m a k) (e : ℕ) → edge_at h e ≡ edge_at k e
   edges_same s t e =
       elim (cases_lt e g.next_edge) [
@@ -124,6 +137,7 @@ module _ {r : Rule} {g : Graph} {m : Found} {a : Assignment} {h k : Graph} where
         ]
       ]
 
+  -- two graphs that a match leads to by one assignment
   pub one_graph : StepBy r g m a h → StepBy r g m a k → h ≡ k
   one_graph s t = same_graph h k (nodes_same s t) (edges_same s t) (s.next_node ∙ sym t.next_node) (s.next_edge ∙ sym t.next_edge)
 
@@ -131,6 +145,7 @@ module _ {r : Rule} {g : Graph} {m : Found} {a : Assignment} {h k : Graph} where
 no_variables : {r : Rule} {g : Graph} {m : Found} {h : Graph} → r.types ≡ [] → (s : Step r g m h) → s.0 ≡ []
 no_variables none s = nil_from_length s.0 (s.1.is_match.variable_count ∙ ap (λ (ts : List VariableType). length ts) none)
 
+-- and by any two assignments, where there is but one
 pub one_graph_of_any : (r : Rule) (g : Graph) (m : Found) (h k : Graph) → r.types ≡ [] → Step r g m h → Step r g m k → h ≡ k
 one_graph_of_any r g m h k none s t =
     let e : t.0 ≡ s.0 = no_variables none t ∙ sym (no_variables none s) in

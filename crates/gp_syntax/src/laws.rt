@@ -58,3 +58,21 @@ pub fn command_examples()
     ensures empty_set { EmptySetEndsLoop }
     ensures standing { SkipLoopStands }
 {}
+
+#[cfg(test)]
+mod tests {
+    use super::*;
+
+    #[test]
+    fn laws_can_be_called() {
+        step_is_unique();
+        runs_replay();
+        rules_of_declarations_fit();
+        constants_have_their_value();
+        faultless_rules_apply();
+        dangling_examples();
+        parallel_edge_examples();
+        root_and_mark_examples();
+        command_examples();
+    }
+}
