@@ -14,7 +14,7 @@ pub more_out : (a b c : Option (List ℕ)) (piece : List ℕ) (done count : ℕ)
     Appends b c (take count (take (length piece - done) (drop done piece))) → Appends a c (take (done + count) piece)
 more_out a b c piece done count first second =
     subst (λ bs. Appends a c bs) (sym (take-add done count piece))
-      (Appends-trans a b c _ _ first (subst (λ rest. Appends b c (take count rest)) (rest_of piece done) second))
+    (Appends-trans a b c _ _ first (subst (λ rest. Appends b c (take count rest)) (rest_of piece done) second))
 
 pub within : (piece : List ℕ) (done count : ℕ) → done < length piece → count ≤ length (take (length piece - done) (drop done piece)) → done + count ≤ length piece
 within piece done count inside bound = let b = rw (rest_of piece done) at bound in omega (arith, length-drop done piece)

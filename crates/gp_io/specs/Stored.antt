@@ -25,8 +25,8 @@ content_code = finite.code (coded_list coded_ℕ) (coded_list coded_ℕ)
 abbrev pub files_code : Coded StoredFiles
 files_code =
     code_by (Content × (List ℕ × (ℕ × ℕ))) (coded× content_code (coded× (coded_list coded_ℕ) (coded× coded_ℕ coded_ℕ)))
-      (λ f. (f.content, (f.failing, (f.calls, f.faults))))
-      (λ p. record { content = p.0; failing = p.1.0; calls = p.1.1.0; faults = p.1.1.1 }) (λ _. refl)
+    (λ f. (f.content, (f.failing, (f.calls, f.faults))))
+    (λ p. record { content = p.0; failing = p.1.0; calls = p.1.1.0; faults = p.1.1.1 }) (λ _. refl)
 
 -- what was written, for how many bytes there is room, the numbers of the writes that fail, each with the
 -- number of bytes that go out before, how many writes there were, and how many failed

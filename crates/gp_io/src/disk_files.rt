@@ -74,7 +74,13 @@ fn read_all<R: Read>(alloc: Global, reader: &mut R, limit: u64) -> Result<Vec<u8
     }
 }
 
-fn read_file<R: rt::Files>(rt: &R, alloc: Global, name: &str, limit: u64) -> Result<Vec<u8>, ReadRefusal>
+// The bytes of the file at a path, where these are at most `limit`.
+fn read_file<R: rt::Files>(
+    rt: &R,
+    alloc: Global,
+    name: &str,
+    limit: u64,
+) -> Result<Vec<u8>, ReadRefusal>
     ensures { IfOk result (λ bytes. length bytes.items ≤ limit) }
 {
     match File::open(rt, name) {

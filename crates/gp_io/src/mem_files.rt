@@ -26,7 +26,12 @@ impl Model for MemFiles {
 
     ghost coded = { files_code };
 
-    ghost view = { λ m. record { content = content_of m.files.items; failing = m.failing.items; calls = m.calls; faults = m.faults } };
+    ghost view = { λ m. record {
+      content = content_of m.files.items;
+      failing = m.failing.items;
+      calls = m.calls;
+      faults = m.faults;
+    } };
 }
 
 impl MemFiles {
@@ -77,7 +82,7 @@ impl Files for MemFiles {
         ensures later { self.old.faults ≤ self.new.faults }
         ensures same { self.new.content ≡ self.old.content }
 
-        // Exactly the listed calls have a fault.
+        // The listed calls count a fault, and no others do: so with an empty list the count never rises.
         ensures listed { Contains self.old.failing self.old.calls →
             IsErrOf result ReadRefusal.Failed × (self.new.faults ≡ raised self.old.faults) }
         ensures unlisted { (¬ Contains self.old.failing self.old.calls) →

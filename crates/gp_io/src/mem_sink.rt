@@ -24,7 +24,13 @@ impl Model for MemSink {
 
     ghost Value = { StoredBytes };
 
-    ghost view = { λ m. record { written = m.bytes.items; room = m.room; failing = m.failing.items; calls = m.calls; faults = m.faults } };
+    ghost view = { λ m. record {
+      written = m.bytes.items;
+      room = m.room;
+      failing = m.failing.items;
+      calls = m.calls;
+      faults = m.faults;
+    } };
 
     ghost invariant = { λ m. (vec_len m.bytes ≤ m.room) × (m.room ≤ vec_capacity m.bytes) };
 }
@@ -90,8 +96,9 @@ impl Sink for MemSink {
             self.old.faults self.new.faults piece.now result }
         ensures later { self.old.faults ≤ self.new.faults }
 
-        // It fails exactly where the call is listed or the piece does not fit. Then as many bytes go out
-        // as the call lists, of those that fit.
+        // It fails exactly where the call is listed or the piece does not fit: so with an empty list the
+        // count never rises while all pieces fit. Where it fails, as many bytes go out as the call lists,
+        // of those that fit.
         ensures ok { IsOk result ↔ ((bytes_before_failure self.old.failing self.old.calls ≡ None)
             × (length piece.now ≤ room_left self.old)) }
         ensures prefix { OnErr result
@@ -110,7 +117,9 @@ impl Sink for MemSink {
             return Ok(());
         }
         let out = (piece.len() as u64).min(left).min(cut.unwrap_or(left));
-        self.bytes.extend_from_slice(&piece[..out as usize]).unwrap();
+        self.bytes
+            .extend_from_slice(&piece[..out as usize])
+            .unwrap();
         self.faults = self.faults.saturating_add(1);
         Err(Failed)
     }

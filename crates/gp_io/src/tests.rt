@@ -1,7 +1,6 @@
 //! What the outside gives, in memory and for real.
 
 use crate::{DiskFiles, Failed, Files, MemFiles, MemSink, ReadRefusal, Sink, StdSink};
-use std::env;
 use std::io::{self, Write};
 use std::test::Fail;
 
@@ -61,20 +60,19 @@ fn a_sink_in_memory_takes_what_fits_and_what_a_failing_call_lets_out(
 #[test]
 fn files_of_the_system_are_read_whole_within_the_limit(rt: HostRuntime) -> Result<(), Fail> {
     let alloc = rt.alloc();
-    // The system shows the words of a command line, each ended by a zero.
-    let mut words = Vec::new(alloc);
-    for word in env::args(&rt)? {
-        words.extend_from_slice(word.as_bytes())?;
-        words.push(0)?;
-    }
-    let len = words.len() as u64;
     let mut files = DiskFiles::new(rt);
-    assert_eq!(rt; files.read(alloc, "/proc/self/cmdline", len), Ok(words));
-    let short = files.read(alloc, "/proc/self/cmdline", len.saturating_sub(1));
-    assert_eq!(rt; short, Err(ReadRefusal::TooLong));
-    assert_eq!(rt; files.read(alloc, "/dev/zero", 200000), Err(ReadRefusal::TooLong));
+    let name = "/proc/sys/kernel/ostype";
+    assert_eq!(rt; files.read(alloc, name, 6), Ok(b"Linux\n".to_vec(alloc)?));
+    assert_eq!(rt; files.read(alloc, name, 5), Err(ReadRefusal::TooLong));
+    assert_eq!(rt;
+        files.read(alloc, "/dev/zero", 200000),
+        Err(ReadRefusal::TooLong)
+    );
     assert_eq!(rt; files.faults(), 0);
-    assert_eq!(rt; files.read(alloc, "/proc/no such file", 9), Err(ReadRefusal::Failed));
+    assert_eq!(rt;
+        files.read(alloc, "/proc/no such file", 9),
+        Err(ReadRefusal::Failed)
+    );
     assert_eq!(rt; files.read(alloc, "/proc", 9), Err(ReadRefusal::Failed));
     assert_eq!(rt; files.faults(), 2);
     Ok(())

@@ -6,7 +6,7 @@ use Rattle.gp_io.proofs.std_sink.write_whole.Given as goal
 abbrev pub invariant-loop-done : goal.invariant-loop-done
 invariant-loop-done g l = record {
   within : l.done ≤ length l.piece;
-  out : Appends (g.W.Write.contents l.initial.stream) (g.W.Write.contents l.stream) (take l.done l.piece)
+  out : Appends (g.W.Write.contents l.initial.stream) (g.W.Write.contents l.stream) (take l.done l.piece);
 }
 
 abbrev pub decreases-loop-done : goal.decreases-loop-done
