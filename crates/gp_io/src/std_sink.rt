@@ -1,14 +1,15 @@
 //! The standard streams. They tell nothing of what was written.
 
-ghost use Rattle.std.specs.Prelude.{◌≡◌, ℕ, None, MatchResult, take};
-ghost use Rattle.std.specs.Io.KnownBytes.{Appends};
+ghost use Rattle.std.specs.Prelude.{◌≡◌, ◌≤◌, None};
+ghost use Rattle.gp_io.specs.Outside.{WriteAnswers};
+ghost use Rattle.gp_io.specs.Streams.{Takes};
 
 use crate::outside::{Failed, Sink};
 use std::io::Write;
 use std::marker::Model;
 
 /// Standard output or standard error, or any other stream of the system. A write that fails or takes
-/// nothing counts a fault. Contracts see the count of the faults.
+/// nothing counts a fault. Contracts see the stream and the count.
 #[derive(Drop)]
 pub struct StdSink<W: Write> {
     stream: W,
@@ -16,24 +17,27 @@ pub struct StdSink<W: Write> {
 }
 
 impl<W: Write> Model for StdSink<W> {
-    ghost use Rattle.std.specs.Prelude.{ℕ};
+    ghost use Rattle.gp_io.specs.Streams.{CountedStream, stream_code};
 
-    ghost Value = { ℕ };
+    ghost Value = { CountedStream W };
 
-    ghost view = { λ s. s.faults };
+    ghost coded = { stream_code W.code };
+
+    ghost view = { λ s. record { stream = s.stream; faults = s.faults } };
 }
 
 impl<W: Write> StdSink<W> {
     /// A sink over the stream, with no fault so far.
     pub fn new(stream: W) -> StdSink<W>
-        ensures { result ≡ 0 }
+        ensures stream { result.stream ≡ stream }
+        ensures faults { result.faults ≡ 0 }
     {
         StdSink { stream, faults: 0 }
     }
 
     /// How many writes failed.
     pub fn faults(&self) -> u64
-        ensures { result ≡ self.now }
+        ensures { result ≡ self.now.faults }
     {
         self.faults
     }
@@ -41,9 +45,7 @@ impl<W: Write> StdSink<W> {
 
 // Writes the whole piece to the stream, or a prefix of it.
 fn write_whole<W: Write>(stream: &mut W, piece: &[u8]) -> Result<(), Failed>
-    ensures { MatchResult result
-        (λ _. Appends (W.contents stream.old) (W.contents stream.new) piece.now)
-        (λ _. (n : ℕ) × Appends (W.contents stream.old) (W.contents stream.new) (take n piece.now)) }
+    ensures { Takes (W.contents stream.old) (W.contents stream.new) piece.now result }
 {
     let mut done = 0;
     while done < piece.len() {
@@ -61,9 +63,15 @@ fn write_whole<W: Write>(stream: &mut W, piece: &[u8]) -> Result<(), Failed>
 impl<W: Write> Sink for StdSink<W> {
     ghost written = { λ _. None };
 
-    ghost faults = { λ count. count };
+    ghost faults = { λ s. s.faults };
 
-    fn write(&mut self, piece: &[u8]) -> Result<(), Failed> {
+    fn write(&mut self, piece: &[u8]) -> Result<(), Failed>
+        ensures answer { WriteAnswers None None self.old.faults self.new.faults piece.now result }
+        ensures later { self.old.faults ≤ self.new.faults }
+
+        // A stream that tells its bytes gains the whole piece, or a prefix of it.
+        ensures stream { Takes (W.contents self.old.stream) (W.contents self.new.stream) piece.now result }
+    {
         let answer = write_whole(&mut self.stream, piece);
         if answer.is_err() {
             self.faults = self.faults.saturating_add(1);
