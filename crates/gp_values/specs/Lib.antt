@@ -2,3 +2,4 @@ pub mod Texts
 pub mod Atoms
 pub mod Graph
 pub mod Laws
+pub mod Order
