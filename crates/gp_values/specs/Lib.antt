@@ -4,3 +4,4 @@ pub mod Names
 pub mod Marks
 pub mod Graph
 pub mod Laws
+pub mod Order

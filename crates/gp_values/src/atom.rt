@@ -50,3 +50,10 @@ impl Atom {
         }
     }
 }
+
+// What stands in a place of a list that no atom has taken.
+impl Default for Atom {
+    fn default() -> Atom {
+        Atom::Int(0)
+    }
+}

@@ -7,6 +7,8 @@ pub mod laws;
 mod list;
 mod marks;
 mod memory;
+#[cfg(test)]
+mod tests;
 
 pub use atom::Atom;
 pub use chars::Chars;

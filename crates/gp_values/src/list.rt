@@ -1,17 +1,19 @@
 //! Lists of atoms.
 
-ghost use Rattle.std.specs.Prelude.{◌≡◌, ◌↔◌, [], ◌∷◌, ◌++◌, IfOk, OnOk, OnErr, IsTrue};
+ghost use Rattle.std.specs.Prelude.{◌≡◌, ◌↔◌, [], ◌∷◌, ◌++◌, ◌<◌, length, IsOk, IfOk, OnOk, OnErr, IsTrue};
 ghost use Rattle.gp_values.specs.Atoms.{AreAtoms};
 
 use crate::atom::Atom;
 use crate::memory::NoMemory;
+use smallvec::SmallVec;
 use std::alloc::Global;
 use std::marker::Model;
 
-/// A list of atoms, the value of a label. Contracts see the list of its atoms.
+/// A list of atoms, the value of a label. Contracts see the list of its atoms. A list of up to two atoms takes no
+/// memory beyond that of its strings.
 #[derive(Drop)]
 pub struct List {
-    atoms: Vec<Atom>,
+    atoms: SmallVec<Atom, 2>,
 }
 
 impl Model for List {
@@ -33,7 +35,7 @@ impl List {
         ensures { result ≡ [] }
     {
         List {
-            atoms: Vec::new(alloc),
+            atoms: SmallVec::new(alloc),
         }
     }
 
@@ -41,8 +43,10 @@ impl List {
     pub fn push(&mut self, atom: Atom) -> Result<(), NoMemory>
         ensures ok { OnOk result (self.new ≡ self.old ++ atom ∷ []) }
         ensures err { OnErr result (self.new ≡ self.old) }
+        ensures succeeds { length self.old < 2 → IsOk result }
     {
         atom.told();
+        let _at_least_two = self.atoms.capacity();
         self.atoms.push(atom)?;
         Ok(())
     }
@@ -60,7 +64,7 @@ impl List {
         ensures { IfOk result (λ v. v ≡ self.now) }
     {
         let mut list = List::new(alloc);
-        for atom in &self.atoms {
+        for atom in self.atoms.as_slice() {
             list.push(atom.copy(alloc)?)?;
         }
         Ok(list)
@@ -70,7 +74,7 @@ impl List {
     pub fn same(&self, other: &List) -> bool
         ensures { IsTrue result ↔ (self.now ≡ other.now) }
     {
-        same_atoms(&self.atoms, &other.atoms)
+        same_atoms(self.atoms.as_slice(), other.atoms.as_slice())
     }
 }
 
