@@ -186,5 +186,5 @@ pub separated_again : {A : Type 0} (sign : Want) (r : Reader A) (R : Shape A) �
 separated_again sign r R p k =
     made_again _ _ _ (No sign) (and_again _ _ _ _ Anything (No sign) p
     (all_again sign _ _ (made_again _ _ _ Anything (and_again _ _ _ _ Anything Anything (token_again sign) p (λ _ _ _ _ _. tt)))
-        (made_begins sign _ _ (then_begins sign _ _ (token_begins sign))) (made_shrinks _ _ (then_shrinks _ _ (token_shrinks sign) k)))
+    (made_begins sign _ _ (then_begins sign _ _ (token_begins sign))) (made_shrinks _ _ (then_shrinks _ _ (token_shrinks sign) k)))
     (λ _ _ _ _ _. tt))

@@ -4,3 +4,4 @@ pub mod Reading
 pub mod Laws
 pub mod Graph
 pub mod GraphReading
+pub mod Labels

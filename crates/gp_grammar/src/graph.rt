@@ -1,6 +1,7 @@
 //! Graphs whose labels are `empty` or one integer.
 
-ghost use Rattle.std.specs.Prelude.{◌≡◌, ◌<◌, ◌≤◌, length, IfOk};
+ghost use Rattle.std.specs.Prelude.{◌≡◌, ◌<◌, ◌≤◌, length, IfOk, true};
+ghost use Rattle.gp_grammar.specs.Labels.{integer_of, label_of, signed};
 ghost use Rattle.gp_grammar.specs.Reading.{Gives};
 ghost use Rattle.gp_grammar.specs.GraphReading as spec;
 
@@ -8,6 +9,7 @@ use crate::error::ReadError;
 use crate::reading::{begins, token};
 use crate::want::Want;
 use gp_tokens::{Keyword, Kind, Text, Token};
+use gp_values::{Atom, List, NoMemory};
 use std::alloc::Global;
 
 /// The value of a number, where it is no more than 2 to the power of 127, and whether a minus stands before it.
@@ -40,10 +42,56 @@ pub struct GraphTree {
     pub edges: Vec<EdgeTree>,
 }
 
+impl Numeral {
+    /// The integer, where it has 128 bits.
+    pub fn integer(&self) -> Option<i128>
+        ensures { result ≡ integer_of self.now }
+    {
+        let value = self.value?;
+        if self.negative {
+            negated(value)
+        } else {
+            i128::try_from(value).ok()
+        }
+    }
+}
+
+// The integer that is so far below 0.
+fn negated(value: u128) -> Option<i128>
+    ensures { result ≡ signed true value }
+{
+    match i128::try_from(value) {
+        Ok(positive) => Some(-positive),
+        Err(_) if value == 1 << 127 => Some(i128::MIN),
+        Err(_) => None,
+    }
+}
+
+/// The list that a label is; none where its integer is out of range.
+pub fn label_list(alloc: Global, label: &Option<Numeral>) -> Result<Option<List>, NoMemory>
+    ensures { IfOk result (λ l. l ≡ label_of label.now) }
+{
+    let mut list = List::new(alloc);
+    let Some(numeral) = label else {
+        return Ok(Some(list));
+    };
+    match numeral.integer() {
+        Some(value) => {
+            list.push(Atom::Int(value))?;
+            Ok(Some(list))
+        }
+        None => Ok(None),
+    }
+}
+
 const OPEN: Want = Want::OfKind(Kind::OpenParenthesis);
+
 const CLOSE: Want = Want::OfKind(Kind::CloseParenthesis);
+
 const COMMA: Want = Want::OfKind(Kind::Comma);
+
 const MINUS: Want = Want::OfKind(Kind::Minus);
+
 const NUMBER: Want = Want::OfKind(Kind::Number);
 
 #[tactic(auto, unfolding(crate::specs::GraphReading::numeral))]
@@ -55,11 +103,23 @@ fn read_numeral(tokens: &[Token]) -> Result<(Numeral, &[Token]), ReadError>
         let (_, rest) = token(tokens, MINUS)?;
         let (number, rest) = token(rest, NUMBER)?;
         let value = number.checked_number_value();
-        return Ok((Numeral { negative: true, value }, rest));
+        return Ok((
+            Numeral {
+                negative: true,
+                value,
+            },
+            rest,
+        ));
     }
     let (number, rest) = token(tokens, NUMBER)?;
     let value = number.checked_number_value();
-    Ok((Numeral { negative: false, value }, rest))
+    Ok((
+        Numeral {
+            negative: false,
+            value,
+        },
+        rest,
+    ))
 }
 
 #[tactic(auto, unfolding(crate::specs::GraphReading::label))]
@@ -106,7 +166,15 @@ fn read_edge(alloc: Global, tokens: &[Token]) -> Result<(EdgeTree, &[Token]), Re
     let name = name.text.copy(alloc)?;
     let source = source.text.copy(alloc)?;
     let target = target.text.copy(alloc)?;
-    Ok((EdgeTree { name, source, target, label }, rest))
+    Ok((
+        EdgeTree {
+            name,
+            source,
+            target,
+            label,
+        },
+        rest,
+    ))
 }
 
 fn read_nodes(alloc: Global, tokens: &[Token]) -> Result<(Vec<NodeTree>, &[Token]), ReadError>

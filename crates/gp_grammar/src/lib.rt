@@ -7,6 +7,6 @@ mod reading;
 mod want;
 
 pub use error::ReadError;
-pub use graph::{EdgeTree, GraphTree, NodeTree, Numeral, read_graph};
+pub use graph::{EdgeTree, GraphTree, NodeTree, Numeral, label_list, read_graph};
 pub use reading::{begins, token};
 pub use want::Want;
