@@ -1,0 +1,54 @@
+-- The grammar of programs that call one rule without variables.
+use Rattle.std.specs.Prelude.{List, [], map}
+use Rattle.gp_values.specs.Names.{Name}
+use Rattle.gp_tokens.specs.declared.keyword.Keyword.TheVariants as keywords
+use Rattle.gp_tokens.specs.declared.token.Kind.TheVariants as kinds
+use Rattle.gp_tokens.specs.declared.token.Token.{Token}
+use Rattle.gp_grammar.specs.declared.want.Want.{Want}
+use Rattle.gp_grammar.specs.declared.want.Want.TheVariants as wants
+use Rattle.gp_grammar.specs.Shape.{Shape, Is, ◌then◌, Made, Either, Absent, Separated}
+use Rattle.gp_grammar.specs.Graph.{Drawing, IsDrawing, comma}
+
+abbrev pub open_brace : Want
+open_brace = wants.OfKind kinds.OpenBrace
+
+abbrev pub close_brace : Want
+close_brace = wants.OfKind kinds.CloseBrace
+
+abbrev pub equal : Want
+equal = wants.OfKind kinds.Equal
+
+abbrev pub texts : List Token → List Name
+texts ts = map (λ (t : Token). t.text) ts
+
+-- [Item {"," Item}]
+abbrev pub IsInterface : Shape (List Name)
+IsInterface = Either (Made texts (Separated comma (Is wants.Item))) (Absent [])
+
+-- a rule as it is drawn: its name, its two sides, and the names of its interface
+pub record RuleDrawing : Type 0 where
+  pub name : Name
+  pub left : Drawing
+  pub right : Drawing
+  pub interface : List Name
+
+abbrev pub rule_drawing : Token × (Token × (Token × (Drawing × (Token × (Drawing × (Token × (Token × (Token × (List Name × Token))))))))) → RuleDrawing
+rule_drawing (name, (_, (_, (left, (_, (right, (_, (_, (_, (interface, _)))))))))) = record { name = name.text; left = left; right = right; interface = interface }
+
+-- RuleDecl = RuleName "(" ")" Graph "=>" Graph "interface" "=" "{" [Item {"," Item}] "}"
+abbrev pub IsRuleDrawing : Shape RuleDrawing
+IsRuleDrawing =
+    Made rule_drawing (Is wants.RuleName then Is (wants.OfKind kinds.OpenParenthesis) then Is (wants.OfKind kinds.CloseParenthesis) then IsDrawing
+        then Is (wants.OfKind kinds.Arrow) then IsDrawing then Is (wants.Word keywords.Interface) then Is equal then Is open_brace then IsInterface then Is close_brace)
+
+-- the name that Main calls, and the rule
+pub record ProgramDrawing : Type 0 where
+  pub call : Name
+  pub rule : RuleDrawing
+
+abbrev pub program_drawing : Token × (Token × (Token × RuleDrawing)) → ProgramDrawing
+program_drawing (_, (_, (call, rule))) = record { call = call.text; rule = rule }
+
+-- Program = "Main" "=" RuleName RuleDecl
+abbrev pub IsProgramDrawing : Shape ProgramDrawing
+IsProgramDrawing = Made program_drawing (Is wants.Main then Is equal then Is wants.RuleName then IsRuleDrawing)

@@ -1,0 +1,7 @@
+pub mod Grammar
+pub mod Reading
+pub mod Seen
+pub mod Program
+pub mod Ends
+pub mod Accepted
+pub mod Build

@@ -1,0 +1,73 @@
+-- The program texts that are accepted today, and the programs that they are.
+use Rattle.std.specs.Prelude.{◌≡◌, ℕ, ℤ, Bool, true, false, if◌then◌else◌, List, [], ◌∷◌, map, Option, Some, None, Result, Ok, Err}
+use Rattle.gp_values.specs.Names.{Name}
+use Rattle.gp_tokens.specs.declared.token.Token.{Token}
+use Rattle.gp_tokens.specs.Lexed.{tokens_of}
+use Rattle.gp_grammar.specs.declared.graph.Numeral.{Numeral}
+use Rattle.gp_grammar.specs.declared.graph.NodeTree.{NodeTree}
+use Rattle.gp_grammar.specs.declared.graph.EdgeTree.{EdgeTree}
+use Rattle.gp_grammar.specs.Graph.{Drawing}
+use Rattle.gp_grammar.specs.Labels.{integer_of, has_labels}
+use Rattle.gp_syntax.specs.declared.plain.PlainRule.{PlainRule}
+use Rattle.gp_syntax.specs.Expression.{Expression, Number, Empty, Holds}
+use Rattle.gp_syntax.specs.Declaration.{Declaration, DeclaredNode, DeclaredEdge, Side, IsWellNamed, rule_of}
+use Rattle.gp_syntax.specs.Rule.{Rule}
+use Rattle.gp_syntax.specs.Run.{Program, Call}
+use Rattle.gp_syntax.specs.Plain.{plain_rule, IsPlain}
+use Rattle.gp_parse.specs.declared.program.ProgramRefusal.{ProgramRefusal}
+use Rattle.gp_parse.specs.declared.program.ProgramRefusal.TheVariants as refusals
+use Rattle.gp_parse.specs.Grammar.{RuleDrawing, ProgramDrawing, IsProgramDrawing}
+
+-- ---- from the drawing to the declaration
+
+abbrev pub number_expression : Option ℤ → Expression Name
+number_expression (Some z) = Number z
+number_expression None = Empty
+
+abbrev pub label_expression : Option Numeral → Expression Name
+label_expression None = Empty
+label_expression (Some n) = number_expression (integer_of n)
+
+abbrev pub declared_node : NodeTree → DeclaredNode
+declared_node n = record { name = n.name; root = false; label = label_expression n.label; mark = None }
+
+abbrev pub declared_edge : EdgeTree → DeclaredEdge
+declared_edge e = record { name = e.name; bidirectional = false; source = e.source; target = e.target; label = label_expression e.label; mark = None }
+
+abbrev pub side_of : Drawing → Side
+side_of d = record { nodes = map declared_node d.0; edges = map declared_edge d.1 }
+
+abbrev pub declaration_of : RuleDrawing → Declaration
+declaration_of r = record { name = r.name; variables = []; left = side_of r.left; right = side_of r.right; interface = r.interface; condition = Holds }
+
+-- ---- programs
+
+-- the program whose Main calls the one rule
+abbrev pub calls_once : Rule → Program
+calls_once r = record { main = Call 0; procedures = []; sets = (0 ∷ []) ∷ []; rules = r ∷ [] }
+
+-- Main calls the rule that is declared, labels are in range, and the static clauses of names and sizes hold
+pub record IsAccepted (p : ProgramDrawing) : Type 0 where
+  pub called : p.call ≡ p.rule.name
+  pub left_labels : has_labels p.rule.left ≡ true
+  pub right_labels : has_labels p.rule.right ≡ true
+  pub well_named : IsWellNamed (declaration_of p.rule)
+
+-- the text is a program, and this one
+pub record IsProgramText (bytes : List ℕ) (program : Program) : Type 0 where
+  pub tokens : List Token
+  pub drawing : ProgramDrawing
+  pub lexed : tokens_of bytes ≡ Ok tokens
+  pub shape : IsProgramDrawing tokens [] drawing
+  pub accepted : IsAccepted drawing
+  pub program_is : program ≡ calls_once (rule_of (declaration_of drawing.rule))
+
+-- the text is the program that calls the rule that was read
+pub record IsReadRule (bytes : List ℕ) (r : PlainRule) : Type 0 where
+  pub text : IsProgramText bytes (calls_once (plain_rule r))
+  pub plain : IsPlain r
+
+abbrev pub ReadsProgram : List ℕ → Result PlainRule ProgramRefusal → Type 0
+ReadsProgram bytes (Ok r) = IsReadRule bytes r
+ReadsProgram bytes (Err refusals.NotYet) = (p : Program) → IsProgramText bytes p → ⊥
+ReadsProgram bytes (Err refusals.NoMemory) = Unit {0}

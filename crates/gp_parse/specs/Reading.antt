@@ -1,0 +1,32 @@
+-- Reading such a program, as the readers do.
+use Rattle.std.specs.Prelude.{List, []}
+use Rattle.gp_values.specs.Names.{Name}
+use Rattle.gp_tokens.specs.declared.keyword.Keyword.TheVariants as keywords
+use Rattle.gp_tokens.specs.declared.token.Kind.TheVariants as kinds
+use Rattle.gp_tokens.specs.declared.token.Token.{Token}
+use Rattle.gp_grammar.specs.declared.want.Want.TheVariants as wants
+use Rattle.gp_grammar.specs.Reading.{Reader, token, ◌and◌, made, at, absent, all_of, separated}
+use Rattle.gp_grammar.specs.Shape.{second_of}
+use Rattle.gp_grammar.specs.Graph.{comma}
+use Rattle.gp_grammar.specs.GraphReading.{drawing}
+use Rattle.gp_parse.specs.Grammar.{open_brace, close_brace, equal, texts, RuleDrawing, rule_drawing, ProgramDrawing, program_drawing}
+
+-- a comma and an item
+unfoldable pub next_item : Reader Token
+next_item = made second_of (token comma and token wants.Item)
+
+unfoldable pub next_items : Reader (List Token)
+next_items = all_of comma next_item
+
+unfoldable pub items : Reader (List Name)
+items = made texts (separated comma (token wants.Item))
+
+unfoldable pub interface : Reader (List Name)
+interface = at wants.Item items (absent [])
+
+unfoldable pub rule : Reader RuleDrawing
+rule = made rule_drawing (token wants.RuleName and token (wants.OfKind kinds.OpenParenthesis) and token (wants.OfKind kinds.CloseParenthesis) and drawing
+    and token (wants.OfKind kinds.Arrow) and drawing and token (wants.Word keywords.Interface) and token equal and token open_brace and interface and token close_brace)
+
+unfoldable pub program : Reader ProgramDrawing
+program = made program_drawing (token wants.Main and token equal and token wants.RuleName and rule)

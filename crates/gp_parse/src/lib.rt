@@ -1,0 +1,10 @@
+//! Reads program texts, as far as the language is accepted today.
+#![tactic(auto)]
+
+mod accept;
+mod build;
+mod names;
+mod program;
+mod reading;
+
+pub use program::ProgramRefusal;
