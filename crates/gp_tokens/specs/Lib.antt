@@ -1,0 +1,6 @@
+pub mod Bytes
+pub mod Kinds
+pub mod Words
+pub mod Numbers
+pub mod Front
+pub mod Lexed
