@@ -4,3 +4,4 @@ pub mod Words
 pub mod Numbers
 pub mod Front
 pub mod Lexed
+pub mod Cut
