@@ -1,6 +1,6 @@
 -- What stands at the front is what it is said to be.
-use Rattle.std.proofs.Common.{◌≡◌, ℕ, zero, suc, ◌+◌, ◌-◌, ◌*◌, ◌^◌, ◌<◌, ◌≤◌, Bool, true, false, cond, List, [], ◌∷◌, ◌++◌, length, take, drop, Option, Some, None, refl, sym, ap, subst, ◌∙◌, arith, rules, inl, inr}
-use Rattle.std.specs.Prelude.{if◌then◌else◌, not, slice_index, slice_index_or, ◌==◌, ◌&&◌, ◌||◌, nat_lt, nat_le, codes, Contains, option_map, ◌⊎◌}
+use Rattle.std.proofs.Common.{◌≡◌, ℕ, zero, suc, ◌+◌, ◌^◌, ◌<◌, ◌≤◌, Bool, true, false, List, [], ◌∷◌, ◌++◌, length, take, drop, Option, Some, None, refl, sym, ap, subst, ◌∙◌, arith, inl, inr}
+use Rattle.std.specs.Prelude.{if◌then◌else◌, not, slice_index, slice_index_or, ◌==◌, ◌&&◌, nat_lt, nat_le, Contains, option_map}
 use Rattle.std.specs.List.{prefix_len, list_all}
 use Rattle.std.proofs.lemmas.List.{take-append-drop, length-take-le}
 use Rattle.std.proofs.Math.Seq.{take-suc, take-length}
@@ -14,7 +14,7 @@ use Rattle.gp_tokens.specs.declared.front.First.TheVariants as f
 use Rattle.gp_tokens.specs.declared.token.Kind.{Kind}
 use Rattle.gp_tokens.specs.declared.token.Kind.TheVariants as k
 use Rattle.gp_tokens.specs.Bytes.{is_blank, is_digit, is_word_byte, is_line_byte, is_string_byte}
-use Rattle.gp_tokens.specs.Front.{is_in, run, comment_end, signs, stands, first_fit, sign, number_token, word, string, comment_of, comment, signed, front}
+use Rattle.gp_tokens.specs.Front.{run, comment_end, signs, stands, first_fit, sign, number_token, word, string, comment_of, comment, signed, front}
 use Rattle.gp_tokens.specs.Numbers.{number_of, checked_number}
 use Rattle.gp_tokens.specs.Cut.{IsLineComment, EndsComment, closes, goes_on, IsGap, nothing, blank, line_comment, BeginsComment, HasNoLongerSign, IsSpelled, number}
 use Rattle.gp_tokens.specs.Cut as cut
@@ -40,14 +40,17 @@ line_fits : (t : List ℕ) → Fits (47 ∷ 47 ∷ t) (f.Skip (run class.Line (4
 line_fits t =
     let m = prefix_len is_line_byte t in
     let two : 1 + (1 + m) ≡ suc (suc m) = omega arith in
-    let small = prefix_len-le-length is_line_byte t in
-    (omega arith, omega arith, λ rest g. line_comment (record {
+    let small = prefix_len-le-length is_line_byte t in (
+      omega arith,
+      omega arith,
+      λ rest g. line_comment (record {
         comment = take (1 + (1 + m)) (47 ∷ 47 ∷ t);
         spelled = sym (take-append-drop (1 + (1 + m)) (47 ∷ 47 ∷ t));
         begins = rw two refl;
         one_line = run_passes is_line_byte (47 ∷ 47 ∷ t);
         ends = run_stops is_line_byte 10 refl (47 ∷ 47 ∷ t);
-      }) g)
+      }) g,
+    )
 
 two_are : (x y b : ℕ) (t : List ℕ) → (b == x && slice_index t 0 == y) ≡ true → (b ≡ x) × (slice_index t 0 ≡ y)
 two_are x y b t e = let a = both _ _ e in ((Decides-eqb b x).0 a.0, (Decides-eqb (slice_index t 0) y).0 a.1)
@@ -76,6 +79,7 @@ end_is (b ∷ t) n h = go (λ m e. end_is t m e) (b == 42 && slice_index t 0 == 
         let q : n ≡ suc m = cc in
         let small = (below m e).0 in
         rw q (omega arith, goes_on (two_are_not 42 47 b t apart) (below m e).1)
+
     go : ((m : ℕ) → comment_end t ≡ Some m → (m ≤ length t) × EndsComment t (drop m t)) → (c : Bool) → (b == 42 && slice_index t 0 == 47) ≡ c → (if c then Some 2 else option_map suc (comment_end t)) ≡ Some n → (n ≤ length (b ∷ t)) × EndsComment (b ∷ t) (drop n (b ∷ t))
     go below true e h =
         let q : n ≡ 2 = cc in
@@ -122,11 +126,11 @@ word_fits at b t h =
     let words : list_all is_word_byte w ≡ true = run_passes is_word_byte z in
     let stops : is_word_byte (slice_index (drop len z) 0) ≡ false = run_stops is_word_byte 0 refl z in
     fits_if z (nat_lt (run class.Digit w) len) (f.Token k.Word len) (number_token at len (checked_number w))
-        (λ e. (some, within, cut.word words (short_run is_digit w (subst (λ n. prefix_len is_digit w < n) (sym size) (ltb-true (run class.Digit w) len e))) stops))
-        (λ e.
-            let all : run class.Digit w ≡ length w = omega (arith, size, ltb-false (run class.Digit w) len e, prefix_len-le-length is_digit w) in
-            let digits : list_all is_digit w ≡ true = rw (all, take-length w) at (run_passes is_digit w) in
-            go z len (checked_number w) refl some within digits stops)
+    (λ e. (some, within, cut.word words (short_run is_digit w (subst (λ n. prefix_len is_digit w < n) (sym size) (ltb-true (run class.Digit w) len e))) stops))
+    (λ e.
+    let all : run class.Digit w ≡ length w = omega (arith, size, ltb-false (run class.Digit w) len e, prefix_len-le-length is_digit w) in
+    let digits : list_all is_digit w ≡ true = rw (all, take-length w) at (run_passes is_digit w) in
+    go z len (checked_number w) refl some within digits stops)
   where
     go : (z : List ℕ) (len : ℕ) (o : Option ℕ) → checked_number (take len z) ≡ o → 0 < len → len ≤ length z → list_all is_digit (take len z) ≡ true → is_word_byte (slice_index (drop len z) 0) ≡ false → Fits z (number_token at len o)
     go z len None e some within digits stops = tt
@@ -140,14 +144,14 @@ string_fits at t =
     let within : len ≤ length t = prefix_len-le-length is_string_byte t in
     let inner : list_all is_string_byte (take len t) ≡ true = run_passes is_string_byte t in
     fits_if (34 ∷ t) (len == length t) (f.Fault (fault.OpenString at)) (if slice_index t len == 34 then f.Token k.String (len + 2) else f.Fault (fault.BadByte (at + len + 1))) (λ e. tt)
-        (λ inside. fits_if (34 ∷ t) (slice_index t len == 34) (f.Token k.String (len + 2)) (f.Fault (fault.BadByte (at + len + 1))) (λ e.
-        let apart : len ≡ length t → ⊥ = λ q. let yes = (Decides-eqb len (length t)).1 q in cc in
-        let more : len < length t = omega arith in
-        let two : len + 2 ≡ suc (suc len) = omega arith in
-        let quote : slice_index t len ≡ 34 = (Decides-eqb _ _).0 e in
-        let text : take (len + 2) (34 ∷ t) ≡ 34 ∷ take len t ++ 34 ∷ [] = rw two (ap (λ w. 34 ∷ w) (take-suc t len 0 more ∙ ap (λ c. take len t ++ c ∷ []) quote)) in
-        (omega arith, omega arith, subst (λ w. IsSpelled k.String w (drop (len + 2) (34 ∷ t))) (sym text) (cut.string (take len t) inner)))
-        (λ e. tt))
+    (λ inside. fits_if (34 ∷ t) (slice_index t len == 34) (f.Token k.String (len + 2)) (f.Fault (fault.BadByte (at + len + 1))) (λ e.
+    let apart : len ≡ length t → ⊥ = λ q. let yes = (Decides-eqb len (length t)).1 q in cc in
+    let more : len < length t = omega arith in
+    let two : len + 2 ≡ suc (suc len) = omega arith in
+    let quote : slice_index t len ≡ 34 = (Decides-eqb _ _).0 e in
+    let text : take (len + 2) (34 ∷ t) ≡ 34 ∷ take len t ++ 34 ∷ [] = rw two (ap (λ w. 34 ∷ w) (take-suc t len 0 more ∙ ap (λ c. take len t ++ c ∷ []) quote)) in
+    (omega arith, omega arith, subst (λ w. IsSpelled k.String w (drop (len + 2) (34 ∷ t))) (sym text) (cut.string (take len t) inner)))
+    (λ e. tt))
 
 -- ---- signs
 
@@ -205,12 +209,12 @@ begun : (b : ℕ) (t text : List ℕ) → good text ≡ true → stands b (slice
 begun b t [] g e = absurd cc
 begun b t (x ∷ []) g e = let one : b ≡ x = (Decides-eqb b x).0 (both _ _ e).0 in (rw one refl, omega arith, omega arith)
 begun b [] (x ∷ y ∷ []) g e =
-    let two : 0 ≡ y = (Decides-eqb 0 y).0 (both _ _ e).1 in
+    let two : 0 ≡ y = (Decides-eqb 0 y).0 (both (b == x) (0 == y) e).1 in
     let bad : not (y == 0) ≡ false = subst (λ (v : ℕ). not (v == 0) ≡ false) two refl in
     absurd cc
 begun b (c ∷ t) (x ∷ y ∷ []) g e =
     let one : b ≡ x = (Decides-eqb b x).0 (both _ _ e).0 in
-    let two : c ≡ y = (Decides-eqb c y).0 (both _ _ e).1 in
+    let two : c ≡ y = (Decides-eqb c y).0 (both (b == x) (c == y) e).1 in
     (rw (one, two) refl, omega arith, omega arith)
 begun b t (x ∷ y ∷ z ∷ more) g e = absurd cc
 
@@ -240,9 +244,9 @@ sign_fits at b t clear = go (sign b (slice_index t 0)) refl
         let f = begun b t text (goods (r.0, text) a.1) a.2 in
         let whole : text ++ drop (length text) z ≡ z = ap (λ w. w ++ drop (length text) z) (sym f.0) ∙ take-append-drop (length text) z in
         let most : HasNoLongerSign (length text) (text ++ drop (length text) z) = λ s c begins.
-            let n = longest b (slice_index t 0) signs r s refl e c (stands_there b t s.1 (goods s c) (subst (λ w. take (length s.1) w ≡ s.1) whole begins)) in
-            let size = a.3 in
-            omega arith in
+        let n = longest b (slice_index t 0) signs r s refl e c (stands_there b t s.1 (goods s c) (subst (λ w. take (length s.1) w ≡ s.1) whole begins)) in
+        let size = a.3 in
+        omega arith in
         let main : IsSpelled r.0 text (drop (length text) z) = cut.sign a.1 most (λ h. clear (subst BeginsComment whole h)) in
         let sized : IsSpelled r.0 (take (length text) z) (drop (length text) z) = subst (λ w. IsSpelled r.0 w (drop (length text) z)) (sym f.0) main in
         subst (λ n. (0 < n) × (n ≤ length z) × (IsSpelled r.0 (take n z) (drop n z))) a.3 (f.1, f.2, sized)

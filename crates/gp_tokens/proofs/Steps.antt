@@ -1,5 +1,5 @@
 -- Lexing goes on behind what stands at the front.
-use Rattle.std.proofs.Common.{◌≡◌, ℕ, zero, suc, ◌+◌, ◌-◌, ◌<◌, ◌≤◌, List, [], ◌∷◌, ◌++◌, length, take, drop, Result, Ok, Err, refl, sym, ap, subst, ◌∙◌, append_assoc, arith}
+use Rattle.std.proofs.Common.{◌≡◌, ℕ, zero, suc, ◌+◌, ◌-◌, ◌<◌, ◌≤◌, List, [], ◌∷◌, ◌++◌, length, take, drop, Ok, Err, refl, sym, ap, ◌∙◌, append_assoc, arith}
 use Rattle.std.proofs.lemmas.List.{append-nil, drop_all}
 use Rattle.gp_tokens.specs.declared.front.First.TheVariants as f
 use Rattle.gp_tokens.specs.declared.fault.LexFault.{LexFault}
@@ -7,7 +7,7 @@ use Rattle.gp_tokens.specs.declared.fault.LexFault.TheVariants as fault
 use Rattle.gp_tokens.specs.declared.token.Kind.{Kind}
 use Rattle.gp_tokens.specs.declared.token.Token.{Token}
 use Rattle.gp_tokens.specs.Front.{front}
-use Rattle.gp_tokens.specs.Lexed.{Outcome, with_front, goes_on, lexed, tokens_of, Fails}
+use Rattle.gp_tokens.specs.Lexed.{Outcome, with_front, lexed, tokens_of, Fails}
 
 lexed_drop : (n at : ℕ) (z : List ℕ) → lexed n at z ≡ lexed 0 (at + n) (drop n z)
 lexed_drop zero at z = let e : at ≡ at + 0 = omega arith in ap (λ k. lexed 0 k z) e
