@@ -42,13 +42,13 @@ module _ {A : Type 0} (want : Want) (one : Reader A) where
   pub goes_on : (start : List Token) (front : List A) (ts : List Token) (x : A) (after : List Token) → begins want ts ≡ true → one ts ≡ Some (x, after) → length after < length ts
       → IsOnTheWay want one start front ts → IsOnTheWay want one start (front ++ x ∷ []) after
   goes_on start front ts x after b h lt w = record {
-      turns = w.turns - 1;
-      enough = omega arith;
-      same =
-          let e : many want one w.turns ts ≡ (many want one (w.turns - 1) after >>= λ xs. Some (x ∷ xs.0, xs.1)) = link w.turns ts b (omega arith) ∙ rw h refl in
-          sym (ap (with_front front) e ∙ regroup front x (many want one (w.turns - 1) after)) ∙ w.same;
-      shorter = omega arith;
-    }
+    turns = w.turns - 1;
+    enough = omega arith;
+    same =
+        let e : many want one w.turns ts ≡ (many want one (w.turns - 1) after >>= λ xs. Some (x ∷ xs.0, xs.1)) = link w.turns ts b (omega arith) ∙ rw h refl in
+        sym (ap (with_front front) e ∙ regroup front x (many want one (w.turns - 1) after)) ∙ w.same;
+    shorter = omega arith;
+  }
 
   pub stops : (e : ReadError) (start : List Token) (front : List A) (ts : List Token) → begins want ts ≡ true → Fails e (one ts) → IsOnTheWay want one start front ts → Fails e (many want one (length start) start)
   stops error.NoMemory start front ts b h w = tt

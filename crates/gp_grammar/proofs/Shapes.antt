@@ -10,7 +10,7 @@ use Rattle.gp_grammar.specs.Wants.{meets, excludes}
 use Rattle.gp_grammar.specs.Shape.{Shape, Is, IsNumber, ◌then◌, Made, Either, one, other, Absent, absent, Many, none, more, second_of, list_of, Separated}
 use Rattle.gp_grammar.specs.Reading.{Reader, ◌>>=◌, token, begins, number, ◌and◌, made, at, many, repeated, separated}
 use Rattle.gp_grammar.specs.Reading as r
-use Rattle.gp_grammar.specs.Laws.{Sound, Again, Reads, Anything, No, Begins, NeverBegins, Shrinks, Keeps}
+use Rattle.gp_grammar.specs.Laws.{Sound, Again, Reads, Anything, Comes, No, Begins, NeverBegins, Shrinks, Keeps}
 use Rattle.gp_grammar.proofs.Wants.{excluded}
 
 pub bind_some : {A B : Type 0} (o : Option A) (f : A → Option B) (y : B) → (o >>= f) ≡ Some y → (x : A) × (o ≡ Some x) × (f x ≡ Some y)
@@ -84,7 +84,7 @@ separated_sound sign r R p =
 -- ---- the first token
 
 pub token_begins : (want : Want) → Begins want (Is want)
-token_begins want ts rest x p = rw (p.front, p.is) refl
+token_begins want ts rest x p = record { comes = rw (p.front, p.is) refl }
 
 pub number_begins : Begins (wants.Kind k.Number) IsNumber
 number_begins ts rest x p = token_begins (wants.Kind k.Number) ts rest p.token p.is
@@ -99,9 +99,9 @@ pub either_begins : {A : Type 0} (want : Want) (R S : Shape A) → Begins want R
 either_begins want R S p q ts rest x (one h) = p ts rest x h
 either_begins want R S p q ts rest x (other h) = q ts rest x h
 
-excluded_front : (a b : Want) → excludes a b ≡ true → (ts : List Token) → begins a ts ≡ true → No b ts
-excluded_front a b e [] h = refl
-excluded_front a b e (t ∷ ts) h = excluded a b t e h
+excluded_front : (a b : Want) → excludes a b ≡ true → (ts : List Token) → Comes a ts → No b ts
+excluded_front a b e [] h = record { none = refl }
+excluded_front a b e (t ∷ ts) h = record { none = excluded a b t e h.comes }
 
 pub begins_never : {A : Type 0} (a b : Want) (R : Shape A) (F : List Token → Type 0) → excludes a b ≡ true → Begins a R → NeverBegins b R F
 begins_never a b R F e p ts rest x h f = excluded_front a b e ts (p ts rest x h)
@@ -144,8 +144,8 @@ pub made_again : {A B : Type 0} (f : A → B) (r : Reader A) (R : Shape A) (E : 
 made_again f r R E p ts rest y h e = rw (p ts rest h.of h.shape e, h.made) refl
 
 pub at_again : {A : Type 0} (want : Want) (r s : Reader A) (R S : Shape A) (E : List Token → Type 0) → Again r R E → Again s S E → Begins want R → NeverBegins want S E → Again (at want r s) (Either R S) E
-at_again want r s R S E p q here away ts rest x (one h) e = rw (here ts rest x h) (p ts rest x h e)
-at_again want r s R S E p q here away ts rest x (other h) e = rw (away ts rest x h e) (q ts rest x h e)
+at_again want r s R S E p q here away ts rest x (one h) e = rw ((here ts rest x h).comes) (p ts rest x h e)
+at_again want r s R S E p q here away ts rest x (other h) e = rw ((away ts rest x h e).none) (q ts rest x h e)
 
 pub absent_again : {A : Type 0} (y : A) (E : List Token → Type 0) → Again (r.absent y) (Absent y) E
 absent_again y E ts _ _ absent e = refl
@@ -202,10 +202,10 @@ many_again : {A : Type 0} (want : Want) (r : Reader A) (R : Shape A) (E : List T
     → (n : ℕ) (ts rest : List Token) (xs : List A) → Many R ts rest xs → (No want rest) × (E rest) → length ts ≤ n → many want r n ts ≡ Some (xs, rest)
 unfolding many
 many_again want r R E p next b s zero ts rest _ none e fits = refl
-many_again want r R E p next b s (suc n) ts rest _ none e fits = rw e.0 refl
+many_again want r R E p next b s (suc n) ts rest _ none e fits = rw (e.0.none) refl
 many_again want r R E p next b s zero ts rest _ (more h hs) e fits = absurd (omega (arith, s _ _ _ h))
 many_again want r R E p next b s (suc n) ts rest _ (more {mid = mid} {x = x} {xs = xs} h hs) e fits =
-    rw (b ts mid x h, p ts mid x h (follow mid rest xs hs e.1), many_again want r R E p next b s n mid rest xs hs e (omega (arith, s _ _ _ h))) refl
+    rw ((b ts mid x h).comes, p ts mid x h (follow mid rest xs hs e.1), many_again want r R E p next b s n mid rest xs hs e (omega (arith, s _ _ _ h))) refl
   where
     follow : (mid rest : List Token) (xs : List _) → Many R mid rest xs → E rest → E mid
     follow mid _ _ none f = f
@@ -222,9 +222,9 @@ separated_again sign r R E p next keeps =
     let part = Made second_of (Is sign then R) in
     let follows : (mid rest : List Token) (xs : List _) → Many part mid rest xs → E' rest → E mid = λ mid rest xs h e. go mid rest xs h e.1 in
     made_again list_of _ _ E' (and_again _ _ _ _ E E' p
-        (repeated_again sign _ _ E (made_again second_of _ _ E (then_again _ _ _ _ E (token_again sign) p)) (λ ts rest y h. next ts rest h.of h.shape)
-            (made_begins sign _ _ (then_begins sign _ _ (token_begins sign))) (made_shrinks _ _ (then_shrinks _ _ (token_shrinks sign) keeps)))
-        follows)
+    (repeated_again sign _ _ E (made_again second_of _ _ E (then_again _ _ _ _ E (token_again sign) p)) (λ ts rest y h. next ts rest h.of h.shape)
+    (made_begins sign _ _ (then_begins sign _ _ (token_begins sign))) (made_shrinks _ _ (then_shrinks _ _ (token_shrinks sign) keeps)))
+    follows)
   where
     go : (mid rest : List Token) (xs : List _) → Many (Made second_of (Is sign then R)) mid rest xs → E rest → E mid
     go mid _ _ none e = e

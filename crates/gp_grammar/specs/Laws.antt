@@ -16,9 +16,13 @@ Again {A} reader R Follows = (ts rest : List Token) (x : A) → R ts rest x → 
 abbrev pub Anything : List Token → Type 0
 Anything ts = Unit {0}
 
+-- such a token comes next
+pub record Comes (want : Want) (ts : List Token) : Type 0 where
+  pub comes : begins want ts ≡ true
+
 -- no such token comes next
-abbrev pub No : Want → List Token → Type 0
-No want ts = begins want ts ≡ false
+pub record No (want : Want) (ts : List Token) : Type 0 where
+  pub none : begins want ts ≡ false
 
 -- the reader reads the shape, before what may follow it: both ways
 pub record Reads {A : Type 0} (reader : Reader A) (R : Shape A) (Follows : List Token → Type 0) : Type 0 where
@@ -27,7 +31,7 @@ pub record Reads {A : Type 0} (reader : Reader A) (R : Shape A) (Follows : List 
 
 -- what has the shape begins with such a token
 abbrev pub Begins : {A : Type 0} → Want → Shape A → Type 0
-Begins {A} want R = (ts rest : List Token) (x : A) → R ts rest x → begins want ts ≡ true
+Begins {A} want R = (ts rest : List Token) (x : A) → R ts rest x → Comes want ts
 
 -- what has the shape, before what may follow it, does not begin with such a token
 abbrev pub NeverBegins : {A : Type 0} → Want → Shape A → (List Token → Type 0) → Type 0

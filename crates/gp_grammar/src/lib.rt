@@ -4,6 +4,8 @@
 mod error;
 pub mod laws;
 mod read;
+#[cfg(test)]
+mod tests;
 mod want;
 
 pub use error::ReadError;
