@@ -2,6 +2,3 @@ pub mod Wants
 pub mod Shape
 pub mod Reading
 pub mod Laws
-pub mod Graph
-pub mod GraphReading
-pub mod Labels
