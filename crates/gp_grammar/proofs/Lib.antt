@@ -2,3 +2,4 @@ pub mod Wants
 pub mod Shapes
 pub mod Loop
 pub mod Passing
+pub mod GraphLaws

@@ -2,6 +2,7 @@
 #![tactic(auto)]
 
 mod error;
+mod graph;
 pub mod laws;
 mod read;
 #[cfg(test)]
@@ -9,5 +10,6 @@ mod tests;
 mod want;
 
 pub use error::ReadError;
+pub use graph::{EdgeTree, GraphTree, NodeTree, Numeral, label_list, read_graph};
 pub use read::{begins, number, stands_before, token};
 pub use want::Want;
