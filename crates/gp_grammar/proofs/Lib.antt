@@ -1,3 +1,5 @@
+pub mod Wants
 pub mod Shapes
 pub mod Loop
+pub mod Passing
 pub mod GraphLaws

@@ -2,9 +2,9 @@
 use Rattle.std.proofs.Common.{◌≡◌, ℕ, zero, suc, ◌-◌, ◌<◌, ◌≤◌, Bool, true, false, List, [], ◌∷◌, ◌++◌, length, Option, Some, None, refl, sym, ap, ◌∙◌, append_assoc, arith}
 use Rattle.std.proofs.lemmas.List.{append-nil}
 use Rattle.gp_tokens.specs.declared.token.Token.{Token}
-use Rattle.gp_grammar.specs.declared.want.Want.{Want}
 use Rattle.gp_grammar.specs.declared.error.ReadError.{ReadError}
-use Rattle.gp_grammar.specs.declared.error.ReadError.TheVariants as errors
+use Rattle.gp_grammar.specs.declared.want.Want.{Want}
+use Rattle.gp_grammar.specs.declared.error.ReadError.TheVariants as error
 use Rattle.gp_grammar.specs.Reading.{Reader, ◌>>=◌, Fails, begins, many}
 
 -- what was read before, and what is still read
@@ -51,8 +51,8 @@ module _ {A : Type 0} (want : Want) (one : Reader A) where
   }
 
   pub stops : (e : ReadError) (start : List Token) (front : List A) (ts : List Token) → begins want ts ≡ true → Fails e (one ts) → IsOnTheWay want one start front ts → Fails e (many want one (length start) start)
-  stops errors.NoMemory start front ts b h w = tt
-  stops (errors.Syntax k) start front ts b h w =
+  stops error.NoMemory start front ts b h w = tt
+  stops (error.Syntax k) start front ts b h w =
       let e : many want one w.turns ts ≡ None = link w.turns ts b (omega (arith, some_left ts b)) ∙ rw h refl in
       sym w.same ∙ ap (with_front front) e
 

@@ -1,46 +1,42 @@
 -- The grammar of graphs whose labels are `empty` or one integer.
-use Rattle.std.specs.Prelude.{Bool, true, false, List, Option, Some, None}
+use Rattle.std.specs.Prelude.{ℕ, Bool, true, false, List, Option, Some, None}
 use Rattle.gp_tokens.specs.declared.token.Kind.TheVariants as kinds
 use Rattle.gp_tokens.specs.declared.token.Token.{Token}
 use Rattle.gp_tokens.specs.declared.keyword.Keyword.TheVariants as keywords
-use Rattle.gp_tokens.specs.Numbers.{checked_number}
 use Rattle.gp_grammar.specs.declared.want.Want.{Want}
 use Rattle.gp_grammar.specs.declared.want.Want.TheVariants as wants
 use Rattle.gp_grammar.specs.declared.graph.Numeral.{Numeral}
 use Rattle.gp_grammar.specs.declared.graph.NodeTree.{NodeTree}
 use Rattle.gp_grammar.specs.declared.graph.EdgeTree.{EdgeTree}
-use Rattle.gp_grammar.specs.Shape.{Shape, Is, ◌then◌, Made, Either, Many}
+use Rattle.gp_grammar.specs.Shape.{Shape, Is, IsNumber, ◌then◌, Made, Either, Many}
 
 abbrev pub open_sign : Want
-open_sign = wants.OfKind kinds.OpenParenthesis
+open_sign = wants.Kind kinds.OpenParenthesis
 
 abbrev pub close_sign : Want
-close_sign = wants.OfKind kinds.CloseParenthesis
+close_sign = wants.Kind kinds.CloseParenthesis
 
 abbrev pub comma : Want
-comma = wants.OfKind kinds.Comma
+comma = wants.Kind kinds.Comma
 
 abbrev pub bar : Want
-bar = wants.OfKind kinds.Bar
+bar = wants.Kind kinds.Bar
 
 abbrev pub minus : Want
-minus = wants.OfKind kinds.Minus
-
-abbrev pub number : Want
-number = wants.OfKind kinds.Number
+minus = wants.Kind kinds.Minus
 
 abbrev pub empty : Want
-empty = wants.Word keywords.Empty
+empty = wants.Keyword keywords.Empty
 
-abbrev pub positive : Token → Numeral
-positive t = record { negative = false; value = checked_number t.text }
+abbrev pub positive : ℕ → Numeral
+positive value = record { negative = false; value = value }
 
-abbrev pub negative : Token × Token → Numeral
-negative (_, t) = record { negative = true; value = checked_number t.text }
+abbrev pub negative : Token × ℕ → Numeral
+negative (_, value) = record { negative = true; value = value }
 
 -- ["-"] Number
 abbrev pub IsNumeral : Shape Numeral
-IsNumeral = Either (Made negative (Is minus then Is number)) (Made positive (Is number))
+IsNumeral = Either (Made negative (Is minus then IsNumber)) (Made positive IsNumber)
 
 abbrev pub no_numeral : Token → Option Numeral
 no_numeral t = None
@@ -75,4 +71,4 @@ drawing_of (_, (nodes, (_, (edges, _)))) = (nodes, edges)
 
 -- Graph = "[" {Node} "|" {Edge} "]"
 abbrev pub IsDrawing : Shape Drawing
-IsDrawing = Made drawing_of (Is (wants.OfKind kinds.OpenBracket) then Many IsNode then Is bar then Many IsEdge then Is (wants.OfKind kinds.CloseBracket))
+IsDrawing = Made drawing_of (Is (wants.Kind kinds.OpenBracket) then Many IsNode then Is bar then Many IsEdge then Is (wants.Kind kinds.CloseBracket))

@@ -15,12 +15,8 @@ abbrev pub signed : Bool → ℕ → Option ℤ
 signed true n = if nat_le n (2 ^ 127) then Some (neg_ℤ (pos n)) else None
 signed false n = if nat_lt n (2 ^ 127) then Some (pos n) else None
 
-abbrev pub signed_value : Bool → Option ℕ → Option ℤ
-signed_value negative (Some n) = signed negative n
-signed_value negative None = None
-
 abbrev pub integer_of : Numeral → Option ℤ
-integer_of n = signed_value n.negative n.value
+integer_of n = signed n.negative n.value
 
 -- the list that a label is, where its integer is in range
 abbrev pub label_of : Option Numeral → Option (List Atom)

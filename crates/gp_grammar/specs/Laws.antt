@@ -1,46 +1,50 @@
--- How reading and shapes agree, and what the laws of composed shapes ask.
-use Rattle.std.specs.Prelude.{◌≡◌, ℕ, ◌<◌, ◌≤◌, Bool, true, false, List, [], length, Option, Some}
+-- What it is that a reader reads a shape.
+use Rattle.std.specs.Prelude.{◌≡◌, ◌<◌, ◌≤◌, Bool, true, false, List, length, Some}
 use Rattle.gp_tokens.specs.declared.token.Token.{Token}
 use Rattle.gp_grammar.specs.declared.want.Want.{Want}
-use Rattle.gp_grammar.specs.Wants.{meets}
-use Rattle.gp_grammar.specs.Shape.{Shape, Is, ◌then◌, Made, Either, Absent, Many, Separated}
-use Rattle.gp_grammar.specs.Reading.{Reader, token, begins, ◌and◌, made, at, absent, many, all_of, separated}
+use Rattle.gp_grammar.specs.Shape.{Shape}
+use Rattle.gp_grammar.specs.Reading.{Reader, begins}
 
 -- what is read has the shape
 abbrev pub Sound : {A : Type 0} → Reader A → Shape A → Type 0
 Sound {A} reader R = (ts : List Token) (x : A × List Token) → reader ts ≡ Some x → R ts x.1 x.0
 
--- what has the shape is read, before what may follow it
+-- what has the shape is read, before a rest that may follow it
 abbrev pub Again : {A : Type 0} → Reader A → Shape A → (List Token → Type 0) → Type 0
 Again {A} reader R Follows = (ts rest : List Token) (x : A) → R ts rest x → Follows rest → reader ts ≡ Some (x, rest)
 
 abbrev pub Anything : List Token → Type 0
 Anything ts = Unit {0}
 
--- what is wanted does not come next
-abbrev pub No : Want → List Token → Type 0
-No want ts = begins want ts ≡ false
+-- such a token comes next
+pub record Comes (want : Want) (ts : List Token) : Type 0 where
+  pub comes : begins want ts ≡ true
 
--- the shape begins with what is wanted
+-- no such token comes next
+pub record No (want : Want) (ts : List Token) : Type 0 where
+  pub none : begins want ts ≡ false
+
+-- the reader reads the shape, before what may follow it: both ways
+pub record Reads {A : Type 0} (reader : Reader A) (R : Shape A) (Follows : List Token → Type 0) : Type 0 where
+  pub sound : Sound reader R
+  pub again : Again reader R Follows
+
+-- what has the shape begins with such a token
 abbrev pub Begins : {A : Type 0} → Want → Shape A → Type 0
-Begins {A} want R = (ts rest : List Token) (x : A) → R ts rest x → begins want ts ≡ true
+Begins {A} want R = (ts rest : List Token) (x : A) → R ts rest x → Comes want ts
 
--- no token is both
-abbrev pub Apart : Want → Want → Type 0
-Apart a b = (t : Token) → meets a t ≡ true → meets b t ≡ false
+-- what has the shape, before what may follow it, does not begin with such a token
+abbrev pub NeverBegins : {A : Type 0} → Want → Shape A → (List Token → Type 0) → Type 0
+NeverBegins {A} want R Follows = (ts rest : List Token) (x : A) → R ts rest x → Follows rest → No want ts
 
--- the tokens get fewer, or no more
+-- what has the shape, before what may follow it, may follow
+abbrev pub MayFollow : {A : Type 0} → Shape A → (List Token → Type 0) → (List Token → Type 0) → Type 0
+MayFollow {A} R Follows First = (ts rest : List Token) (x : A) → R ts rest x → Follows rest → First ts
+
+-- what has the shape takes a token at least
 abbrev pub Shrinks : {A : Type 0} → Shape A → Type 0
 Shrinks {A} R = (ts rest : List Token) (x : A) → R ts rest x → length rest < length ts
 
+-- what has the shape makes no tokens
 abbrev pub Keeps : {A : Type 0} → Shape A → Type 0
 Keeps {A} R = (ts rest : List Token) (x : A) → R ts rest x → length rest ≤ length ts
-
--- Reading is sound for each way of composing shapes, where it is for the parts.
-pub record ReadingIsSound : Type (0 + 1) where
-  pub one_token : (want : Want) → Sound (token want) (Is want)
-  pub both : {A B : Type 0} (r : Reader A) (s : Reader B) (R : Shape A) (S : Shape B) → Sound r R → Sound s S → Sound (r and s) (R then S)
-  pub changed : {A B : Type 0} (f : A → B) (r : Reader A) (R : Shape A) → Sound r R → Sound (made f r) (Made f R)
-  pub choice : {A : Type 0} (want : Want) (r s : Reader A) (R S : Shape A) → Sound r R → Sound s S → Sound (at want r s) (Either R S)
-  pub nothing : {A : Type 0} (y : A) → Sound (absent y) (Absent y)
-  pub list : {A : Type 0} (want : Want) (r : Reader A) (R : Shape A) → Sound r R → Sound (all_of want r) (Many R)

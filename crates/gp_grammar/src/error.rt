@@ -6,18 +6,19 @@ ghost use Rattle.gp_grammar.specs.declared.error.ReadError.TheVariants.{NoMemory
 use std::alloc::{AllocError, AllocFailed};
 
 /// Why tokens could not be read.
-#[derive(Debug, Drop)]
+#[derive(Debug, Drop, PartialEq, Eq)]
 pub enum ReadError {
     /// Memory was refused.
     NoMemory,
-    /// The tokens are not of the grammar; so many were left where that was met.
+    /// The tokens are not of the grammar. The number says how many tokens were left, from the first
+    /// that fits nothing on.
     Syntax(u64),
 }
 
 impl From<AllocError> for ReadError {
     ghost from_gives = { λ _ e. e ≡ NoMemory };
 
-    fn from(_: AllocError) -> ReadError {
+    fn from(_e: AllocError) -> ReadError {
         ReadError::NoMemory
     }
 }
@@ -25,7 +26,7 @@ impl From<AllocError> for ReadError {
 impl<T: Drop> From<AllocFailed<T>> for ReadError {
     ghost from_gives = { λ _ e. e ≡ NoMemory };
 
-    fn from(_: AllocFailed<T>) -> ReadError {
+    fn from(_e: AllocFailed<T>) -> ReadError {
         ReadError::NoMemory
     }
 }

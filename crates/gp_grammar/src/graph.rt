@@ -6,17 +6,17 @@ ghost use Rattle.gp_grammar.specs.Reading.{Gives};
 ghost use Rattle.gp_grammar.specs.GraphReading as spec;
 
 use crate::error::ReadError;
-use crate::reading::{begins, token};
+use crate::read::{begins, number, token};
 use crate::want::Want;
 use gp_tokens::{Keyword, Kind, Text, Token};
 use gp_values::{Atom, List, NoMemory};
 use std::alloc::Global;
 
-/// The value of a number, where it is no more than 2 to the power of 127, and whether a minus stands before it.
+/// The value of a number, and whether a minus stands before it.
 #[derive(Clone, Copy)]
 pub struct Numeral {
     pub negative: bool,
-    pub value: Option<u128>,
+    pub value: u128,
 }
 
 /// A node with its name; with no numeral the label is `empty`.
@@ -47,11 +47,10 @@ impl Numeral {
     pub fn integer(&self) -> Option<i128>
         ensures { result ≡ integer_of self.now }
     {
-        let value = self.value?;
         if self.negative {
-            negated(value)
+            negated(self.value)
         } else {
-            i128::try_from(value).ok()
+            i128::try_from(self.value).ok()
         }
     }
 }
@@ -84,15 +83,13 @@ pub fn label_list(alloc: Global, label: &Option<Numeral>) -> Result<Option<List>
     }
 }
 
-const OPEN: Want = Want::OfKind(Kind::OpenParenthesis);
+const OPEN: Want = Want::Kind(Kind::OpenParenthesis);
 
-const CLOSE: Want = Want::OfKind(Kind::CloseParenthesis);
+const CLOSE: Want = Want::Kind(Kind::CloseParenthesis);
 
-const COMMA: Want = Want::OfKind(Kind::Comma);
+const COMMA: Want = Want::Kind(Kind::Comma);
 
-const MINUS: Want = Want::OfKind(Kind::Minus);
-
-const NUMBER: Want = Want::OfKind(Kind::Number);
+const MINUS: Want = Want::Kind(Kind::Minus);
 
 #[tactic(auto, unfolding(crate::specs::GraphReading::numeral))]
 fn read_numeral(tokens: &[Token]) -> Result<(Numeral, &[Token]), ReadError>
@@ -101,8 +98,7 @@ fn read_numeral(tokens: &[Token]) -> Result<(Numeral, &[Token]), ReadError>
 {
     if begins(tokens, MINUS) {
         let (_, rest) = token(tokens, MINUS)?;
-        let (number, rest) = token(rest, NUMBER)?;
-        let value = number.checked_number_value();
+        let (value, rest) = number(rest)?;
         return Ok((
             Numeral {
                 negative: true,
@@ -111,8 +107,7 @@ fn read_numeral(tokens: &[Token]) -> Result<(Numeral, &[Token]), ReadError>
             rest,
         ));
     }
-    let (number, rest) = token(tokens, NUMBER)?;
-    let value = number.checked_number_value();
+    let (value, rest) = number(tokens)?;
     Ok((
         Numeral {
             negative: false,
@@ -127,8 +122,8 @@ fn read_label(tokens: &[Token]) -> Result<(Option<Numeral>, &[Token]), ReadError
     ensures gives { Gives (λ x. (x.0, x.1.now)) result (spec.label tokens.now) }
     ensures shorter { IfOk result (λ x. length x.1.now < length tokens.now) }
 {
-    if begins(tokens, Want::Word(Keyword::Empty)) {
-        let (_, rest) = token(tokens, Want::Word(Keyword::Empty))?;
+    if begins(tokens, Want::Keyword(Keyword::Empty)) {
+        let (_, rest) = token(tokens, Want::Keyword(Keyword::Empty))?;
         return Ok((None, rest));
     }
     let (value, rest) = read_numeral(tokens)?;
@@ -211,10 +206,10 @@ pub fn read_graph(alloc: Global, tokens: &[Token]) -> Result<(GraphTree, &[Token
     ensures gives { Gives (λ x. ((x.0.nodes.items, x.0.edges.items), x.1.now)) result (spec.drawing tokens.now) }
     ensures shorter { IfOk result (λ x. length x.1.now < length tokens.now) }
 {
-    let (_, rest) = token(tokens, Want::OfKind(Kind::OpenBracket))?;
+    let (_, rest) = token(tokens, Want::Kind(Kind::OpenBracket))?;
     let (nodes, rest) = read_nodes(alloc, rest)?;
-    let (_, rest) = token(rest, Want::OfKind(Kind::Bar))?;
+    let (_, rest) = token(rest, Want::Kind(Kind::Bar))?;
     let (edges, rest) = read_edges(alloc, rest)?;
-    let (_, rest) = token(rest, Want::OfKind(Kind::CloseBracket))?;
+    let (_, rest) = token(rest, Want::Kind(Kind::CloseBracket))?;
     Ok((GraphTree { nodes, edges }, rest))
 }

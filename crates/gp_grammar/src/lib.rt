@@ -1,12 +1,15 @@
-//! What readers of texts are made of: wanted tokens, and the laws of the shapes that grammars are composed of.
+//! What grammars over tokens are made of, and how they are read.
 #![tactic(auto)]
 
 mod error;
 mod graph;
-mod reading;
+pub mod laws;
+mod read;
+#[cfg(test)]
+mod tests;
 mod want;
 
 pub use error::ReadError;
 pub use graph::{EdgeTree, GraphTree, NodeTree, Numeral, label_list, read_graph};
-pub use reading::{begins, token};
+pub use read::{begins, number, stands_before, token};
 pub use want::Want;

@@ -1,42 +1,40 @@
 //! What a token has to be.
 
 ghost use Rattle.std.specs.Prelude.{◌≡◌};
-ghost use Rattle.gp_grammar.specs.Wants.{meets, is_main};
+ghost use Rattle.gp_grammar.specs.Wants.{meets};
 
 use gp_tokens::{Keyword, Kind, Token};
 
 /// What a token has to be.
-#[derive(Clone, Copy, Debug, PartialEq, Eq)]
+#[derive(Clone, Copy, Debug)]
 pub enum Want {
-    /// A token of this kind.
-    OfKind(Kind),
+    /// A token of this kind: a number, a string, any word, or a sign.
+    Kind(Kind),
     /// This word.
-    Word(Keyword),
-    /// The name of a node or an edge.
+    Keyword(Keyword),
+    /// A name of a node or an edge.
     Item,
-    /// The name of a rule.
+    /// A name of a rule.
     RuleName,
-    /// The word `Main`.
-    Main,
-}
-
-fn is_main(token: &Token) -> bool
-    ensures { result ≡ is_main token.now }
-{
-    token.kind.is(Kind::Word) && token.text.as_bytes() == b"Main".as_slice()
+    /// A name of a variable.
+    Variable,
+    /// A name of a procedure.
+    ProcedureName,
 }
 
 impl Want {
-    /// Whether the token is what is wanted.
+    /// Whether the token is what it has to be.
+    #[tactic(auto, unfolding(crate::specs::Wants::meets))]
     pub fn is_met_by(self, token: &Token) -> bool
         ensures { result ≡ meets self token.now }
     {
         match self {
-            Want::OfKind(kind) => token.kind.is(kind),
-            Want::Word(word) => token.is_word(word),
+            Want::Kind(kind) => token.kind.is(kind),
+            Want::Keyword(word) => token.is_word(word),
             Want::Item => token.is_item(),
             Want::RuleName => token.is_rule_name(),
-            Want::Main => is_main(token),
+            Want::Variable => token.is_variable(),
+            Want::ProcedureName => token.is_procedure_name(),
         }
     }
 }

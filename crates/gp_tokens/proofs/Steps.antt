@@ -1,12 +1,13 @@
 -- Lexing goes on behind what stands at the front.
-use Rattle.std.proofs.Common.{◌≡◌, ℕ, zero, suc, ◌+◌, ◌-◌, ◌<◌, ◌≤◌, List, [], ◌∷◌, ◌++◌, length, take, drop, Result, Ok, Err, refl, sym, ap, subst, ◌∙◌, append_assoc, arith}
+use Rattle.std.proofs.Common.{◌≡◌, ℕ, zero, suc, ◌+◌, ◌-◌, ◌<◌, ◌≤◌, List, [], ◌∷◌, ◌++◌, length, take, drop, Ok, Err, refl, sym, ap, ◌∙◌, append_assoc, arith}
+use Rattle.std.proofs.lemmas.List.{append-nil, drop_all}
 use Rattle.gp_tokens.specs.declared.front.First.TheVariants as f
 use Rattle.gp_tokens.specs.declared.fault.LexFault.{LexFault}
 use Rattle.gp_tokens.specs.declared.fault.LexFault.TheVariants as fault
 use Rattle.gp_tokens.specs.declared.token.Kind.{Kind}
 use Rattle.gp_tokens.specs.declared.token.Token.{Token}
 use Rattle.gp_tokens.specs.Front.{front}
-use Rattle.gp_tokens.specs.Lexed.{Outcome, with_front, goes_on, lexed, Fails}
+use Rattle.gp_tokens.specs.Lexed.{Outcome, with_front, lexed, tokens_of, Fails}
 
 lexed_drop : (n at : ℕ) (z : List ℕ) → lexed n at z ≡ lexed 0 (at + n) (drop n z)
 lexed_drop zero at z = let e : at ≡ at + 0 = omega arith in ap (λ k. lexed 0 k z) e
@@ -46,3 +47,10 @@ fails (fault.BadByte at) outcome h = h
 fails (fault.OpenString at) outcome h = h
 fails (fault.OpenComment at) outcome h = h
 fails (fault.NumberTooLong at) outcome h = h
+
+-- at the end of the text all that was read before is the list
+pub whole : (tokens : List Token) (at : ℕ) (text : List ℕ) → length text ≤ at → with_front tokens (lexed 0 at (drop at text)) ≡ lexed 0 0 text → tokens_of text ≡ Ok tokens
+whole tokens at text le h =
+    let none : drop at text ≡ [] = drop_all at text le in
+    let e : with_front tokens (lexed 0 at []) ≡ lexed 0 0 text = rw none at h in
+    sym e ∙ ap (λ (ts : List Token). Ok ts) (append-nil tokens)

@@ -1,5 +1,5 @@
 -- A value does not go down again.
-use Rattle.std.proofs.Common.{◌≡◌, ℕ, suc, ◌+◌, ◌-◌, ◌*◌, ◌/◌, ◌<◌, ◌≤◌, ◌^◌, Bool, false, leb, List, [], ◌∷◌, length, get_or, drop, refl, sym, ap, ◌∙◌, arith, drop-cons}
+use Rattle.std.proofs.Common.{◌≡◌, ℕ, suc, ◌+◌, ◌-◌, ◌*◌, ◌/◌, ◌<◌, ◌≤◌, false, leb, List, [], ◌∷◌, length, get_or, drop, refl, arith, drop-cons}
 use Rattle.std.proofs.lemmas.Bool.{lt-leb}
 use Rattle.gp_tokens.specs.Numbers.{number_from}
 

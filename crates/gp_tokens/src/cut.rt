@@ -1,6 +1,7 @@
 //! Cuts a text into tokens.
 
-ghost use Rattle.std.specs.Prelude.{◌+◌, ◌<◌, ◌≤◌, ◌^◌, length, IfOk, All};
+ghost use Rattle.std.specs.Prelude.{IfOk, All};
+ghost use Rattle.gp_tokens.specs.Cut.{IsCutOf, IsInRange};
 ghost use Rattle.gp_tokens.specs.Lexed.{Gives, tokens_of};
 
 use crate::fault::LexFault;
@@ -11,7 +12,9 @@ use std::alloc::Global;
 
 /// The tokens of the text, or the first fault that is met from the front.
 pub fn lex(alloc: Global, text: &[u8]) -> Result<Vec<Token>, LexFault>
-    ensures { Gives (λ v. v.items) result (tokens_of text.now) }
+    ensures gives { Gives (λ v. v.items) result (tokens_of text.now) }
+    ensures cut { IfOk result (λ tokens. IsCutOf text.now tokens.items) }
+    ensures numbers { IfOk result (λ tokens. All IsInRange tokens.items) }
 {
     let mut tokens = Vec::new(alloc);
     let mut at = 0;

@@ -6,6 +6,8 @@ mod fault;
 mod front;
 mod keyword;
 mod number;
+#[cfg(test)]
+mod tests;
 mod text;
 mod token;
 

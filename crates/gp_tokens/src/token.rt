@@ -1,8 +1,8 @@
 //! Tokens, and the classes of names.
 
-ghost use Rattle.std.specs.Prelude.{◌≡◌, ◌≤◌, ◌^◌, slice_index};
+ghost use Rattle.std.specs.Prelude.{◌≡◌, slice_index};
 ghost use Rattle.gp_tokens.specs.Kinds.{same_kind};
-ghost use Rattle.gp_tokens.specs.Numbers.{number_of, checked_number};
+ghost use Rattle.gp_tokens.specs.Numbers.{checked_number};
 ghost use Rattle.gp_tokens.specs.Words as spec;
 
 use crate::keyword::{Keyword, is_reserved};
@@ -104,20 +104,9 @@ impl Token {
         self.kind.is(Kind::Word) && first_byte(self.text.as_bytes()).is_ascii_uppercase()
     }
 
-    /// The value of a number. Each number that `lex` gives has one.
-    pub fn number_value(&self) -> u128
-        requires { number_of self.now.text ≤ 2 ^ 127 }
-        ensures { result ≡ number_of self.now.text }
-    {
-        match number(self.text.as_bytes()) {
-            Some(value) => value,
-            None => unreachable!(),
-        }
-    }
-
-    /// The value of a number, or nothing where it is above 2 to the power of 127, as in no token
-    /// that `lex` gives.
-    pub fn checked_number_value(&self) -> Option<u128>
+    /// The value of the digits of a number. It is nothing above 2 to the power of 127, where no
+    /// number is that `lex` gives.
+    pub fn number_value(&self) -> Option<u128>
         ensures { result ≡ checked_number self.now.text }
     {
         number(self.text.as_bytes())

@@ -1,5 +1,10 @@
 pub mod Texts
+pub mod TextLaws
 pub mod Atoms
+pub mod EqualityLaws
+pub mod Compare
+pub mod CompareLaws
+pub mod Labels
 pub mod Names
 pub mod Marks
 pub mod Graph

@@ -1,4 +1,4 @@
-use Rattle.std.proofs.Common.{sym, ◌^◌, arith, refl}
+use Rattle.std.proofs.Common.{◌^◌, arith, refl}
 use Rattle.gp_tokens.specs.Numbers as spec
 use Rattle.gp_tokens.proofs.Values.{is_past}
 use Rattle.gp_tokens.proofs.number.number.Goals as goal
