@@ -1,6 +1,6 @@
 -- The tests accept just the programs that are accepted.
-use Rattle.std.proofs.Common.{◌≡◌, ℕ, ◌≤◌, Bool, true, false, ◌&&◌, ℤ, List, [], ◌∷◌, ◌++◌, map, flat_map, length, Option, Some, None, refl, sym, ap, subst, ◌∙◌, arith, append_assoc}
-use Rattle.std.specs.Prelude.{nat_le, nat_eq, is_none}
+use Rattle.std.proofs.Common.{◌≡◌, Bool, true, false, ◌&&◌, ℤ, List, [], ◌∷◌, ◌++◌, map, flat_map, length, Option, Some, None, refl, sym, ap, ◌∙◌, append_assoc}
+use Rattle.std.specs.Prelude.{nat_le, nat_eq, is_none, codes}
 use Rattle.std.specs.Cmp.Lexicographic.{pointwise, bytes_decides}
 use Rattle.std.proofs.lemmas.List.{length-map}
 use Rattle.std.proofs.lemmas.Simd.{map-map}
@@ -10,13 +10,13 @@ use Rattle.gp_grammar.specs.declared.graph.Numeral.{Numeral}
 use Rattle.gp_grammar.specs.declared.graph.NodeTree.{NodeTree}
 use Rattle.gp_grammar.specs.declared.graph.EdgeTree.{EdgeTree}
 use Rattle.gp_grammar.specs.Graph.{Drawing}
-use Rattle.gp_grammar.specs.Labels.{has_labels, integer_of, node_names, edge_names, end_names}
-use Rattle.gp_syntax.specs.Expression.{Expression, Number, Empty}
+use Rattle.gp_grammar.specs.Labels.{has_labels, integer_of, node_names, edge_names}
+use Rattle.gp_syntax.specs.Expression.{Expression}
 use Rattle.gp_syntax.specs.Declaration.{Declaration, DeclaredNode, DeclaredEdge, Side, IsSmall, NamesOnce, KnowsNodes, HasInterface, IsWellNamed, nodes_in, labels}
 use Rattle.gp_syntax.specs.Declaration as declared
 use Rattle.gp_parse.specs.Ends as ends
-use Rattle.gp_parse.specs.Grammar.{RuleDrawing, ProgramDrawing}
-use Rattle.gp_parse.specs.Program.{number_expression, label_expression, declared_node, declared_edge, side_of, declaration_of, IsAccepted}
+use Rattle.gp_parse.specs.Grammar.{ProgramDrawing}
+use Rattle.gp_parse.specs.Program.{number_expression, label_expression, declared_node, declared_edge, side_of, IsAccepted}
 use Rattle.gp_parse.specs.Accepted.{is_small, has_names, is_fit, has_interface, is_fit_rule, is_accepted}
 
 both : (a b : Bool) → (a && b) ≡ true → (a ≡ true) × (b ≡ true)
@@ -101,12 +101,13 @@ fit_side : (d : Drawing) → has_labels d ≡ true → IsSmall (side_of d) → f
     → first_unknown (declared.node_names (side_of d)) (declared.end_names (side_of d)) ≡ None → is_fit d ≡ true
 fit_side d l s n e u =
     together (has_labels d) _ l (together (is_small d) _ (fits_small d s) (together (is_none (first_doubled (node_names d))) _ (is_none_of _ (rw (side_nodes d) at n))
-        (together (is_none (first_doubled (edge_names d))) _ (is_none_of _ (rw (side_edges d) at e)) (is_none_of _ (rw (side_nodes d, side_ends d.1) at u)))))
+    (together (is_none (first_doubled (edge_names d))) _ (is_none_of _ (rw (side_edges d) at e)) (is_none_of _ (rw (side_nodes d, side_ends d.1) at u)))))
 
 pub accepted : (p : ProgramDrawing) → is_accepted p ≡ true → IsAccepted p
 accepted p h =
     let r = p.rule in
-    let a = both (pointwise nat_eq p.call r.name) (is_fit_rule r) h in
+    let m = both (pointwise nat_eq p.main (codes "Main")) (pointwise nat_eq p.call r.name && is_fit_rule r) h in
+    let a = both (pointwise nat_eq p.call r.name) (is_fit_rule r) m.1 in
     let b = both (is_fit r.left) (is_fit r.right && has_interface r) a.1 in
     let c = both (is_fit r.right) (has_interface r) b.1 in
     let i = both (is_none (first_doubled r.interface)) (is_none (first_unknown (node_names r.left) r.interface) && is_none (first_unknown (node_names r.right) r.interface)) c.1 in
@@ -114,6 +115,7 @@ accepted p h =
     let x = one_side r.left b.0 in
     let y = one_side r.right c.0 in
     record {
+      main = (bytes_decides p.main (codes "Main")).0 m.0;
       called = (bytes_decides p.call r.name).0 a.0;
       left_labels = x.0;
       right_labels = y.0;
@@ -130,8 +132,9 @@ pub accepts : (p : ProgramDrawing) → IsAccepted p → is_accepted p ≡ true
 accepts p a =
     let r = p.rule in
     let w = a.well_named in
-    together (pointwise nat_eq p.call r.name) _ ((bytes_decides p.call r.name).1 a.called)
-        (together (is_fit r.left) _ (fit_side r.left a.left_labels w.left_small w.once.left_nodes w.once.left_edges w.nodes.left_ends)
-        (together (is_fit r.right) _ (fit_side r.right a.right_labels w.right_small w.once.right_nodes w.once.right_edges w.nodes.right_ends)
-        (together (is_none (first_doubled r.interface)) _ (is_none_of _ w.once.interface)
-        (together (is_none (first_unknown (node_names r.left) r.interface)) _ (is_none_of _ (rw (side_nodes r.left) at w.interface.left)) (is_none_of _ (rw (side_nodes r.right) at w.interface.right))))))
+    together (pointwise nat_eq p.main (codes "Main")) _ ((bytes_decides p.main (codes "Main")).1 a.main)
+    (together (pointwise nat_eq p.call r.name) _ ((bytes_decides p.call r.name).1 a.called)
+    (together (is_fit r.left) _ (fit_side r.left a.left_labels w.left_small w.once.left_nodes w.once.left_edges w.nodes.left_ends)
+    (together (is_fit r.right) _ (fit_side r.right a.right_labels w.right_small w.once.right_nodes w.once.right_edges w.nodes.right_ends)
+    (together (is_none (first_doubled r.interface)) _ (is_none_of _ w.once.interface)
+    (together (is_none (first_unknown (node_names r.left) r.interface)) _ (is_none_of _ (rw (side_nodes r.left) at w.interface.left)) (is_none_of _ (rw (side_nodes r.right) at w.interface.right)))))))

@@ -1,6 +1,6 @@
 -- The parts that are built are those of the rule.
-use Rattle.std.proofs.Common.{◌≡◌, ℕ, zero, suc, ℤ, ◌+◌, ◌<◌, Bool, true, false, if◌then◌else◌, List, [], ◌∷◌, ◌++◌, map, length, get_or, slice_get, Option, Some, None, unwrap_or, refl, sym, ap, subst, ◌∙◌, arith, inl, inr}
-use Rattle.std.specs.Prelude.{◌⊎◌, ◌↔◌, is_some, ◌&&◌, IsTrue}
+use Rattle.std.proofs.Common.{◌≡◌, ℕ, zero, suc, ℤ, ◌<◌, Bool, true, false, if◌then◌else◌, List, [], ◌∷◌, ◌++◌, map, length, get_or, slice_get, Option, Some, None, refl, sym, ap, ◌∙◌, arith, inl, inr}
+use Rattle.std.specs.Prelude.{◌⊎◌, ◌↔◌, ◌&&◌, IsTrue}
 use Rattle.std.specs.List.{list_all}
 use Rattle.std.specs.Option.{option_map}
 use Rattle.gp_values.specs.declared.atom.Atom.{Atom}
@@ -16,11 +16,14 @@ use Rattle.gp_values.specs.declared.marks.NodeMark.TheVariants as node_marks
 use Rattle.gp_values.specs.declared.marks.EdgeMark.TheVariants as edge_marks
 use Rattle.gp_syntax.specs.declared.plain.PlainLeftEdge.{PlainLeftEdge}
 use Rattle.gp_syntax.specs.declared.plain.PlainRightEdge.{PlainRightEdge}
-use Rattle.gp_syntax.specs.Expression.{Expression, renamed, Marked}
-use Rattle.gp_syntax.specs.Plain.{constant, left_node_of, left_edge_of, right_node_of, right_edge_of}
+use Rattle.std.proofs.lemmas.Simd.{map-map}
+use Rattle.gp_syntax.specs.declared.plain.PlainRule.{PlainRule}
+use Rattle.gp_syntax.specs.Expression.{renamed, Marked, Holds}
+use Rattle.gp_syntax.specs.Plain.{constant, left_node_of, left_edge_of, right_node_of, right_edge_of, plain_rule}
 use Rattle.gp_parse.specs.Grammar.{RuleDrawing}
 use Rattle.gp_parse.specs.Program.{number_expression, label_expression, declared_node, declared_edge, declaration_of}
-use Rattle.gp_parse.specs.Build.{left_node, left_edge, right_node, right_edge, origin_in, tree_named, trees_turned, HasOrigin, KeepsOrigins}
+use Rattle.gp_parse.specs.Build.{left_node, left_edge, right_node, right_edge, origin_in, tree_named, trees_turned}
+use Rattle.gp_parse.specs.Keeps.{HasOrigin, KeepsOrigins}
 use Rattle.gp_parse.proofs.Accepts.{side_nodes, side_edges}
 
 -- what passes for each of a list passes for one of them
@@ -125,3 +128,13 @@ keeps_on right left p h k = record { kept = λ j q s. go j q (last left p j q s)
 
 pub is_kept : (right : List PlainRightNode) (p : PlainLeftNode) (n i : ℕ) (b : Bool) → p.kept ≡ b → n ≡ i → IsTrue b ↔ HasOrigin right i → (p.kept ≡ true) ↔ HasOrigin right n
 is_kept right p n i b e c h = rw (e, c) h
+
+-- a rule of the four parts is the rule of the drawing
+pub same_rule : (d : RuleDrawing) (r : PlainRule) → map left_node_of r.left_nodes.items ≡ map (left_node d) d.left.0 → map left_edge_of r.left_edges.items ≡ map (left_edge d) d.left.1
+    → map right_node_of r.right_nodes.items ≡ map (right_node d) d.right.0 → map right_edge_of r.right_edges.items ≡ map (right_edge d) d.right.1 → plain_rule r ≡ declared.rule_of (declaration_of d)
+same_rule d r a b c e =
+    let a' = a ∙ sym (map-map _ declared_node d.left.0) in
+    let b' = b ∙ sym (map-map _ declared_edge d.left.1) in
+    let c' = c ∙ sym (map-map _ declared_node d.right.0) in
+    let e' = e ∙ sym (map-map _ declared_edge d.right.1) in
+    λ i. record { types = []; left_nodes = a' i; left_edges = b' i; right_nodes = c' i; right_edges = e' i; condition = Holds }

@@ -1,13 +1,12 @@
 -- Items and commas, as a loop reads them.
-use Rattle.std.proofs.Common.{◌≡◌, ℕ, List, [], ◌∷◌, ◌++◌, map, length, Option, Some, None, true, false, refl, sym, ap, ◌∙◌, ◌<◌, ◌≤◌, subst, arith, append_assoc}
+use Rattle.std.proofs.Common.{◌≡◌, List, [], ◌∷◌, ◌++◌, length, Option, Some, None, true, false, refl, sym, ap, ◌∙◌, ◌<◌, arith}
 use Rattle.gp_tokens.specs.declared.token.Token.{Token}
 use Rattle.gp_grammar.specs.declared.want.Want.TheVariants as wants
 use Rattle.gp_grammar.specs.declared.error.ReadError.{ReadError}
 use Rattle.gp_grammar.specs.declared.error.ReadError.TheVariants as errors
-use Rattle.gp_grammar.specs.Reading.{Fails, token, begins, ◌>>=◌, many, all_of, made, separated, ◌and◌}
+use Rattle.gp_grammar.specs.Reading.{Fails, token, begins, many}
 use Rattle.std.proofs.lemmas.List.{map-append}
 use Rattle.gp_values.specs.Names.{Name}
-use Rattle.gp_grammar.specs.Shape.{first_of_all}
 use Rattle.gp_grammar.specs.Graph.{comma}
 use Rattle.gp_grammar.proofs.Loop.{IsOnTheWay, starts, goes_on, stops, ends}
 use Rattle.gp_parse.specs.Grammar.{texts}
@@ -28,10 +27,14 @@ begin tokens start first found r f e = record { first = first; start = start; re
 
 pub on : (tokens rest after : List Token) (x : Token) (found more : List Name) → begins comma rest ≡ true → next_item rest ≡ Some (x, after) → length after < length rest → more ≡ found ++ x.text ∷ [] → ReadsOn tokens found rest → ReadsOn tokens more after
 on tokens rest after x found more b r f e w = record {
-    first = w.first; start = w.start; read = w.read; fewer = w.fewer; others = w.others ++ x ∷ [];
-    texts_are = e ∙ ap (λ xs. xs ++ x.text ∷ []) w.texts_are ∙ ap (λ xs. w.first.text ∷ xs) (sym (map-append (λ (t : Token). t.text) w.others (x ∷ [])));
-    way = goes_on comma next_item w.start w.others rest x after b r f w.way;
-  }
+  first = w.first;
+  start = w.start;
+  read = w.read;
+  fewer = w.fewer;
+  others = w.others ++ x ∷ [];
+  texts_are = e ∙ ap (λ xs. xs ++ x.text ∷ []) w.texts_are ∙ ap (λ xs. w.first.text ∷ xs) (sym (map-append (λ (t : Token). t.text) w.others (x ∷ [])));
+  way = goes_on comma next_item w.start w.others rest x after b r f w.way;
+}
 
 -- what the first item and the others are together
 abbrev with_first : Token → Option (List Token × List Token) → Option (List Name × List Token)

@@ -1,9 +1,7 @@
 -- The tests that accept a program.
-use Rattle.std.specs.Prelude.{Bool, ◌&&◌, nat_le, nat_eq, List, map, length, is_none}
+use Rattle.std.specs.Prelude.{Bool, ◌&&◌, nat_le, nat_eq, length, is_none, codes}
 use Rattle.std.specs.Cmp.Lexicographic.{pointwise}
 use Rattle.gp_values.specs.Names.{first_doubled, first_unknown}
-use Rattle.gp_grammar.specs.declared.graph.NodeTree.{NodeTree}
-use Rattle.gp_grammar.specs.declared.graph.EdgeTree.{EdgeTree}
 use Rattle.gp_grammar.specs.Graph.{Drawing}
 use Rattle.gp_grammar.specs.Labels.{has_labels, node_names, edge_names}
 use Rattle.gp_parse.specs.Ends.{end_names}
@@ -29,4 +27,4 @@ abbrev pub is_fit_rule : RuleDrawing → Bool
 is_fit_rule r = is_fit r.left && (is_fit r.right && has_interface r)
 
 abbrev pub is_accepted : ProgramDrawing → Bool
-is_accepted p = pointwise nat_eq p.call p.rule.name && is_fit_rule p.rule
+is_accepted p = pointwise nat_eq p.main (codes "Main") && (pointwise nat_eq p.call p.rule.name && is_fit_rule p.rule)

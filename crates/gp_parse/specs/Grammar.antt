@@ -10,13 +10,13 @@ use Rattle.gp_grammar.specs.Shape.{Shape, Is, ◌then◌, Made, Either, Absent, 
 use Rattle.gp_grammar.specs.Graph.{Drawing, IsDrawing, comma}
 
 abbrev pub open_brace : Want
-open_brace = wants.OfKind kinds.OpenBrace
+open_brace = wants.Kind kinds.OpenBrace
 
 abbrev pub close_brace : Want
-close_brace = wants.OfKind kinds.CloseBrace
+close_brace = wants.Kind kinds.CloseBrace
 
 abbrev pub equal : Want
-equal = wants.OfKind kinds.Equal
+equal = wants.Kind kinds.Equal
 
 abbrev pub texts : List Token → List Name
 texts ts = map (λ (t : Token). t.text) ts
@@ -38,17 +38,18 @@ rule_drawing (name, (_, (_, (left, (_, (right, (_, (_, (_, (interface, _))))))))
 -- RuleDecl = RuleName "(" ")" Graph "=>" Graph "interface" "=" "{" [Item {"," Item}] "}"
 abbrev pub IsRuleDrawing : Shape RuleDrawing
 IsRuleDrawing =
-    Made rule_drawing (Is wants.RuleName then Is (wants.OfKind kinds.OpenParenthesis) then Is (wants.OfKind kinds.CloseParenthesis) then IsDrawing
-        then Is (wants.OfKind kinds.Arrow) then IsDrawing then Is (wants.Word keywords.Interface) then Is equal then Is open_brace then IsInterface then Is close_brace)
+    Made rule_drawing (Is wants.RuleName then Is (wants.Kind kinds.OpenParenthesis) then Is (wants.Kind kinds.CloseParenthesis) then IsDrawing
+    then Is (wants.Kind kinds.Arrow) then IsDrawing then Is (wants.Keyword keywords.Interface) then Is equal then Is open_brace then IsInterface then Is close_brace)
 
--- the name that Main calls, and the rule
+-- the name of the procedure, the name that it calls, and the rule
 pub record ProgramDrawing : Type 0 where
+  pub main : Name
   pub call : Name
   pub rule : RuleDrawing
 
 abbrev pub program_drawing : Token × (Token × (Token × RuleDrawing)) → ProgramDrawing
-program_drawing (_, (_, (call, rule))) = record { call = call.text; rule = rule }
+program_drawing (main, (_, (call, rule))) = record { main = main.text; call = call.text; rule = rule }
 
--- Program = "Main" "=" RuleName RuleDecl
+-- Program = ProcName "=" RuleName RuleDecl
 abbrev pub IsProgramDrawing : Shape ProgramDrawing
-IsProgramDrawing = Made program_drawing (Is wants.Main then Is equal then Is wants.RuleName then IsRuleDrawing)
+IsProgramDrawing = Made program_drawing (Is wants.ProcedureName then Is equal then Is wants.RuleName then IsRuleDrawing)

@@ -5,3 +5,4 @@ pub mod Program
 pub mod Ends
 pub mod Accepted
 pub mod Build
+pub mod Keeps

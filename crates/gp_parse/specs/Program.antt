@@ -1,5 +1,5 @@
 -- The program texts that are accepted today, and the programs that they are.
-use Rattle.std.specs.Prelude.{◌≡◌, ℕ, ℤ, Bool, true, false, if◌then◌else◌, List, [], ◌∷◌, map, Option, Some, None, Result, Ok, Err}
+use Rattle.std.specs.Prelude.{◌≡◌, ℕ, ℤ, true, false, List, [], ◌∷◌, map, codes, Option, Some, None, Result, Ok, Err}
 use Rattle.gp_values.specs.Names.{Name}
 use Rattle.gp_tokens.specs.declared.token.Token.{Token}
 use Rattle.gp_tokens.specs.Lexed.{tokens_of}
@@ -16,7 +16,11 @@ use Rattle.gp_syntax.specs.Run.{Program, Call}
 use Rattle.gp_syntax.specs.Plain.{plain_rule, IsPlain}
 use Rattle.gp_parse.specs.declared.program.ProgramRefusal.{ProgramRefusal}
 use Rattle.gp_parse.specs.declared.program.ProgramRefusal.TheVariants as refusals
+use Rattle.gp_values.specs.declared.memory.NoMemory.{NoMemory}
+use Rattle.gp_parse.specs.declared.reading.ProgramTree.{ProgramTree}
 use Rattle.gp_parse.specs.Grammar.{RuleDrawing, ProgramDrawing, IsProgramDrawing}
+use Rattle.gp_parse.specs.Seen.{program_seen}
+use Rattle.gp_parse.specs.Keeps.{KeepsOrigins}
 
 -- ---- from the drawing to the declaration
 
@@ -46,8 +50,9 @@ declaration_of r = record { name = r.name; variables = []; left = side_of r.left
 abbrev pub calls_once : Rule → Program
 calls_once r = record { main = Call 0; procedures = []; sets = (0 ∷ []) ∷ []; rules = r ∷ [] }
 
--- Main calls the rule that is declared, labels are in range, and the static clauses of names and sizes hold
+-- it is Main that calls, and calls the rule that is declared; labels are in range, and the static clauses of names and sizes hold
 pub record IsAccepted (p : ProgramDrawing) : Type 0 where
+  pub main : p.main ≡ codes "Main"
   pub called : p.call ≡ p.rule.name
   pub left_labels : has_labels p.rule.left ≡ true
   pub right_labels : has_labels p.rule.right ≡ true
@@ -71,3 +76,25 @@ abbrev pub ReadsProgram : List ℕ → Result PlainRule ProgramRefusal → Type 
 ReadsProgram bytes (Ok r) = IsReadRule bytes r
 ReadsProgram bytes (Err refusals.NotYet) = (p : Program) → IsProgramText bytes p → ⊥
 ReadsProgram bytes (Err refusals.NoMemory) = Unit {0}
+
+-- ---- what the parts of the reader do
+
+-- the text is a drawing
+pub record IsDrawnBy (bytes : List ℕ) (p : ProgramDrawing) : Type 0 where
+  pub tokens : List Token
+  pub lexed : tokens_of bytes ≡ Ok tokens
+  pub shape : IsProgramDrawing tokens [] p
+
+abbrev pub ReadsDrawing : List ℕ → Result ProgramTree ProgramRefusal → Type 0
+ReadsDrawing bytes (Ok t) = IsDrawnBy bytes (program_seen t)
+ReadsDrawing bytes (Err refusals.NotYet) = (p : ProgramDrawing) → IsDrawnBy bytes p → ⊥
+ReadsDrawing bytes (Err refusals.NoMemory) = Unit {0}
+
+-- the rule is that of the drawing
+pub record IsBuilt (d : RuleDrawing) (r : PlainRule) : Type 0 where
+  pub rule : plain_rule r ≡ rule_of (declaration_of d)
+  pub kept : KeepsOrigins r.right_nodes.items r.left_nodes.items
+
+abbrev pub BuildsRule : RuleDrawing → Result PlainRule NoMemory → Type 0
+BuildsRule d (Ok r) = IsBuilt d r
+BuildsRule d (Err e) = Unit {0}

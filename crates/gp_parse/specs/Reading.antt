@@ -5,7 +5,7 @@ use Rattle.gp_tokens.specs.declared.keyword.Keyword.TheVariants as keywords
 use Rattle.gp_tokens.specs.declared.token.Kind.TheVariants as kinds
 use Rattle.gp_tokens.specs.declared.token.Token.{Token}
 use Rattle.gp_grammar.specs.declared.want.Want.TheVariants as wants
-use Rattle.gp_grammar.specs.Reading.{Reader, token, ◌and◌, made, at, absent, all_of, separated}
+use Rattle.gp_grammar.specs.Reading.{Reader, token, ◌and◌, made, at, absent, repeated, separated}
 use Rattle.gp_grammar.specs.Shape.{second_of}
 use Rattle.gp_grammar.specs.Graph.{comma}
 use Rattle.gp_grammar.specs.GraphReading.{drawing}
@@ -16,7 +16,7 @@ unfoldable pub next_item : Reader Token
 next_item = made second_of (token comma and token wants.Item)
 
 unfoldable pub next_items : Reader (List Token)
-next_items = all_of comma next_item
+next_items = repeated comma next_item
 
 unfoldable pub items : Reader (List Name)
 items = made texts (separated comma (token wants.Item))
@@ -25,8 +25,8 @@ unfoldable pub interface : Reader (List Name)
 interface = at wants.Item items (absent [])
 
 unfoldable pub rule : Reader RuleDrawing
-rule = made rule_drawing (token wants.RuleName and token (wants.OfKind kinds.OpenParenthesis) and token (wants.OfKind kinds.CloseParenthesis) and drawing
-    and token (wants.OfKind kinds.Arrow) and drawing and token (wants.Word keywords.Interface) and token equal and token open_brace and interface and token close_brace)
+rule = made rule_drawing (token wants.RuleName and token (wants.Kind kinds.OpenParenthesis) and token (wants.Kind kinds.CloseParenthesis) and drawing
+    and token (wants.Kind kinds.Arrow) and drawing and token (wants.Keyword keywords.Interface) and token equal and token open_brace and interface and token close_brace)
 
 unfoldable pub program : Reader ProgramDrawing
-program = made program_drawing (token wants.Main and token equal and token wants.RuleName and rule)
+program = made program_drawing (token wants.ProcedureName and token equal and token wants.RuleName and rule)

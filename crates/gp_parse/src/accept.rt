@@ -14,6 +14,7 @@ use gp_grammar::{EdgeTree, GraphTree, NodeTree, Numeral};
 
 /// The greatest numbers of nodes and of edges of a side.
 const MOST_NODES: usize = 32;
+
 const MOST_EDGES: usize = 64;
 
 fn has_list(label: &Option<Numeral>) -> bool
@@ -107,5 +108,7 @@ fn is_fit_rule(rule: &RuleTree) -> bool
 pub(crate) fn is_accepted(tree: &ProgramTree) -> bool
     ensures { result ≡ spec.is_accepted (program_seen tree.now) }
 {
-    tree.call.as_bytes() == tree.rule.name.as_bytes() && is_fit_rule(&tree.rule)
+    tree.main.as_bytes() == b"Main".as_slice()
+        && tree.call.as_bytes() == tree.rule.name.as_bytes()
+        && is_fit_rule(&tree.rule)
 }

@@ -8,7 +8,7 @@ ghost use Rattle.gp_syntax.specs.Plain.{left_node_of, left_edge_of, right_node_o
 ghost use Rattle.gp_values.specs.Names.{same_name};
 ghost use Rattle.gp_syntax.specs.Declaration.{place_in};
 ghost use Rattle.gp_parse.specs.Build as spec;
-ghost use Rattle.gp_parse.specs.Build.{HasOrigin, KeepsOrigins};
+ghost use Rattle.gp_parse.specs.Keeps.{HasOrigin, KeepsOrigins};
 ghost use Rattle.gp_parse.specs.Seen.{rule_seen};
 
 use crate::names::{has_name, place_of};
@@ -71,7 +71,12 @@ fn is_origin(right: &[PlainRightNode], place: usize) -> bool
     false
 }
 
-fn left_node(alloc: Global, rule: &RuleTree, node: &NodeTree, kept: bool) -> Result<PlainLeftNode, NoMemory>
+fn left_node(
+    alloc: Global,
+    rule: &RuleTree,
+    node: &NodeTree,
+    kept: bool,
+) -> Result<PlainLeftNode, NoMemory>
     requires { is_some (label_of node.now.label) ≡ true }
     ensures node { IfOk result (λ p. left_node_of p ≡ spec.left_node (rule_seen rule.now) node.now) }
     ensures kept { IfOk result (λ p. p.kept ≡ kept) }
@@ -111,7 +116,11 @@ fn left_edge(alloc: Global, rule: &RuleTree, edge: &EdgeTree) -> Result<PlainLef
     let label = label(alloc, &edge.label)?;
     let source = end_place(&rule.left.nodes, &edge.source);
     let target = end_place(&rule.left.nodes, &edge.target);
-    Ok(PlainLeftEdge { source, target, label })
+    Ok(PlainLeftEdge {
+        source,
+        target,
+        label,
+    })
 }
 
 /// The edges of the left side.
@@ -161,7 +170,13 @@ fn right_edge(alloc: Global, rule: &RuleTree, edge: &EdgeTree) -> Result<PlainRi
     let turned = was_turned(&rule.left.edges, edge);
     let source = end_place(&rule.right.nodes, &edge.source);
     let target = end_place(&rule.right.nodes, &edge.target);
-    Ok(PlainRightEdge { origin, turned, source, target, label })
+    Ok(PlainRightEdge {
+        origin,
+        turned,
+        source,
+        target,
+        label,
+    })
 }
 
 // Whether the left edge of its name is written with the two names exchanged.

@@ -7,4 +7,4 @@ mod names;
 mod program;
 mod reading;
 
-pub use program::ProgramRefusal;
+pub use program::{ProgramRefusal, read_program};

@@ -1,8 +1,17 @@
 //! Program texts.
 
-ghost use Rattle.gp_parse.specs.Program.{ReadsProgram};
+ghost use Rattle.std.specs.Prelude.{◌≡◌, true};
+ghost use Rattle.gp_parse.specs.Program.{ReadsProgram, ReadsDrawing, BuildsRule, IsAccepted};
+ghost use Rattle.gp_parse.specs.Accepted as spec;
+ghost use Rattle.gp_parse.specs.Seen.{rule_seen, program_seen};
 
+use crate::accept::is_accepted;
+use crate::build::{left_edges, left_nodes, right_edges, right_nodes};
+use crate::reading::{ProgramTree, RuleTree, read_tree};
+use gp_grammar::ReadError;
 use gp_syntax::PlainRule;
+use gp_tokens::{LexFault, lex};
+use gp_values::NoMemory;
 use std::alloc::Global;
 
 /// Why a text is not run as a program.
@@ -12,4 +21,51 @@ pub enum ProgramRefusal {
     NotYet,
     /// Memory was refused.
     NoMemory,
+}
+
+// The tree of the text, with no token behind it.
+fn read_drawing(alloc: Global, text: &[u8]) -> Result<ProgramTree, ProgramRefusal>
+    ensures { ReadsDrawing text.now result }
+{
+    let tokens = match lex(alloc, text) {
+        Ok(tokens) => tokens,
+        Err(LexFault::NoMemory) => return Err(ProgramRefusal::NoMemory),
+        Err(_) => return Err(ProgramRefusal::NotYet),
+    };
+    match read_tree(alloc, &tokens) {
+        Ok((tree, rest)) if rest.is_empty() => Ok(tree),
+        Ok(_) => Err(ProgramRefusal::NotYet),
+        Err(ReadError::NoMemory) => Err(ProgramRefusal::NoMemory),
+        Err(ReadError::Syntax(_)) => Err(ProgramRefusal::NotYet),
+    }
+}
+
+fn build(alloc: Global, rule: &RuleTree) -> Result<PlainRule, NoMemory>
+    requires { spec.is_fit_rule (rule_seen rule.now) ≡ true }
+    ensures { BuildsRule (rule_seen rule.now) result }
+{
+    let right_nodes = right_nodes(alloc, rule)?;
+    let left_nodes = left_nodes(alloc, rule, &right_nodes)?;
+    let left_edges = left_edges(alloc, rule)?;
+    let right_edges = right_edges(alloc, rule)?;
+    Ok(PlainRule {
+        left_nodes,
+        left_edges,
+        right_nodes,
+        right_edges,
+    })
+}
+
+/// The rule of a program that calls one rule once.
+pub fn read_program(alloc: Global, text: &[u8]) -> Result<PlainRule, ProgramRefusal>
+    ensures { ReadsProgram text.now result }
+{
+    let tree = read_drawing(alloc, text)?;
+    if !is_accepted(&tree) {
+        return Err(ProgramRefusal::NotYet);
+    }
+    match build(alloc, &tree.rule) {
+        Ok(rule) => Ok(rule),
+        Err(NoMemory) => Err(ProgramRefusal::NoMemory),
+    }
 }

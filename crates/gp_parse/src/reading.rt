@@ -9,7 +9,7 @@ use gp_grammar::{GraphTree, ReadError, Want, begins, read_graph, token};
 use gp_tokens::{Keyword, Kind, Text, Token};
 use std::alloc::Global;
 
-const COMMA: Want = Want::OfKind(Kind::Comma);
+const COMMA: Want = Want::Kind(Kind::Comma);
 
 /// A rule as it is drawn, with the names of its interface.
 #[derive(Drop)]
@@ -20,9 +20,10 @@ pub(crate) struct RuleTree {
     pub interface: Vec<Text>,
 }
 
-/// The name that Main calls, and the rule.
+/// The name that is declared to call a rule, the name that it calls, and the rule.
 #[derive(Drop)]
 pub(crate) struct ProgramTree {
+    pub main: Text,
     pub call: Text,
     pub rule: RuleTree,
 }
@@ -69,29 +70,41 @@ fn read_rule(alloc: Global, tokens: &[Token]) -> Result<(RuleTree, &[Token]), Re
     ensures gives { Gives (λ x. (rule_seen x.0, x.1.now)) result (spec.rule tokens.now) }
 {
     let (name, rest) = token(tokens, Want::RuleName)?;
-    let (_, rest) = token(rest, Want::OfKind(Kind::OpenParenthesis))?;
-    let (_, rest) = token(rest, Want::OfKind(Kind::CloseParenthesis))?;
+    let (_, rest) = token(rest, Want::Kind(Kind::OpenParenthesis))?;
+    let (_, rest) = token(rest, Want::Kind(Kind::CloseParenthesis))?;
     let (left, rest) = read_graph(alloc, rest)?;
-    let (_, rest) = token(rest, Want::OfKind(Kind::Arrow))?;
+    let (_, rest) = token(rest, Want::Kind(Kind::Arrow))?;
     let (right, rest) = read_graph(alloc, rest)?;
-    let (_, rest) = token(rest, Want::Word(Keyword::Interface))?;
-    let (_, rest) = token(rest, Want::OfKind(Kind::Equal))?;
-    let (_, rest) = token(rest, Want::OfKind(Kind::OpenBrace))?;
+    let (_, rest) = token(rest, Want::Keyword(Keyword::Interface))?;
+    let (_, rest) = token(rest, Want::Kind(Kind::Equal))?;
+    let (_, rest) = token(rest, Want::Kind(Kind::OpenBrace))?;
     let (interface, rest) = read_interface(alloc, rest)?;
-    let (_, rest) = token(rest, Want::OfKind(Kind::CloseBrace))?;
+    let (_, rest) = token(rest, Want::Kind(Kind::CloseBrace))?;
     let name = name.text.copy(alloc)?;
-    Ok((RuleTree { name, left, right, interface }, rest))
+    Ok((
+        RuleTree {
+            name,
+            left,
+            right,
+            interface,
+        },
+        rest,
+    ))
 }
 
 /// The program at the front of the tokens, and the tokens behind it.
 #[tactic(auto, unfolding(crate::specs::Reading::program))]
-pub(crate) fn read_tree(alloc: Global, tokens: &[Token]) -> Result<(ProgramTree, &[Token]), ReadError>
+pub(crate) fn read_tree(
+    alloc: Global,
+    tokens: &[Token],
+) -> Result<(ProgramTree, &[Token]), ReadError>
     ensures gives { Gives (λ x. (program_seen x.0, x.1.now)) result (spec.program tokens.now) }
 {
-    let (_, rest) = token(tokens, Want::Main)?;
-    let (_, rest) = token(rest, Want::OfKind(Kind::Equal))?;
+    let (main, rest) = token(tokens, Want::ProcedureName)?;
+    let (_, rest) = token(rest, Want::Kind(Kind::Equal))?;
     let (call, rest) = token(rest, Want::RuleName)?;
     let (rule, rest) = read_rule(alloc, rest)?;
+    let main = main.text.copy(alloc)?;
     let call = call.text.copy(alloc)?;
-    Ok((ProgramTree { call, rule }, rest))
+    Ok((ProgramTree { main, call, rule }, rest))
 }

@@ -1,4 +1,3 @@
-use Rattle.std.proofs.Common.{arith}
 use Rattle.std.specs.Prelude.{is_some}
 use Rattle.gp_grammar.specs.declared.graph.EdgeTree.{EdgeTree}
 use Rattle.gp_grammar.specs.Labels.{label_of}
@@ -8,4 +7,4 @@ use Rattle.gp_parse.proofs.build.left_edges.Goals as goal
 pub left_edge-requires : goal.left_edge-requires
 left_edge-requires c =
     passes (λ l. is_some (label_of l)) (λ (t : EdgeTree). t.label) c.args.rule.now.left.edges.items c.loop-edge.edge-index c.edge-item.result c.requires
-        (rw c.deref-edge-items.ensures.value at c.loop-edge-test.true) (rw c.deref-edge-items.ensures.value at c.edge-item.is)
+    (rw c.deref-edge-items.ensures.value at c.loop-edge-test.true) (rw c.deref-edge-items.ensures.value at c.edge-item.is)

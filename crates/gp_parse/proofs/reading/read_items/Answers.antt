@@ -19,7 +19,7 @@ returns-in_err-item-clause-gives c =
 pub each-preserved : goal.each-preserved
 each-preserved c =
     on c.args.tokens.now c.each.rest.now c.in_ok-item.after.now c.in_ok-item.item.now c.each.found.items _ (sym c.begins.ensures ∙ c.each-test.true) c.in_ok-item.ensures.gives c.in_ok-item.ensures.shorter
-        (rw (c.in_ok-push-2.ensures.items, c.in_ok-copy-2.ensures) refl) c.each.invariant
+    (rw (c.in_ok-push-2.ensures.items, c.in_ok-copy-2.ensures) refl) c.each.invariant
 
 pub returns-clause-gives : goal.returns-clause-gives
 returns-clause-gives c = end c.args.tokens.now c.each.rest.now c.each.found.items (sym c.begins.ensures ∙ c.each-test.false) c.each.invariant
