@@ -1,17 +1,13 @@
 -- What any list of events does to a legal core.
-use Rattle.std.proofs.Common.{◌≡◌, ℕ, zero, suc, ◌+◌, ◌^◌, ◌<◌, ◌≤◌, ◌⊎◌, inl, inr, List, [], ◌∷◌, ◌++◌, Bool, true, false, Option, Some, None, length, replicate, refl, sym, ◌∙◌, ap, subst, arith, append-nil, append_assoc}
+use Rattle.std.proofs.Common.{◌≡◌, ℕ, zero, suc, ◌^◌, ◌<◌, ◌≤◌, inl, inr, List, [], ◌∷◌, ◌++◌, false, Option, Some, length, refl, sym, ◌∙◌, ap, subst, arith, append-nil, append_assoc}
 use Rattle.std.proofs.lemmas.List.{length-replicate}
-use Rattle.opt_system.specs.declared.answers.Mode.{Mode}
-use Rattle.opt_system.specs.declared.answers.Mode.TheVariants.{Once, Saturate}
-use Rattle.opt_system.specs.Meaning.{Meaning, Judged, applies, undone_by, IsLawful}
+use Rattle.opt_system.specs.declared.answers.Mode.TheVariants.{Once}
+use Rattle.opt_system.specs.Meaning.{Meaning, undone_by, IsLawful}
 use Rattle.opt_core.specs.declared.event.Ending.{Ending}
-use Rattle.opt_core.specs.declared.event.Ending.TheVariants as ending
-use Rattle.opt_core.specs.declared.event.Reply.{Reply}
 use Rattle.opt_core.specs.declared.event.Reply.TheVariants as reply
-use Rattle.opt_core.specs.declared.event.Event.{Event}
-use Rattle.opt_core.specs.Core.{Core, Legal, reached, AllApply, IsUsed, IsEnding, IsLegal}
-use Rattle.opt_core.specs.Steps.{MayCome, Answers, AnswersWith, IsFresh}
-use Rattle.opt_core.specs.Runs.{Turn, Each, commits, committed_by, SameStart, StayClosed, Run, Says, IsSound, EveryRunIsSound, EveryRunFromStart, BaseIsBack}
+use Rattle.opt_core.specs.Core.{Core, Legal, reached, AllApply, IsEnding}
+use Rattle.opt_core.specs.Steps.{AnswersWith, IsFresh}
+use Rattle.opt_core.specs.Runs.{Turn, Each, commits, committed_by, SameStart, Run, IsSound, EveryRunIsSound, EveryRunFromStart, BaseIsBack}
 use Rattle.opt_core.proofs.Legal.{none_open, used_none}
 use Rattle.opt_core.proofs.Turns.{IsTurn, turn}
 
@@ -33,8 +29,11 @@ module _ {System State Found Goal Reason : Type 0} where
 module _ {System State Found Goal Reason : Type 0} (m : Meaning State Found Goal Reason) where
   -- a goal of one match has one entry at most
   at_most_one : (c : Core System State Found Goal Reason) → Legal m c → m.mode c.goal ≡ Once → length c.entries ≤ 1
-  at_most_one c l once = elim (l.one_at_most once) [ inl e ↦ (let n : length c.entries ≡ 0 = ap length e in omega arith) | inr e ↦
-      (let n = subst (λ (o : Option (Ending Reason)). IsEnding m c.goal c.state c.entries c.quiet c.given c.left o) e l.ended in let k = n.1 in omega arith) ]
+  at_most_one c l once = elim (l.one_at_most once) [
+    | inl e ↦ (let n : length c.entries ≡ 0 = ap length e in omega arith)
+    | inr e ↦
+        (let n = subst (λ (o : Option (Ending Reason)). IsEnding m c.goal c.state c.entries c.quiet c.given c.left o) e l.ended in let k = n.1 in omega arith)
+  ]
 
   -- an ended core stays, and answers its ending
   shut : (c d : Core System State Found Goal Reason) (ts : List (Turn System State Found Goal Reason)) (x : Ending Reason) → Run m c ts d → c.ending ≡ Some x → Each (λ u. u.reply ≡ reply.Closed x) ts × (d ≡ c)
@@ -54,19 +53,19 @@ module _ {System State Found Goal Reason : Type 0} (m : Meaning State Found Goal
     entries_are = sym (append-nil c.entries);
     once = at_most_one c l;
     closed = tt;
-    })
+  })
 
   one_more : (t : Turn System State Found Goal Reason) (ts : List (Turn System State Found Goal Reason)) (d : Core System State Found Goal Reason) → Legal m t.before
       → IsTurn m t.before t.event t.reply t.after → Run m t.after ts d → IsSound m t.after ts d → IsSound m t.before (t ∷ ts) d
   one_more t ts d l one run rest =
       let start = starts one.start rest.start in record {
-      legal = (one.legal, rest.legal);
-      legal_end = rest.legal_end;
-      start = start;
-      answers = (one.says, rest.answers);
-      entries_are = rest.entries_are ∙ ap (λ (fs : List Found). fs ++ commits ts) one.adds ∙ append_assoc t.before.entries (committed_by t.event t.reply) (commits ts);
-      once = λ once. at_most_one d rest.legal_end (ap m.mode start.goal ∙ once);
-      closed = ((λ x is. shut t.after d ts x run is), rest.closed);
+        legal = (one.legal, rest.legal);
+        legal_end = rest.legal_end;
+        start = start;
+        answers = (one.says, rest.answers);
+        entries_are = rest.entries_are ∙ ap (λ (fs : List Found). fs ++ commits ts) one.adds ∙ append_assoc t.before.entries (committed_by t.event t.reply) (commits ts);
+        once = λ once. at_most_one d rest.legal_end (ap m.mode start.goal ∙ once);
+        closed = ((λ x is. shut t.after d ts x run is), rest.closed);
       }
 
   sound : IsLawful m → (c d : Core System State Found Goal Reason) (ts : List (Turn System State Found Goal Reason)) → Legal m c → Run m c ts d → IsSound m c ts d
@@ -75,7 +74,7 @@ module _ {System State Found Goal Reason : Type 0} (m : Meaning State Found Goal
       let before = subst (λ (y : Core System State Found Goal Reason). Legal m y) (sym run.0) l in
       let one = turn m t.before t.after t.event t.reply lawful before run.1 run.2 in
       subst (λ (y : Core System State Found Goal Reason). IsSound m y (t ∷ ts) d) run.0
-          (one_more t ts d before one run.3 (sound lawful t.after d ts one.legal run.3))
+      (one_more t ts d before one run.3 (sound lawful t.after d ts one.legal run.3))
 
   -- a core that was just started is legal
   fresh : IsLawful m → (c : Core System State Found Goal Reason) (s : System) (base : State) (goal : Goal) (left : ℕ) → m.shares goal < 2 ^ 32 → left < 2 ^ 64 → IsFresh m c s base goal left → Legal m c
@@ -88,7 +87,7 @@ module _ {System State Found Goal Reason : Type 0} (m : Meaning State Found Goal
     narrow = rw length-replicate few;
     bounded = bounded;
     ended = none_open m goal base [] (m.shares goal) left left (lawful.some_share goal);
-    })
+  })
 
 module _ (System : Type 0) {State Found Goal Reason : Type 0} (m : Meaning State Found Goal Reason) where
   pub every_run : IsLawful m → EveryRunIsSound System m

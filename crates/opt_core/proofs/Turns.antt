@@ -1,19 +1,17 @@
 -- What one event does to a legal core.
-use Rattle.std.proofs.Common.{◌≡◌, ◌≢◌, ℕ, zero, suc, ◌+◌, ◌-◌, ◌*◌, ◌^◌, ◌<◌, ◌≤◌, ◌⊎◌, inl, inr, List, [], ◌∷◌, ◌++◌, Bool, true, false, Option, Some, None, length, get_or, set, take, drop, refl, sym, ◌∙◌, ap, subst, arith, append-nil, length-set}
+use Rattle.std.proofs.Common.{◌≡◌, ◌≢◌, ℕ, ◌<◌, ◌≤◌, ◌⊎◌, inl, inr, List, [], ◌++◌, true, Option, Some, None, length, set, refl, sym, ◌∙◌, ap, subst, arith, append-nil}
 use Rattle.std.proofs.lemmas.List.{take_all}
-use Rattle.opt_system.specs.declared.answers.Mode.{Mode}
-use Rattle.opt_system.specs.declared.answers.Mode.TheVariants.{Once, Saturate}
-use Rattle.opt_system.specs.Meaning.{Meaning, Judged, applies, faulty, neither, Barren, IsLawful}
+use Rattle.opt_system.specs.Meaning.{Meaning, applies, faulty, Barren, IsLawful}
 use Rattle.opt_core.specs.declared.event.Ending.{Ending}
 use Rattle.opt_core.specs.declared.event.Ending.TheVariants as ending
 use Rattle.opt_core.specs.declared.event.Reply.{Reply}
 use Rattle.opt_core.specs.declared.event.Reply.TheVariants as reply
 use Rattle.opt_core.specs.declared.event.Event.{Event}
 use Rattle.opt_core.specs.declared.event.Event.TheVariants as event
-use Rattle.opt_core.specs.Core.{Core, Legal, reached, AllApply, IsUsed, IsEnding, IsLegal, at_first}
+use Rattle.opt_core.specs.Core.{Core, Legal, reached, IsEnding, IsLegal, at_first}
 use Rattle.opt_core.specs.Shares.{AllQuiet}
-use Rattle.opt_core.specs.Steps.{MayCome, Answers, AnswersWith, AnswersRunning, AnswersLook, AnswersOffer, AnswersFault, AnswersQuiet, AnswersStop, IsStale, with_ending, with_quiet, with_entry}
-use Rattle.opt_core.specs.Runs.{Says, SameStart, committed_by, at_end, IsOutdated}
+use Rattle.opt_core.specs.Steps.{MayCome, Answers, AnswersWith, AnswersRunning, AnswersLook, AnswersOffer, AnswersFault, AnswersQuiet, AnswersStop, with_ending, with_quiet, with_entry}
+use Rattle.opt_core.specs.Runs.{Says, SameStart, committed_by, at_end}
 use Rattle.opt_core.proofs.Legal.{commits, quietens, ends, blocked}
 
 module _ {Reason : Type 0} where
@@ -68,7 +66,7 @@ module _ {System State Found Goal Reason : Type 0} (m : Meaning State Found Goal
       says = (refl, ending_says (with_ending b x) x l refl, same, stop);
       start = record { system = start.system; base = start.base; goal = start.goal; given = start.given };
       adds = subst (λ (fs : List Found). b.entries ≡ c.entries ++ fs) (sym (closed_none e x)) (same ∙ adds_none c);
-      }
+    }
 
     closes : {d : Core System State Found Goal Reason} {y : Ending Reason} → SameStart c b → b.entries ≡ c.entries → Legal m (with_ending b x)
         → (x ≡ ending.Stopped → (e ≡ event.Stop) ⊎ (c.ending ≡ Some ending.Stopped)) → y ≡ x → d ≡ with_ending b x → IsTurn c e (reply.Closed y) d
@@ -101,7 +99,7 @@ module _ {System State Found Goal Reason : Type 0} (m : Meaning State Found Goal
       says = (told, f, refl, place, subst (λ (s : State). m.judged c.goal s f ≡ applies) l.at_all now, refl);
       start = record { system = refl; base = refl; goal = refl; given = refl };
       adds = refl;
-      }
+    }
 
     offered : (d : Core System State Found Goal Reason) (told : ℕ) (f : Found) (r : Reply Found Reason) → AnswersOffer m c told f r d → IsTurn c (event.Offer told f) r d
     offered d told f (reply.Committed p) g = subst (λ (d : Core System State Found Goal Reason). IsTurn c (event.Offer told f) (reply.Committed p) d) (sym g.3) (commits_here told p f g.0 g.1 g.2)
@@ -128,16 +126,16 @@ module _ {System State Found Goal Reason : Type 0} (m : Meaning State Found Goal
       says = (told, share, refl, all, subst (λ (s : State). Barren m c.goal share s) l.at_all barren, open_, refl);
       start = record { system = refl; base = refl; goal = refl; given = refl };
       adds = adds_none c;
-      }
+    }
 
     quieted : (d : Core System State Found Goal Reason) (told share : ℕ) (r : Reply Found Reason) → Barren m c.goal share (at_first m c told) → AnswersQuiet m c told share r d → IsTurn c (event.Quiet told share) r d
     quieted d told share reply.Noted barren g = subst (λ (d : Core System State Found Goal Reason). IsTurn c (event.Quiet told share) reply.Noted d) (sym g.1)
         (noted_here told share g.0 (subst (λ (s : State). Barren m c.goal share s) (told_all c told l (let e = g.0 in omega arith)) barren)
-            (subst (λ (d : Core System State Found Goal Reason). AllQuiet d.quiet → ⊥) g.1 g.2))
+        (subst (λ (d : Core System State Found Goal Reason). AllQuiet d.quiet → ⊥) g.1 g.2))
     quieted d told share (reply.Stale n) barren g = stays c _ _ l (g.0, g.1, refl) refl g.2
     quieted d told share (reply.Closed x) barren g = closes c (with_quiet c share) _ ending.Blocked (record { system = refl; base = refl; goal = refl; given = refl }) refl
         (blocked m c.goal c.base c.state c.entries c.quiet c.given c.left share lawful (runs c l open_) (subst (λ (s : State). Barren m c.goal share s) (told_all c told l (let e = g.0 in omega arith)) barren)
-            (subst (λ (d : Core System State Found Goal Reason). AllQuiet d.quiet) g.2 g.3))
+        (subst (λ (d : Core System State Found Goal Reason). AllQuiet d.quiet) g.2 g.3))
         (λ e. absurd (blocked_stopped refl e)) g.1 g.2
     quieted d told share reply.NoMemory barren g = absurd g
     quieted d told share (reply.Committed p) barren g = absurd g

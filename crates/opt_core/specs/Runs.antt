@@ -1,9 +1,8 @@
 -- Lists of events, and what their answers say. An event names no sender: whoever sends it was told of some number of
 -- entries, and any number of senders may have been told of any numbers.
-use Rattle.std.specs.Prelude.{◌≡◌, ◌≢◌, ℕ, ◌^◌, ◌<◌, ◌≤◌, ◌⊎◌, List, [], ◌∷◌, ◌++◌, Option, Some, None, length, drop}
-use Rattle.opt_system.specs.Meaning.{Meaning, Judged, applies, faulty, Barren, undone_by}
-use Rattle.opt_system.specs.declared.answers.Mode.{Mode}
-use Rattle.opt_system.specs.declared.answers.Mode.TheVariants.{Once, Saturate}
+use Rattle.std.specs.Prelude.{◌≡◌, ◌≢◌, ℕ, ◌^◌, ◌<◌, ◌≤◌, ◌⊎◌, List, [], ◌∷◌, ◌++◌, Some, None, length, drop}
+use Rattle.opt_system.specs.Meaning.{Meaning, applies, faulty, Barren, undone_by}
+use Rattle.opt_system.specs.declared.answers.Mode.TheVariants.{Once}
 use Rattle.opt_core.specs.declared.event.Ending.{Ending}
 use Rattle.opt_core.specs.declared.event.Ending.TheVariants as ending
 use Rattle.opt_core.specs.declared.event.Reply.{Reply}

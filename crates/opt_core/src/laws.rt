@@ -10,11 +10,9 @@ use opt_system::System;
 pub fn every_run_is_sound<S: System>()
     ensures legal_core { (s : S) → EveryRunIsSound S (S.means s) }
     ensures from_start { (s : S) → EveryRunFromStart S (S.means s) }
-{
-}
+{}
 
 /// The base of a legal core is its state with all entries taken back.
 pub fn base_is_the_state_taken_back<S: System>()
     ensures { (s : S) → BaseIsBack S (S.means s) }
-{
-}
+{}

@@ -3,6 +3,7 @@
 ghost use Rattle.std.specs.Prelude.{◌≡◌, ◌≤◌, ◌<◌, None, length, drop, IfOk, IfErr};
 ghost use Rattle.opt_system.specs.Meaning.{Barren, applies, faulty};
 ghost use Rattle.opt_core.specs.Core.{Legal, at_first};
+ghost use Rattle.opt_core.specs.Runs.{SameStart};
 ghost use Rattle.opt_core.specs.Steps.{MayCome, Answers, AnswersLook, AnswersOffer, AnswersFault, AnswersQuiet, AnswersStop, IsFresh, left_after, ending_after};
 
 use crate::entries::Entries;
@@ -73,6 +74,7 @@ impl<S: System> Core<S> {
         requires system { s.now ≡ self.old.system }
         requires event { MayCome (S.means s.now) self.old event }
         ensures answers { Answers (S.means s.now) self.old event result self.new }
+        ensures start { SameStart self.old self.new }
         ensures legal { Legal (S.means self.new.system) self.new }
     {
         if let Some(ending) = self.ending {
@@ -188,7 +190,7 @@ impl<S: System> Core<S> {
                 self.ending = Some(Ending::Fault(reason));
                 Reply::Closed(Ending::Fault(reason))
             }
-            _ => Reply::Stale(self.entries.len() as u64),
+            Verdict::Applies | Verdict::No => Reply::Stale(self.entries.len() as u64),
         }
     }
 
@@ -254,3 +256,6 @@ fn copies<S: System>(
     }
     Ok(all)
 }
+
+#[cfg(test)]
+mod tests;

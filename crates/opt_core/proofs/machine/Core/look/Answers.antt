@@ -1,5 +1,4 @@
-use Rattle.std.proofs.Common.{arith, ap, ◌<◌, length, sym, ◌≡◌, subst, ◌∙◌}
-use Rattle.opt_core.specs.Core.{Core, IsLegal}
+use Rattle.std.proofs.Common.{arith}
 use Rattle.opt_core.proofs.machine.Core.look.Goals as goal
 
 pub task_from-requires : goal.task_from-requires
