@@ -1,4 +1,4 @@
-//! The core of a goal: a state machine over events, in no hurry and with no lock.
+//! The core of a goal: a pure state machine over events.
 
 ghost use Rattle.std.specs.Prelude.{◌≡◌, ◌≤◌, ◌<◌, None, length, drop, IfOk, IfErr};
 ghost use Rattle.opt_system.specs.Meaning.{Barren, applies, faulty};
@@ -87,6 +87,7 @@ impl<S: System> Core<S> {
             Event::Quiet { told, share } => self.quieten(told, share),
             Event::Stop => self.stop(),
         };
+        // Reads the core once more, so that what its type says is known of it as it is left.
         let _ = &self.left;
         reply
     }
