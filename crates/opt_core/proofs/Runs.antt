@@ -1,0 +1,102 @@
+-- What any list of events does to a legal core.
+use Rattle.std.proofs.Common.{◌≡◌, ℕ, zero, suc, ◌^◌, ◌<◌, ◌≤◌, inl, inr, List, [], ◌∷◌, ◌++◌, false, Option, Some, length, refl, sym, ◌∙◌, ap, subst, arith, append-nil, append_assoc}
+use Rattle.std.proofs.lemmas.List.{length-replicate}
+use Rattle.opt_system.specs.declared.answers.Mode.TheVariants.{Once}
+use Rattle.opt_system.specs.Meaning.{Meaning, undone_by, IsLawful}
+use Rattle.opt_core.specs.declared.event.Ending.{Ending}
+use Rattle.opt_core.specs.declared.event.Reply.TheVariants as reply
+use Rattle.opt_core.specs.Core.{Core, Legal, reached, AllApply, IsEnding}
+use Rattle.opt_core.specs.Steps.{AnswersWith, IsFresh}
+use Rattle.opt_core.specs.Runs.{Turn, Each, commits, committed_by, SameStart, Run, IsSound, EveryRunIsSound, EveryRunFromStart, BaseIsBack}
+use Rattle.opt_core.proofs.Legal.{none_open, used_none}
+use Rattle.opt_core.proofs.Turns.{IsTurn, turn}
+
+module _ {State Found Goal Reason : Type 0} (m : Meaning State Found Goal Reason) where
+  -- taking back commutes with taking back
+  undone_last : (k : ℕ) (at : State) → undone_by m k (m.undone at) ≡ m.undone (undone_by m k at)
+  undone_last zero at = refl
+  undone_last (suc k) at = undone_last k (m.undone at)
+
+  taken_back : IsLawful m → (goal : Goal) (at : State) (es : List Found) → AllApply m goal at es → undone_by m (length es) (reached m at es) ≡ at
+  taken_back lawful goal at [] all = refl
+  taken_back lawful goal at (f ∷ fs) all = undone_last (length fs) (reached m (m.after at f) fs)
+      ∙ ap m.undone (taken_back lawful goal (m.after at f) fs all.1) ∙ lawful.undoes goal at f all.0
+
+module _ {System State Found Goal Reason : Type 0} where
+  starts : {a b c : Core System State Found Goal Reason} → SameStart a b → SameStart b c → SameStart a c
+  starts f g = record { system = g.system ∙ f.system; base = g.base ∙ f.base; goal = g.goal ∙ f.goal; given = g.given ∙ f.given }
+
+module _ {System State Found Goal Reason : Type 0} (m : Meaning State Found Goal Reason) where
+  -- a goal of one match has one entry at most
+  at_most_one : (c : Core System State Found Goal Reason) → Legal m c → m.mode c.goal ≡ Once → length c.entries ≤ 1
+  at_most_one c l once = elim (l.one_at_most once) [
+    | inl e ↦ (let n : length c.entries ≡ 0 = ap length e in omega arith)
+    | inr e ↦
+        (let n = subst (λ (o : Option (Ending Reason)). IsEnding m c.goal c.state c.entries c.quiet c.given c.left o) e l.ended in let k = n.1 in omega arith)
+  ]
+
+  -- an ended core stays, and answers its ending
+  shut : (c d : Core System State Found Goal Reason) (ts : List (Turn System State Found Goal Reason)) (x : Ending Reason) → Run m c ts d → c.ending ≡ Some x → Each (λ u. u.reply ≡ reply.Closed x) ts × (d ≡ c)
+  shut c d [] x run is = (tt, run)
+  shut c d (t ∷ ts) x run is =
+      let before : t.before.ending ≡ Some x = ap (λ (y : Core System State Found Goal Reason). y.ending) run.0 ∙ is in
+      let a : AnswersWith m (Some x) t.before t.event t.reply t.after = subst (λ (o : Option (Ending Reason)). AnswersWith m o t.before t.event t.reply t.after) before run.2 in
+      let rest = shut t.after d ts x run.3 (ap (λ (y : Core System State Found Goal Reason). y.ending) a.1 ∙ before) in
+      ((a.0, rest.0), rest.1 ∙ a.1 ∙ run.0)
+
+  no_turns : (c d : Core System State Found Goal Reason) → Legal m c → d ≡ c → IsSound m c [] d
+  no_turns c d l same = subst (λ (d : Core System State Found Goal Reason). IsSound m c [] d) (sym same) (record {
+    legal = tt;
+    legal_end = l;
+    start = record { system = refl; base = refl; goal = refl; given = refl };
+    answers = tt;
+    entries_are = sym (append-nil c.entries);
+    once = at_most_one c l;
+    closed = tt;
+  })
+
+  one_more : (t : Turn System State Found Goal Reason) (ts : List (Turn System State Found Goal Reason)) (d : Core System State Found Goal Reason) → Legal m t.before
+      → IsTurn m t.before t.event t.reply t.after → Run m t.after ts d → IsSound m t.after ts d → IsSound m t.before (t ∷ ts) d
+  one_more t ts d l one run rest =
+      let start = starts one.start rest.start in record {
+        legal = (one.legal, rest.legal);
+        legal_end = rest.legal_end;
+        start = start;
+        answers = (one.says, rest.answers);
+        entries_are = rest.entries_are ∙ ap (λ (fs : List Found). fs ++ commits ts) one.adds ∙ append_assoc t.before.entries (committed_by t.event t.reply) (commits ts);
+        once = λ once. at_most_one d rest.legal_end (ap m.mode start.goal ∙ once);
+        closed = ((λ x is. shut t.after d ts x run is), rest.closed);
+      }
+
+  sound : IsLawful m → (c d : Core System State Found Goal Reason) (ts : List (Turn System State Found Goal Reason)) → Legal m c → Run m c ts d → IsSound m c ts d
+  sound lawful c d [] l run = no_turns c d l run
+  sound lawful c d (t ∷ ts) l run =
+      let before = subst (λ (y : Core System State Found Goal Reason). Legal m y) (sym run.0) l in
+      let one = turn m t.before t.after t.event t.reply lawful before run.1 run.2 in
+      subst (λ (y : Core System State Found Goal Reason). IsSound m y (t ∷ ts) d) run.0
+      (one_more t ts d before one run.3 (sound lawful t.after d ts one.legal run.3))
+
+  -- a core that was just started is legal
+  fresh : IsLawful m → (c : Core System State Found Goal Reason) (s : System) (base : State) (goal : Goal) (left : ℕ) → m.shares goal < 2 ^ 32 → left < 2 ^ 64 → IsFresh m c s base goal left → Legal m c
+  fresh lawful c s base goal left few bounded is = subst (λ (y : Core System State Found Goal Reason). Legal m y) (sym is) (record {
+    each_applies = tt;
+    at_all = refl;
+    one_at_most = λ once. inl refl;
+    items = (0, omega arith, used_none m (m.mode goal));
+    places = length-replicate (m.shares goal) false;
+    narrow = rw length-replicate few;
+    bounded = bounded;
+    ended = none_open m goal base [] (m.shares goal) left left (lawful.some_share goal);
+  })
+
+module _ (System : Type 0) {State Found Goal Reason : Type 0} (m : Meaning State Found Goal Reason) where
+  pub every_run : IsLawful m → EveryRunIsSound System m
+  every_run lawful c d turns l run = sound m lawful c d turns l run
+
+  pub from_start : IsLawful m → EveryRunFromStart System m
+  from_start lawful c d turns s base goal left few bounded is run =
+      let all = sound m lawful c d turns (fresh m lawful c s base goal left few bounded is) run in
+      (all, all.entries_are ∙ ap (λ (y : Core System State Found Goal Reason). y.entries ++ commits turns) is)
+
+  pub base_is_back : IsLawful m → BaseIsBack System m
+  base_is_back lawful c l = ap (λ (at : State). undone_by m (length c.entries) at) l.at_all ∙ taken_back m lawful c.goal c.base c.entries l.each_applies

@@ -1,0 +1,18 @@
+//! What holds of every list of events. Each function does nothing: its contract is the law, over the definitions
+//! that `Core::start` and `Core::step` cite.
+
+ghost use Rattle.opt_core.specs.Runs.{EveryRunIsSound, EveryRunFromStart, BaseIsBack};
+
+use opt_system::System;
+
+/// Whatever events come, in whatever order, from any number of senders who were told of any number of entries: where the
+/// condition of each holds, the core stays legal and each answer is true.
+pub fn every_run_is_sound<S: System>()
+    ensures legal_core { (s : S) → EveryRunIsSound S (S.means s) }
+    ensures from_start { (s : S) → EveryRunFromStart S (S.means s) }
+{}
+
+/// The base of a legal core is its state with all entries taken back.
+pub fn base_is_the_state_taken_back<S: System>()
+    ensures { (s : S) → BaseIsBack S (S.means s) }
+{}
