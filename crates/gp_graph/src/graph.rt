@@ -1,0 +1,177 @@
+//! Graphs, in two vectors of slots.
+
+ghost use Rattle.std.specs.Prelude.{◌≡◌, ◌<◌, ◌≤◌, ◌+◌, IsOk, IfOk, OnOk, OnErr, IsSome, Some, None, MatchOption, IfSome};
+ghost use Rattle.gp_values.specs.Graph.{IsGraph, HasNoEdges, empty_graph, with_node, with_edge, without_node, without_edge, relabeled, node_at, edge_at};
+
+use crate::slots::{EdgeSlot, NodeSlot, append, look, put};
+use gp_values::{EdgeMark, List, NoMemory, NodeMark};
+use std::alloc::Global;
+use std::marker::Model;
+
+/// A host graph: nodes and edges, each kind numbered from 0 in the order in which they were added. A number is
+/// not used again after a removal. Contracts see the graph, and how many nodes and edges can be added without
+/// growing.
+#[derive(Drop)]
+pub struct Graph {
+    nodes: Vec<Option<NodeSlot>>,
+    edges: Vec<Option<EdgeSlot>>,
+}
+
+impl Model for Graph {
+    ghost use Rattle.gp_values.specs.Graph.{IsGraph};
+    ghost use Rattle.gp_graph.specs.Held.{Held, held_code};
+
+    ghost Value = { Held };
+
+    ghost coded = { held_code };
+
+    ghost use Rattle.gp_graph.specs.View.{graph_of, held_of};
+
+    ghost view = { held_of };
+
+    ghost invariant = { λ a. IsGraph (graph_of a) };
+}
+
+impl Graph {
+    /// The graph of no nodes. It takes no memory.
+    pub fn new(alloc: Global) -> Graph
+        ensures { result.graph ≡ empty_graph }
+    {
+        Graph {
+            nodes: Vec::new(alloc),
+            edges: Vec::new(alloc),
+        }
+    }
+
+    /// Makes room for so many more nodes and edges: adding them is then not refused.
+    pub fn reserve(&mut self, nodes: u64, edges: u64) -> Result<(), NoMemory>
+        ensures graph { self.new.graph ≡ self.old.graph }
+        ensures node_room { OnOk result (nodes ≤ self.new.node_room) }
+        ensures edge_room { OnOk result (edges ≤ self.new.edge_room) }
+        ensures no_fewer_nodes { self.old.node_room ≤ self.new.node_room }
+        ensures no_fewer_edges { self.old.edge_room ≤ self.new.edge_room }
+    {
+        self.nodes.reserve(nodes as usize)?;
+        self.edges.reserve(edges as usize)?;
+        Ok(())
+    }
+
+    /// Adds a node and gives its number. On refusal the graph is as before.
+    pub fn add_node(&mut self, label: List, mark: NodeMark, root: bool) -> Result<u64, NoMemory>
+        ensures number { IfOk result (λ n. n ≡ self.old.graph.next_node) }
+        ensures ok { OnOk result (self.new.graph ≡ with_node self.old.graph (record { label = label; mark = mark; root = root })) }
+        ensures err { OnErr result (self.new.graph ≡ self.old.graph) }
+        ensures succeeds { 0 < self.old.node_room → IsOk result }
+        ensures node_room { self.old.node_room ≤ self.new.node_room + 1 }
+        ensures edge_room { self.new.edge_room ≡ self.old.edge_room }
+    {
+        let number = self.nodes.len() as u64;
+        append(&mut self.nodes, NodeSlot::new(label, mark, root))?;
+        Ok(number)
+    }
+
+    /// Adds an edge from the node `source` to the node `target` and gives its number. On refusal the graph is as
+    /// before.
+    pub fn add_edge(
+        &mut self,
+        source: u64,
+        target: u64,
+        label: List,
+        mark: EdgeMark,
+    ) -> Result<u64, NoMemory>
+        requires source { IsSome (node_at self.old.graph source) }
+        requires target { IsSome (node_at self.old.graph target) }
+        ensures number { IfOk result (λ n. n ≡ self.old.graph.next_edge) }
+        ensures ok { OnOk result (self.new.graph ≡ with_edge self.old.graph (record { source = source; target = target; label = label; mark = mark })) }
+        ensures err { OnErr result (self.new.graph ≡ self.old.graph) }
+        ensures succeeds { 0 < self.old.edge_room → IsOk result }
+        ensures node_room { self.new.node_room ≡ self.old.node_room }
+        ensures edge_room { self.old.edge_room ≤ self.new.edge_room + 1 }
+    {
+        let number = self.edges.len() as u64;
+        append(&mut self.edges, EdgeSlot::new(source, target, label, mark))?;
+        Ok(number)
+    }
+
+    /// Removes a node that has no edges, and hands back its label, its mark and whether it was a root. It takes no
+    /// memory.
+    pub fn remove_node(&mut self, n: u64) -> (List, NodeMark, bool)
+        requires there { IsSome (node_at self.old.graph n) }
+        requires no_edges { HasNoEdges self.old.graph n }
+        ensures removed { self.new.graph ≡ without_node self.old.graph n }
+        ensures was { node_at self.old.graph n ≡ Some (record { label = result.0; mark = result.1; root = result.2 }) }
+        ensures node_room { self.new.node_room ≡ self.old.node_room }
+        ensures edge_room { self.new.edge_room ≡ self.old.edge_room }
+    {
+        match put(&mut self.nodes, n as usize, None) {
+            Some(slot) => (slot.label, slot.mark, slot.root),
+            None => unreachable!(),
+        }
+    }
+
+    /// Removes an edge, and hands back its source, its target, its label and its mark. It takes no memory.
+    pub fn remove_edge(&mut self, e: u64) -> (u64, u64, List, EdgeMark)
+        requires { IsSome (edge_at self.old.graph e) }
+        ensures removed { self.new.graph ≡ without_edge self.old.graph e }
+        ensures was { edge_at self.old.graph e ≡ Some (record { source = result.0; target = result.1; label = result.2; mark = result.3 }) }
+        ensures node_room { self.new.node_room ≡ self.old.node_room }
+        ensures edge_room { self.new.edge_room ≡ self.old.edge_room }
+    {
+        match put(&mut self.edges, e as usize, None) {
+            Some(slot) => (slot.source, slot.target, slot.label, slot.mark),
+            None => unreachable!(),
+        }
+    }
+
+    /// Gives a node another label, mark and root, and hands back the old label. It takes no memory.
+    pub fn relabel(&mut self, n: u64, label: List, mark: NodeMark, root: bool) -> List
+        requires { IsSome (node_at self.old.graph n) }
+        ensures relabeled { self.new.graph ≡ relabeled self.old.graph n (record { label = label; mark = mark; root = root }) }
+        ensures was { IfSome (node_at self.old.graph n) (λ x. result ≡ x.label) }
+        ensures node_room { self.new.node_room ≡ self.old.node_room }
+        ensures edge_room { self.new.edge_room ≡ self.old.edge_room }
+    {
+        match put(
+            &mut self.nodes,
+            n as usize,
+            Some(NodeSlot::new(label, mark, root)),
+        ) {
+            Some(slot) => slot.label,
+            None => unreachable!(),
+        }
+    }
+
+    /// The label and the mark of a node and whether it is a root, or none where no node has that number.
+    pub fn node(&self, n: u64) -> Option<(&List, NodeMark, bool)>
+        ensures found { MatchOption result
+            (node_at self.now.graph n ≡ None)
+            (λ r. node_at self.now.graph n ≡ Some (record { label = r.0.now; mark = r.1; root = r.2 })) }
+        ensures sound { IsGraph self.now.graph }
+    {
+        match look(&self.nodes, n as usize) {
+            Some(slot) => Some((&slot.label, slot.mark, slot.root)),
+            None => None,
+        }
+    }
+
+    /// The source, the target, the label and the mark of an edge, or none where no edge has that number.
+    pub fn edge(&self, e: u64) -> Option<(u64, u64, &List, EdgeMark)>
+        ensures found { MatchOption result
+            (edge_at self.now.graph e ≡ None)
+            (λ r. edge_at self.now.graph e ≡ Some (record { source = r.0; target = r.1; label = r.2.now; mark = r.3 })) }
+        ensures sound { IsGraph self.now.graph }
+    {
+        match look(&self.edges, e as usize) {
+            Some(slot) => Some((slot.source, slot.target, &slot.label, slot.mark)),
+            None => None,
+        }
+    }
+
+    /// The numbers that the next node and the next edge will have: all numbers in use are below them.
+    pub fn next_numbers(&self) -> (u64, u64)
+        ensures numbers { result ≡ (self.now.graph.next_node, self.now.graph.next_edge) }
+        ensures sound { IsGraph self.now.graph }
+    {
+        (self.nodes.len() as u64, self.edges.len() as u64)
+    }
+}
