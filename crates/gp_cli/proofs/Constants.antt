@@ -74,7 +74,7 @@ none_reversed [] i = refl
 none_reversed (e ∷ es) zero = refl
 none_reversed (e ∷ es) (suc i) = none_reversed es i
 
-is_false : (b : Bool) → (b ≡ true → ⊥) → b ≡ false
+pub is_false : (b : Bool) → (b ≡ true → ⊥) → b ≡ false
 is_false true h = absurd (h refl)
 is_false false h = refl
 
@@ -139,12 +139,15 @@ match_of r g nodes edges plain w = record {
       (w.dangling i p.0 p.1 (is_false p.0.kept (λ t. kept ((plain.kept i p.0 p.1).0 t)))).each e d at ends);
 }
 
-pub applies : (r : PlainRule) (g : Graph) (nodes edges : List ℕ) → IsPlain r → PlainMatch r g nodes edges → Applies (plain_rule r) g (plain_found nodes edges)
-applies r g nodes edges plain w = ([], record {
+pub applies_at : (r : PlainRule) (g : Graph) (nodes edges : List ℕ) → IsPlain r → PlainMatch r g nodes edges → AppliesBy (plain_rule r) g (plain_found nodes edges) []
+applies_at r g nodes edges plain w = record {
   is_match = match_of r g nodes edges plain w;
   condition = refl;
   values = no_fault r (setting_of (plain_rule r) g (plain_found nodes edges) []);
-})
+}
+
+pub applies : (r : PlainRule) (g : Graph) (nodes edges : List ℕ) → IsPlain r → PlainMatch r g nodes edges → Applies (plain_rule r) g (plain_found nodes edges)
+applies r g nodes edges plain w = ([], applies_at r g nodes edges plain w)
 
 pub applies_by : (r : PlainRule) (g : Graph) (nodes edges : List ℕ) → IsPlain r → Applies (plain_rule r) g (plain_found nodes edges) → PlainMatch r g nodes edges
 applies_by r g nodes edges plain w = plain_of r g (plain_found nodes edges) w.0 plain w.1.is_match
