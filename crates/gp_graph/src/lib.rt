@@ -3,5 +3,7 @@
 
 mod graph;
 mod slots;
+#[cfg(test)]
+mod tests;
 
 pub use graph::Graph;

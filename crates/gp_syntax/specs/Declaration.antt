@@ -1,8 +1,6 @@
 -- A rule as its text declares it, with names, and the static clauses of names and sizes (Bak 2015: the syntax of rule
 -- declarations). The clauses on types, on simple left labels and on marks come with the checker of rules.
-use Rattle.std.specs.Prelude.{◌≡◌, ℕ, zero, ◌≤◌, nat_eq, ◌&&◌, not, Bool, true, false, if◌then◌else◌, List, [], ◌∷◌, ◌++◌, map, filter, flat_map, length, codes, Option, Some, None, unwrap_or, option_and_then, is_some}
-use Rattle.std.specs.List.{list_any}
-use Rattle.std.specs.Option.{option_map}
+use Rattle.std.specs.Prelude.{◌≡◌, ℕ, ◌≤◌, ◌&&◌, not, Bool, false, if◌then◌else◌, List, [], ◌∷◌, ◌++◌, map, filter, flat_map, length, codes, Option, Some, None, unwrap_or}
 use Rattle.gp_values.specs.declared.marks.NodeMark.{NodeMark}
 use Rattle.gp_values.specs.declared.marks.NodeMark.TheVariants as node_marks
 use Rattle.gp_values.specs.declared.marks.EdgeMark.{EdgeMark}
@@ -10,7 +8,7 @@ use Rattle.gp_values.specs.declared.marks.EdgeMark.TheVariants as edge_marks
 use Rattle.gp_values.specs.Names.{Name, same_name, has_name, place_of, first_doubled, first_unknown}
 use Rattle.gp_syntax.specs.declared.kinds.VariableType.{VariableType}
 use Rattle.gp_syntax.specs.Expression.{Expression, Number, Text, Variable, In_degree, Out_degree, Length_of, Negated, Plus, Minus, Times, Over, Dot, Empty, Join, Condition, Holds, HasType, HasEdge, HasEdgeWith, Compared, Not, And, Or, MarkPattern, Marked, AnyMark, renamed, renamed_condition}
-use Rattle.gp_syntax.specs.Rule.{Rule, LeftNode, LeftEdge, RightNode, RightEdge}
+use Rattle.gp_syntax.specs.Rule.{Rule}
 
 -- mark: the word behind `#`, if one is written
 pub record DeclaredNode : Type 0 where
@@ -128,7 +126,7 @@ pub record HasInterface (d : Declaration) : Type 0 where
   pub left : first_unknown (node_names d.left) d.interface ≡ None
   pub right : first_unknown (node_names d.right) d.interface ≡ None
 
--- the clauses that a rule without variables, marks, roots, `(B)` and condition can break
+-- the clauses that a rule of constant labels, without marks, roots, `(B)` and condition, can break
 pub record IsWellNamed (d : Declaration) : Type 0 where
   pub left_small : IsSmall d.left
   pub right_small : IsSmall d.right

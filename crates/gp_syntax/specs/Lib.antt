@@ -8,6 +8,7 @@ pub mod Run
 pub mod Replay
 pub mod Share
 pub mod Declaration
+pub mod Constant
 pub mod Plain
 pub mod Laws
 pub mod Rows

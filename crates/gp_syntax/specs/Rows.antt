@@ -1,17 +1,16 @@
 -- Worked examples: what the definitions say of small rules and graphs, to be compared with what is meant.
-use Rattle.std.specs.Prelude.{◌≡◌, ℕ, ℤ, pos, Bool, true, false, List, [], ◌∷◌, Option, Some, None}
+use Rattle.std.specs.Prelude.{ℕ, ℤ, pos, Bool, true, false, List, [], ◌∷◌, Some}
 use Rattle.std.specs.FinMap as map
-use Rattle.gp_values.specs.declared.atom.Atom.{Atom}
 use Rattle.gp_values.specs.declared.atom.Atom.TheVariants.{Int}
 use Rattle.gp_values.specs.declared.marks.NodeMark.{NodeMark}
 use Rattle.gp_values.specs.declared.marks.NodeMark.TheVariants as node_marks
 use Rattle.gp_values.specs.declared.marks.EdgeMark.TheVariants as edge_marks
 use Rattle.gp_values.specs.Graph.{Graph, Node, Edge}
 use Rattle.gp_syntax.specs.declared.kinds.VariableType.TheVariants as types
-use Rattle.gp_syntax.specs.Expression.{Expression, Number, Variable, Plus, Empty, Condition, Holds, MarkPattern, Marked, AnyMark}
-use Rattle.gp_syntax.specs.Rule.{Rule, LeftNode, LeftEdge, RightNode, RightEdge, Found}
+use Rattle.gp_syntax.specs.Expression.{Expression, Number, Variable, Plus, Holds, MarkPattern, Marked, AnyMark}
+use Rattle.gp_syntax.specs.Rule.{Rule, LeftNode, RightNode, Found}
 use Rattle.gp_syntax.specs.Step.{Step, Blocked}
-use Rattle.gp_syntax.specs.Run.{Command, Call, Seq, If, Try, Loop, Skip, Fail, Break, Program, Item, Stepped, Turned, Back, Ending, Gives, Fails, AtTurn, Run}
+use Rattle.gp_syntax.specs.Run.{Call, Seq, If, Try, Loop, Skip, Fail, Break, Program, Stepped, Turned, Back, Gives, AtTurn, Run}
 
 -- ---- graphs of one or two nodes
 

@@ -10,7 +10,7 @@ use Rattle.gp_syntax.specs.declared.kinds.NumberKind.{NumberKind}
 use Rattle.gp_syntax.specs.Expression.{Expression, MarkPattern, Marked, AnyMark}
 use Rattle.gp_syntax.specs.Value.{Assignment, Setting, Valued, Value, NoValue, value_of}
 use Rattle.gp_syntax.specs.Truth.{truth_of}
-use Rattle.gp_syntax.specs.Rule.{Rule, LeftNode, LeftEdge, RightNode, RightEdge, Found}
+use Rattle.gp_syntax.specs.Rule.{Rule, LeftNode, RightNode, RightEdge, Found}
 use Rattle.gp_syntax.specs.Match.{MatchBy, AreApart, setting_of}
 
 -- ---- applying and faulty matches

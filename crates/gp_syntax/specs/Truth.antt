@@ -9,8 +9,8 @@ use Rattle.gp_values.specs.Marks.{edge_mark_rank}
 use Rattle.gp_values.specs.Graph.{Graph, Edge}
 use Rattle.gp_syntax.specs.declared.kinds.Comparison.{Comparison}
 use Rattle.gp_syntax.specs.declared.kinds.Comparison.TheVariants as comparisons
-use Rattle.gp_syntax.specs.Expression.{Expression, MarkPattern, Marked, AnyMark, Condition, Holds, HasType, HasEdge, HasEdgeWith, Compared, Not, And, Or}
-use Rattle.gp_syntax.specs.Value.{Setting, Valued, Value, NoValue, ◌>>=◌, value_of, image_at, is_of, integer}
+use Rattle.gp_syntax.specs.Expression.{MarkPattern, Marked, AnyMark, Condition, Holds, HasType, HasEdge, HasEdgeWith, Compared, Not, And, Or}
+use Rattle.gp_syntax.specs.Value.{Setting, Valued, Value, ◌>>=◌, value_of, image_at, is_of, integer}
 
 abbrev pub compared : Comparison → List Atom → List Atom → Bool
 compared comparisons.Equal v w = same_list v w

@@ -1,6 +1,6 @@
 //! What holds of the definitions: laws, and worked examples. Each function does nothing: its contract is the law.
 
-ghost use Rattle.gp_syntax.specs.Laws.{StepIsUnique, StepWithoutVariablesIsUnique, RunsReplay};
+ghost use Rattle.gp_syntax.specs.Laws.{StepIsUnique, StepWithoutVariablesIsUnique, RunsReplay, RulesOfDeclarationsFit, ConstantsHaveTheirValue, FaultlessRulesApply};
 ghost use Rattle.gp_syntax.specs.Rows.{DanglingEdgeBlocks, IsolatedNodeIsDeleted, OneEdgeIsNotTwo, ParallelEdgesMatch, RootWantsRoot, RootIsTakenAway, RootStays, AnyKeepsMark, IfTakesBack, TryTakesBack, FailedBodyIsTakenBack, BreakKeepsBody, EmptySetEndsLoop, SkipLoopStands};
 
 /// A match leads, by its assignment, to one graph.
@@ -12,6 +12,21 @@ pub fn step_is_unique()
 /// A run's trace leads to the graph at which it ends, and each beginning of it to some graph.
 pub fn runs_replay()
     ensures { RunsReplay }
+{}
+
+/// The rule of a well named declaration has its nodes and edges, and names places that are there.
+pub fn rules_of_declarations_fit()
+    ensures { RulesOfDeclarationsFit }
+{}
+
+/// Numbers, strings and lists of these have the value that is written, wherever they stand.
+pub fn constants_have_their_value()
+    ensures { ConstantsHaveTheirValue }
+{}
+
+/// Without a condition and arithmetic on the right, what matches applies.
+pub fn faultless_rules_apply()
+    ensures { FaultlessRulesApply }
 {}
 
 /// Nodes with edges that are not matched are not deleted.
@@ -43,3 +58,21 @@ pub fn command_examples()
     ensures empty_set { EmptySetEndsLoop }
     ensures standing { SkipLoopStands }
 {}
+
+#[cfg(test)]
+mod tests {
+    use super::*;
+
+    #[test]
+    fn laws_can_be_called() {
+        step_is_unique();
+        runs_replay();
+        rules_of_declarations_fit();
+        constants_have_their_value();
+        faultless_rules_apply();
+        dangling_examples();
+        parallel_edge_examples();
+        root_and_mark_examples();
+        command_examples();
+    }
+}

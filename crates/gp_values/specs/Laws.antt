@@ -1,5 +1,5 @@
 -- What holds of graphs and their edits, whoever makes them.
-use Rattle.std.specs.Prelude.{◌≡◌, ℕ, ◌<◌, List, Option, IsSome, Some, None}
+use Rattle.std.specs.Prelude.{◌≡◌, ℕ, List, IsSome, Some, None}
 use Rattle.std.specs.Bool.{Decides}
 use Rattle.gp_values.specs.declared.atom.Atom.{Atom}
 use Rattle.gp_values.specs.Atoms.{AreAtoms, same_list}

@@ -3,10 +3,13 @@
 
 mod atom;
 mod chars;
+mod label;
 pub mod laws;
 mod list;
 mod marks;
 mod memory;
+#[cfg(test)]
+mod tests;
 
 pub use atom::Atom;
 pub use chars::Chars;

@@ -1,0 +1,4 @@
+pub mod Wants
+pub mod Shapes
+pub mod Loop
+pub mod Passing

@@ -1,0 +1,4 @@
+pub mod Wants
+pub mod Shape
+pub mod Reading
+pub mod Laws

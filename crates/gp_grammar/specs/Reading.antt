@@ -1,0 +1,75 @@
+-- Reading from left to right.
+use Rattle.std.specs.Prelude.{◌≡◌, ℕ, zero, suc, Bool, true, false, if◌then◌else◌, List, [], ◌∷◌, length, Option, Some, None, option_map, Result, Ok, Err}
+use Rattle.gp_tokens.specs.declared.token.Kind.TheVariants as k
+use Rattle.gp_tokens.specs.declared.token.Token.{Token}
+use Rattle.gp_tokens.specs.Numbers.{checked_number}
+use Rattle.gp_grammar.specs.declared.error.ReadError.{ReadError}
+use Rattle.gp_grammar.specs.declared.error.ReadError.TheVariants as error
+use Rattle.gp_grammar.specs.declared.want.Want.{Want}
+use Rattle.gp_grammar.specs.declared.want.Want.TheVariants as want
+use Rattle.gp_grammar.specs.Wants.{meets}
+use Rattle.gp_grammar.specs.Shape.{second_of, list_of}
+
+-- a tree and the tokens behind it, or nothing where the tokens begin with no such tree
+abbrev pub Reader : Type 0 → Type 0
+Reader A = List Token → Option (A × List Token)
+
+infixl 10 ◌>>=◌
+abbrev pub ◌>>=◌ : {A B : Type 0} → Option A → (A → Option B) → Option B
+None >>= f = None
+(Some x) >>= f = f x
+
+-- Want of memory may come at any tokens, and the other error where nothing is read.
+abbrev pub Fails : {Y : Type 0} → ReadError → Option Y → Type 0
+Fails error.NoMemory read = Unit {0}
+Fails (error.Syntax left) read = read ≡ None
+
+-- the result is what is read
+abbrev pub Gives : {X Y : Type 0} → (X → Y) → Result X ReadError → Option Y → Type 0
+Gives view (Ok x) read = read ≡ Some (view x)
+Gives view (Err e) read = Fails e read
+
+-- ---- parts
+
+abbrev pub token : Want → Reader Token
+token want [] = None
+token want (t ∷ ts) = if meets want t then Some (t, ts) else None
+
+abbrev pub begins : Want → List Token → Bool
+begins want [] = false
+begins want (t ∷ ts) = meets want t
+
+abbrev pub number : Reader ℕ
+number ts = token (want.Kind k.Number) ts >>= λ x. option_map (λ value. (value, x.1)) (checked_number x.0.text)
+
+infixr 20 ◌and◌
+abbrev pub ◌and◌ : {A B : Type 0} → Reader A → Reader B → Reader (A × B)
+r and s = λ ts. r ts >>= λ x. s x.1 >>= λ y. Some ((x.0, y.0), y.1)
+
+abbrev pub made : {A B : Type 0} → (A → B) → Reader A → Reader B
+made f r = λ ts. r ts >>= λ x. Some (f x.0, x.1)
+
+-- the first where such a token comes next, the second elsewhere
+abbrev pub at : {A : Type 0} → Want → Reader A → Reader A → Reader A
+at want r s = λ ts. if begins want ts then r ts else s ts
+
+abbrev pub absent : {A : Type 0} → A → Reader A
+absent x = λ ts. Some (x, ts)
+
+-- as long as such a token comes next; the number bounds the turns
+unfoldable pub many : {A : Type 0} → Want → Reader A → ℕ → Reader (List A)
+many want r zero ts = Some ([], ts)
+many want r (suc n) ts = if begins want ts then (r ts >>= λ x. many want r n x.1 >>= λ xs. Some (x.0 ∷ xs.0, xs.1)) else Some ([], ts)
+
+-- as long as such a token comes next
+abbrev pub repeated : {A : Type 0} → Want → Reader A → Reader (List A)
+repeated want r = λ ts. many want r (length ts) ts
+
+-- r {sign r}
+abbrev pub separated : {A : Type 0} → Want → Reader A → Reader (List A)
+separated sign r = made list_of (r and repeated sign (made second_of (token sign and r)))
+
+-- such a token stands before the next one that stops the search
+abbrev pub stands_before : Want → Want → List Token → Bool
+stands_before want stop [] = false
+stands_before want stop (t ∷ ts) = if meets stop t then false else (if meets want t then true else stands_before want stop ts)

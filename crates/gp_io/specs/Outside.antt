@@ -1,0 +1,51 @@
+-- What files and sinks may tell, and what a read and a write may answer.
+use Rattle.std.specs.Prelude.{◌≡◌, ◌⊎◌, ℕ, ◌+◌, ◌-◌, ◌^◌, ◌≤◌, ◌<◌, min, List, ◌++◌, length, take, Option, Some, None, IfSome, IsSomeAnd, Result, Ok, Err}
+use Rattle.std.specs.Option.{option_map}
+use Rattle.std.specs.Ordering.{nat_cmp}
+use Rattle.std.specs.Cmp.Lexicographic.{slice_cmp}
+use Rattle.std.specs.FinMap as map
+use Rattle.std.specs.declared.vec.Vec.{Vec}
+use Rattle.std.specs.declared.alloc.Global.{Global}
+use Rattle.gp_io.specs.declared.outside.Failed.{Failed as Fault}
+use Rattle.gp_io.specs.declared.outside.ReadRefusal.{ReadRefusal}
+use Rattle.gp_io.specs.declared.outside.ReadRefusal.TheVariants as refusal
+
+-- from the names of files to their bytes
+abbrev pub Content : Type 0
+Content = map.FinMap (slice_cmp nat_cmp) (List ℕ)
+
+-- a count of faults after one more, which stays at its last value
+abbrev pub raised : ℕ → ℕ
+raised count = min (count + 1) (2 ^ 64 - 1)
+
+-- the count of faults rose, or stands at its last value
+abbrev pub Rose : ℕ → ℕ → Type 0
+Rose before now = raised before ≤ now
+
+-- The file of that name has these bytes. Where no content is told, this says nothing.
+abbrev pub HasFile : Option Content → List ℕ → List ℕ → Type 0
+HasFile told name bytes = IfSome told (λ files. map.get files name ≡ Some bytes)
+
+-- The content is told, and no file has that name. Where no content is told, this never holds.
+abbrev pub LacksFile : Option Content → List ℕ → Type 0
+LacksFile told name = IsSomeAnd told (λ files. map.get files name ≡ None)
+
+-- What a read may answer, by the count of faults before it and now: all bytes of the file, within the
+-- limit; that the file has more; a fault, or a name that the told content lacks; want of memory. The
+-- count moves at a fault alone. Where no content is told, Ok says only that the limit is kept, TooLong
+-- says only that no fault was counted, and Failed always has a fault that was counted.
+abbrev pub ReadAnswers : Option Content → List ℕ → ℕ → ℕ → ℕ → Result (Vec ℕ Global) ReadRefusal → Type 0
+ReadAnswers told name limit before now (Ok v) = HasFile told name v.items × (length v.items ≤ limit) × (now ≡ before)
+ReadAnswers told name limit before now (Err refusal.TooLong) = (bytes : List ℕ) × HasFile told name bytes × (limit < length bytes) × (now ≡ before)
+ReadAnswers told name limit before now (Err refusal.Failed) = Rose before now ⊎ (LacksFile told name × (now ≡ before))
+ReadAnswers told name limit before now (Err refusal.NoMemory) = now ≡ before
+
+-- Bytes went out behind what was written before. Where nothing was told, nothing is told.
+abbrev pub Gains : Option (List ℕ) → Option (List ℕ) → List ℕ → Type 0
+Gains old new bytes = new ≡ option_map (λ written. written ++ bytes) old
+
+-- What a write may answer, by the count of faults before it and now: the whole piece went out, and the
+-- count stayed; or a prefix of it went out, and the count rose.
+abbrev pub WriteAnswers : Option (List ℕ) → Option (List ℕ) → ℕ → ℕ → List ℕ → Result (Unit {0}) Fault → Type 0
+WriteAnswers old new before now piece (Ok _) = Gains old new piece × (now ≡ before)
+WriteAnswers old new before now piece (Err _) = (n : ℕ) × Gains old new (take n piece) × Rose before now

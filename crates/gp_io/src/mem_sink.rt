@@ -1,0 +1,126 @@
+//! A sink in memory.
+
+ghost use Rattle.std.specs.Prelude.{◌≡◌, ◌≤◌, ◌↔◌, ◌++◌, [], Some, None, IfOk, IsOk, OnErr, length, take};
+ghost use Rattle.gp_io.specs.Outside.{WriteAnswers, raised};
+ghost use Rattle.gp_io.specs.Stored.{bytes_before_failure, bytes_let_out, room_left};
+
+use crate::outside::{Failed, NoMemory, Sink};
+use std::alloc::Global;
+use std::marker::Model;
+
+/// A sink in memory with room for so many bytes, some of whose writes fail.
+#[derive(Drop)]
+pub struct MemSink {
+    bytes: Vec<u8>,
+    room: u64,
+    failing: Vec<(u64, u64)>,
+    calls: u64,
+    faults: u64,
+}
+
+impl Model for MemSink {
+    ghost use Rattle.std.specs.Prelude.{◌≤◌, vec_len, vec_capacity};
+    ghost use Rattle.gp_io.specs.Stored.{StoredBytes};
+
+    ghost Value = { StoredBytes };
+
+    ghost view = { λ m. record {
+      written = m.bytes.items;
+      room = m.room;
+      failing = m.failing.items;
+      calls = m.calls;
+      faults = m.faults;
+    } };
+
+    ghost invariant = { λ m. (vec_len m.bytes ≤ m.room) × (m.room ≤ vec_capacity m.bytes) };
+}
+
+impl MemSink {
+    /// An empty sink, with room made for `room` bytes. `failing` has the numbers of the writes that
+    /// fail, counted from 0, each with the number of bytes that go out before.
+    pub fn new(alloc: Global, room: u64, failing: Vec<(u64, u64)>) -> Result<MemSink, NoMemory>
+        ensures written { IfOk result (λ sink. sink.written ≡ []) }
+        ensures room { IfOk result (λ sink. sink.room ≡ room) }
+        ensures failing { IfOk result (λ sink. sink.failing ≡ failing.items) }
+        ensures calls { IfOk result (λ sink. sink.calls ≡ 0) }
+        ensures faults { IfOk result (λ sink. sink.faults ≡ 0) }
+    {
+        match Vec::with_capacity(alloc, room as usize) {
+            Ok(bytes) => Ok(MemSink {
+                bytes,
+                room,
+                failing,
+                calls: 0,
+                faults: 0,
+            }),
+            Err(_) => Err(NoMemory),
+        }
+    }
+
+    /// The bytes that were written.
+    pub fn bytes(&self) -> &[u8]
+        ensures { result.now ≡ self.now.written }
+    {
+        self.bytes.as_slice()
+    }
+
+    /// How many writes failed.
+    pub fn faults(&self) -> u64
+        ensures { result ≡ self.now.faults }
+    {
+        self.faults
+    }
+}
+
+// How many bytes the write of that number lets out before it fails.
+fn cut_of(failing: &[(u64, u64)], call: u64) -> Option<u64>
+    ensures { result ≡ bytes_before_failure failing.now call }
+{
+    let mut rest = failing;
+    while let [(number, cut), after @ ..] = rest {
+        if *number == call {
+            return Some(*cut);
+        }
+        rest = after;
+    }
+    None
+}
+
+impl Sink for MemSink {
+    ghost written = { λ m. Some m.written };
+
+    ghost faults = { λ m. m.faults };
+
+    fn write(&mut self, piece: &[u8]) -> Result<(), Failed>
+        ensures answer { WriteAnswers (Some self.old.written) (Some self.new.written)
+            self.old.faults self.new.faults piece.now result }
+        ensures later { self.old.faults ≤ self.new.faults }
+
+        // It fails exactly where the call is listed or the piece does not fit: so with an empty list the
+        // count never rises while all pieces fit. Where it fails, as many bytes go out as the call lists,
+        // of those that fit.
+        ensures ok { IsOk result ↔ ((bytes_before_failure self.old.failing self.old.calls ≡ None)
+            × (length piece.now ≤ room_left self.old)) }
+        ensures prefix { OnErr result
+            (self.new.written ≡ self.old.written ++ take (bytes_let_out self.old) piece.now) }
+        ensures counted { OnErr result (self.new.faults ≡ raised self.old.faults) }
+        ensures room { self.new.room ≡ self.old.room }
+        ensures failing { self.new.failing ≡ self.old.failing }
+        ensures calls { self.new.calls ≡ raised self.old.calls }
+    {
+        let call = self.calls;
+        self.calls = call.saturating_add(1);
+        let left = self.room - self.bytes.len() as u64;
+        let cut = cut_of(&self.failing, call);
+        if cut.is_none() && piece.len() as u64 <= left {
+            self.bytes.extend_from_slice(piece).unwrap();
+            return Ok(());
+        }
+        let out = (piece.len() as u64).min(left).min(cut.unwrap_or(left));
+        self.bytes
+            .extend_from_slice(&piece[..out as usize])
+            .unwrap();
+        self.faults = self.faults.saturating_add(1);
+        Err(Failed)
+    }
+}

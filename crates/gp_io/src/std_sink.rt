@@ -1,0 +1,81 @@
+//! The standard streams. They tell nothing of what was written.
+
+ghost use Rattle.std.specs.Prelude.{◌≡◌, ◌≤◌, None};
+ghost use Rattle.gp_io.specs.Outside.{WriteAnswers};
+ghost use Rattle.gp_io.specs.Streams.{Takes};
+
+use crate::outside::{Failed, Sink};
+use std::io::Write;
+use std::marker::Model;
+
+/// Standard output or standard error, or any other stream of the system. A write that fails or takes
+/// nothing counts a fault. Contracts see the stream and the count.
+#[derive(Drop)]
+pub struct StdSink<W: Write> {
+    stream: W,
+    faults: u64,
+}
+
+impl<W: Write> Model for StdSink<W> {
+    ghost use Rattle.gp_io.specs.Streams.{CountedStream, stream_code};
+
+    ghost Value = { CountedStream W };
+
+    ghost coded = { stream_code W.code };
+
+    ghost view = { λ s. record { stream = s.stream; faults = s.faults } };
+}
+
+impl<W: Write> StdSink<W> {
+    /// A sink over the stream, with no fault so far.
+    pub fn new(stream: W) -> StdSink<W>
+        ensures stream { result.stream ≡ stream }
+        ensures faults { result.faults ≡ 0 }
+    {
+        StdSink { stream, faults: 0 }
+    }
+
+    /// How many writes failed.
+    pub fn faults(&self) -> u64
+        ensures { result ≡ self.now.faults }
+    {
+        self.faults
+    }
+}
+
+// Writes the whole piece to the stream, or a prefix of it.
+fn write_whole<W: Write>(stream: &mut W, piece: &[u8]) -> Result<(), Failed>
+    ensures { Takes (W.contents stream.old) (W.contents stream.new) piece.now result }
+{
+    let mut done = 0;
+    while done < piece.len() {
+        match stream.write(&piece[done..]) {
+            Err(_) | Ok(0) => return Err(Failed),
+            Ok(count) => done += count,
+        }
+    }
+    match stream.flush() {
+        Ok(()) => Ok(()),
+        Err(_) => Err(Failed),
+    }
+}
+
+impl<W: Write> Sink for StdSink<W> {
+    ghost written = { λ _. None };
+
+    ghost faults = { λ s. s.faults };
+
+    fn write(&mut self, piece: &[u8]) -> Result<(), Failed>
+        ensures answer { WriteAnswers None None self.old.faults self.new.faults piece.now result }
+        ensures later { self.old.faults ≤ self.new.faults }
+
+        // A stream that tells its bytes gains the whole piece, or a prefix of it.
+        ensures stream { Takes (W.contents self.old.stream) (W.contents self.new.stream) piece.now result }
+    {
+        let answer = write_whole(&mut self.stream, piece);
+        if answer.is_err() {
+            self.faults = self.faults.saturating_add(1);
+        }
+        answer
+    }
+}

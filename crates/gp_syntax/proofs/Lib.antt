@@ -1,0 +1,10 @@
+pub mod Unique
+pub mod Traces
+pub mod Runs
+pub mod Small
+pub mod Blocked
+pub mod Parallel
+pub mod Commands
+pub mod Loops
+pub mod Declarations
+pub mod Constants

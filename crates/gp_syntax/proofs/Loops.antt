@@ -1,0 +1,53 @@
+-- A loop's run, turn by turn from the front: what code that runs a loop knows at each turn, and how it ends.
+use Rattle.std.proofs.Common.{◌≡◌, ℕ, Bool, List, [], ◌∷◌, ◌++◌, Some, slice_get, refl, sym, subst, ◌∙◌, append_assoc, append-nil}
+use Rattle.gp_values.specs.Graph.{Graph}
+use Rattle.gp_syntax.specs.Rule.{Found}
+use Rattle.gp_syntax.specs.Step.{CallsTo, Blocked}
+use Rattle.gp_syntax.specs.Run.{Command, Call, Loop, Program, Item, Stepped, Turned, Back, Ending, Gives, Fails, Breaks, At, AtTurn, undone, Stands, at_call, Run, call_steps, call_fails, call_stands, loop_stands, loop_goes_on, loop_ends, loop_breaks, loop_body_stands}
+
+-- After these picks and items of the loop `p!` it stands at a turn with the graph h: whatever it does from there, it
+-- does from g.
+pub record SoFar (program : Program) (p : Command) (g : Graph) (picks : List Bool) (t : List Item) (h : Graph) : Type 0 where
+  pub onward : (b c : List Bool) (u v : List Item) (x : Ending) → c ≡ picks ++ b → v ≡ t ++ u → Run program (Loop p) h b u x → Run program (Loop p) g c v x
+
+-- before the first turn
+pub at_first : {program : Program} {p : Command} {g : Graph} → SoFar program p g [] [] g
+at_first {program} {p} {g} = record {
+  onward = λ b c u v x d e r. subst (λ (z : List Item). Run program (Loop p) g c z x) (sym e) (subst (λ (z : List Bool). Run program (Loop p) g z u x) (sym d) r);
+}
+
+-- one turn more
+pub one_turn : {program : Program} {p : Command} {g h k : Graph} {a b : List Bool} {t s : List Item} → SoFar program p g a t h → Run program p h b s (Gives k) → SoFar program p g (a ++ b) (t ++ Turned ∷ s) k
+one_turn {program} {p} {g} {h} {k} {a} {b} {t} {s} f r = record {
+  onward = λ e c u v x d i o. f.onward (b ++ e) c (Turned ∷ (s ++ u)) v x (d ∙ append_assoc a b e) (i ∙ append_assoc t (Turned ∷ s) u) (loop_goes_on r o refl refl);
+}
+
+-- one turn more of a call
+pub one_step : {program : Program} {c : ℕ} {set : List ℕ} {g h k : Graph} {m : Found} {a : List Bool} {t : List Item} → SoFar program (Call c) g a t h → slice_get program.sets c ≡ Some set → CallsTo program.rules set h m k →
+    SoFar program (Call c) g a (t ++ Turned ∷ Stepped m ∷ []) k
+one_step {program} {c} {g = g} {k = k} {m = m} {a = a} {t = t} f s h = subst (λ (z : List Bool). SoFar program (Call c) g z (t ++ Turned ∷ Stepped m ∷ []) k) (append-nil a) (one_turn f (call_steps s h))
+
+-- the body fails: the loop ends with the graph from before it
+pub body_failed : {program : Program} {p : Command} {g h k : Graph} {a b : List Bool} {t s : List Item} → SoFar program p g a t h → Run program p h b s (Fails k) → Run program (Loop p) g (a ++ b) (t ++ Turned ∷ undone s) (Gives h)
+body_failed {b = b} {s = s} f r = f.onward b _ (Turned ∷ undone s) _ _ refl refl (loop_ends r refl)
+
+-- the body breaks: the loop ends with the graph that was reached
+pub body_broke : {program : Program} {p : Command} {g h k : Graph} {a b : List Bool} {t s : List Item} → SoFar program p g a t h → Run program p h b s (Breaks k) → Run program (Loop p) g (a ++ b) (t ++ Turned ∷ s) (Gives k)
+body_broke {b = b} {s = s} f r = f.onward b _ (Turned ∷ s) _ _ refl refl (loop_breaks r refl)
+
+-- the body stands before a call or a turn
+pub body_stands : {program : Program} {p : Command} {g h : Graph} {a b : List Bool} {t s : List Item} {x : Ending} → SoFar program p g a t h → Run program p h b s x → Stands x → Run program (Loop p) g (a ++ b) (t ++ Turned ∷ s) x
+body_stands {b = b} {s = s} f r z = f.onward b _ (Turned ∷ s) _ _ refl refl (loop_body_stands r z refl)
+
+-- the loop stands before its next turn
+pub at_turn_now : {program : Program} {p : Command} {g h : Graph} {a : List Bool} {t : List Item} → SoFar program p g a t h → Run program (Loop p) g a t (AtTurn h)
+at_turn_now {a = a} {t = t} f = f.onward [] a [] t _ (sym (append-nil a)) (sym (append-nil t)) loop_stands
+
+-- the loop over a call ends, where its set is blocked
+pub ended : {program : Program} {c : ℕ} {set : List ℕ} {g h : Graph} {a : List Bool} {t : List Item} → SoFar program (Call c) g a t h → slice_get program.sets c ≡ Some set → Blocked program.rules set h →
+    Run program (Loop (Call c)) g a (t ++ Turned ∷ Back 0 ∷ []) (Gives h)
+ended {a = a} f s b = f.onward [] a (Turned ∷ Back 0 ∷ []) _ _ (sym (append-nil a)) refl (loop_ends (call_fails s b) refl)
+
+-- and stands before its call
+pub at_call_now : {program : Program} {c : ℕ} {g h : Graph} {a : List Bool} {t : List Item} → SoFar program (Call c) g a t h → Run program (Loop (Call c)) g a (t ++ Turned ∷ []) (At c h)
+at_call_now {a = a} f = f.onward [] a (Turned ∷ []) _ _ (sym (append-nil a)) refl (loop_body_stands call_stands at_call refl)

@@ -1,0 +1,152 @@
+-- A match leads to one graph: all that stands at a number of the new graph is told by the rule, the match and the
+-- assignment.
+use Rattle.std.proofs.Common.{◌≡◌, ◌⊎◌, inl, inr, ℕ, zero, suc, ◌+◌, ◌-◌, ◌<◌, ◌≤◌, List, [], ◌∷◌, length, slice_get, slice_index, get_or, Option, Some, None, Contains, refl, sym, ap, subst, ◌∙◌, arith, ext_get_or}
+use Rattle.std.proofs.lemmas.Bool.{cases_eq, cases_lt}
+use Rattle.std.proofs.lemmas.Option.{slice_get_cases}
+use Rattle.std.proofs.lemmas.List.{get_or_default, nil_from_length}
+use Rattle.gp_values.specs.Graph.{Graph, Node, Edge, node_at, edge_at}
+use Rattle.gp_values.proofs.Graphs.{same_graph}
+use Rattle.gp_syntax.specs.declared.kinds.VariableType.{VariableType}
+use Rattle.gp_syntax.specs.Value.{Assignment}
+use Rattle.gp_syntax.specs.Rule.{Rule, RightNode, RightEdge, Found}
+use Rattle.gp_syntax.specs.Step.{Places, MakesNode, MakesEdge, StepBy, Step}
+
+-- a number that is not the first one stands behind it
+in_tail : (m : ℕ) (ns : List ℕ) (n k : ℕ) → k < suc (length ns) → get_or (m ∷ ns) k n ≡ n → (m ≡ n → ⊥) → Contains ns n
+in_tail m ns n zero l e d = absurd (d e)
+in_tail m ns n (suc k) l e d = (k, omega arith, e)
+
+-- a number stands in a list or it does not
+pub contained : (ns : List ℕ) (n : ℕ) → Contains ns n ⊎ (Contains ns n → ⊥)
+contained [] n = inr (λ c. let l : c.0 < 0 = c.1 in absurd (omega arith))
+contained (m ∷ ns) n =
+    elim (cases_eq m n) [
+      | inl e ↦ inl (0, omega arith, e)
+      | inr d ↦ elim (contained ns n) [
+        | inl c ↦ (let l : c.0 < length ns = c.1 in inl (suc c.0, omega arith, c.2))
+        | inr apart ↦ inr (λ c. apart (in_tail m ns n c.0 c.1 c.2 d))
+      ]
+    ]
+
+-- the place at which a number stands
+standing : (ns : List ℕ) (n : ℕ) (c : Contains ns n) → slice_index ns c.0 ≡ n
+standing ns n c = get_or_default ns c.0 0 n c.1 ∙ c.2
+
+-- a place below the length of a list has an element
+pub element : {X : Type 0} (xs : List X) (i : ℕ) → i < length xs → (x : X) × (slice_get xs i ≡ Some x)
+element xs i l = elim (slice_get_cases xs i).1 [ inl s ↦ (s.0, s.2) | inr p ↦ (let h : length xs ≤ i = p.0 in absurd (omega arith)) ]
+
+-- ---- the images of the right nodes
+
+-- the image of a right node, by its origin
+same_image : (r : Rule) (g : Graph) (m : Found) (is js : List ℕ) → Places r g m is → Places r g m js → (j : ℕ) (q : RightNode) (o : Option ℕ) → slice_get r.right_nodes j ≡ Some q → q.origin ≡ o → slice_index is j ≡ slice_index js j
+same_image r g m is js a b j q None h e = a.new j q h e ∙ sym (b.new j q h e)
+same_image r g m is js a b j q (Some i) h e = a.kept j i q h e ∙ sym (b.kept j i q h e)
+
+-- two maps of the right nodes are one
+pub same_images : (r : Rule) (g : Graph) (m : Found) (is js : List ℕ) → Places r g m is → Places r g m js → is ≡ js
+same_images r g m is js a b =
+    ext_get_or 0 is js (a.count ∙ sym b.count) (λ j l.
+    let k : length is ≡ length r.right_nodes = a.count in
+    let s = element r.right_nodes j (omega arith) in
+    same_image r g m is js a b j s.0 s.0.origin s.1 refl)
+
+-- ---- what is made
+
+-- a node is what it carries
+same_node : (x y : Node) → x.label ≡ y.label → x.mark ≡ y.mark → x.root ≡ y.root → x ≡ y
+same_node x y a b c = λ i. record { label = a i; mark = b i; root = c i }
+
+-- and so is an edge
+same_edge : (x y : Edge) → x.source ≡ y.source → x.target ≡ y.target → x.label ≡ y.label → x.mark ≡ y.mark → x ≡ y
+same_edge x y a b c d = λ i. record { source = a i; target = b i; label = c i; mark = d i }
+
+-- what a right node asks is one node
+made_node : {r : Rule} {g : Graph} {m : Found} {a : Assignment} {q : RightNode} {x y : Node} → MakesNode r g m a q x → MakesNode r g m a q y → x ≡ y
+made_node {x = x} {y = y} b c =
+    let l : x.label ≡ y.label = cc (b.label, c.label) in
+    same_node x y l (b.mark ∙ sym c.mark) (b.root ∙ sym c.root)
+
+-- what a right edge asks is one edge
+made_edge : {r : Rule} {g : Graph} {m : Found} {a : Assignment} {is : List ℕ} {q : RightEdge} {x y : Edge} → MakesEdge r g m a is q x → MakesEdge r g m a is q y → x ≡ y
+made_edge {x = x} {y = y} b c =
+    let l : x.label ≡ y.label = cc (b.label, c.label) in
+    same_edge x y (b.source ∙ sym c.source) (b.target ∙ sym c.target) l (b.mark ∙ sym c.mark)
+
+-- ---- what stands at each number
+
+module _ {r : Rule} {g : Graph} {m : Found} {a : Assignment} {h k : Graph} where
+  -- both steps put the right nodes at one place
+  one_places : (s : StepBy r g m a h) (t : StepBy r g m a k) → t.images ≡ s.images
+  one_places s t = same_images r g m t.images s.images t.places s.places
+
+  -- at an image of a right node
+  nodes_at_image : (s : StepBy r g m a h) (t : StepBy r g m a k) (n : ℕ) → Contains s.images n → node_at h n ≡ node_at k n
+  nodes_at_image s t n c =
+      let l : length s.images ≡ length r.right_nodes = s.places.count in
+      let i : c.0 < length s.images = c.1 in
+      let q = element r.right_nodes c.0 (omega arith) in
+      let x = s.right_nodes c.0 q.0 q.1 in
+      let y = t.right_nodes c.0 q.0 q.1 in
+      let e : slice_index s.images c.0 ≡ n = standing s.images n c in
+      let f : slice_index t.images c.0 ≡ n = ap (λ is. slice_index is c.0) (one_places s t) ∙ e in
+      let z : x.0 ≡ y.0 = made_node x.2 y.2 in
+      let u : node_at h n ≡ Some x.0 = subst (λ i. node_at h i ≡ Some x.0) e x.1 in
+      let v : node_at k n ≡ Some y.0 = subst (λ i. node_at k i ≡ Some y.0) f y.1 in
+      u ∙ ap (λ w. Some w) z ∙ sym v
+
+  -- at each number of a node
+  nodes_same : (s : StepBy r g m a h) (t : StepBy r g m a k) (n : ℕ) → node_at h n ≡ node_at k n
+  nodes_same s t n =
+      elim (contained s.images n) [
+        | inl c ↦ nodes_at_image s t n c
+        | inr out ↦ (let out' : Contains t.images n → ⊥ = subst (λ is. Contains is n → ⊥) (sym (one_places s t)) out in
+            elim (contained m.nodes n) [
+              | inl c ↦ s.deleted_nodes n out c ∙ sym (t.deleted_nodes n out' c)
+              | inr none ↦ s.other_nodes n out none ∙ sym (t.other_nodes n out' none)
+            ])
+      ]
+
+  -- at the number of a right edge
+  edges_at_new : (s : StepBy r g m a h) (t : StepBy r g m a k) (i : ℕ) → i < length r.right_edges → edge_at h (g.next_edge + i) ≡ edge_at k (g.next_edge + i)
+  edges_at_new s t i l =
+      let q = element r.right_edges i l in
+      let x = s.right_edges i q.0 q.1 in
+      let y = t.right_edges i q.0 q.1 in
+      let made : MakesEdge r g m a s.images q.0 y.0 = subst (λ is. MakesEdge r g m a is q.0 y.0) (one_places s t) y.2 in
+      let z : x.0 ≡ y.0 = made_edge x.2 made in
+      x.1 ∙ ap (λ w. Some w) z ∙ sym y.1
+
+  -- at another number of an edge
+  edges_elsewhere : (s : StepBy r g m a h) (t : StepBy r g m a k) (e : ℕ) → ((i : ℕ) → i < length r.right_edges → e ≡ g.next_edge + i → ⊥) → edge_at h e ≡ edge_at k e
+  edges_elsewhere s t e out =
+      elim (contained m.edges e) [
+        | inl c ↦ s.deleted_edges e c ∙ sym (t.deleted_edges e c)
+        | inr none ↦ s.other_edges e out none ∙ sym (t.other_edges e out none)
+      ]
+
+  -- at each number of an edge
+  edges_same : (s : StepBy r g m a h) (t : StepBy r g m a k) (e : ℕ) → edge_at h e ≡ edge_at k e
+  edges_same s t e =
+      elim (cases_lt e g.next_edge) [
+        | inl b ↦ edges_elsewhere s t e (λ i l p. omega arith)
+        | inr b ↦ elim (cases_lt (e - g.next_edge) (length r.right_edges)) [
+          | inl l ↦ (let p : g.next_edge + (e - g.next_edge) ≡ e = omega arith in
+              subst (λ n. edge_at h n ≡ edge_at k n) p (edges_at_new s t (e - g.next_edge) l))
+          | inr l ↦ edges_elsewhere s t e (λ i o p. omega arith)
+        ]
+      ]
+
+  -- two graphs that a match leads to by one assignment
+  pub one_graph : StepBy r g m a h → StepBy r g m a k → h ≡ k
+  one_graph s t = same_graph h k (nodes_same s t) (edges_same s t) (s.next_node ∙ sym t.next_node) (s.next_edge ∙ sym t.next_edge)
+
+-- where no variable stands in a left label, the assignment is the empty one
+no_variables : {r : Rule} {g : Graph} {m : Found} {h : Graph} → r.types ≡ [] → (s : Step r g m h) → s.0 ≡ []
+no_variables none s = nil_from_length s.0 (s.1.is_match.variable_count ∙ ap (λ (ts : List VariableType). length ts) none)
+
+-- and by any two assignments, where there is but one
+pub one_graph_of_any : (r : Rule) (g : Graph) (m : Found) (h k : Graph) → r.types ≡ [] → Step r g m h → Step r g m k → h ≡ k
+one_graph_of_any r g m h k none s t =
+    let e : t.0 ≡ s.0 = no_variables none t ∙ sym (no_variables none s) in
+    one_graph s.2 (subst (λ (a : Assignment). StepBy r g m a k) e t.2)

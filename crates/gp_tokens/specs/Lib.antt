@@ -1,0 +1,7 @@
+pub mod Bytes
+pub mod Kinds
+pub mod Words
+pub mod Numbers
+pub mod Front
+pub mod Lexed
+pub mod Cut

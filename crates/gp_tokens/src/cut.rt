@@ -1,0 +1,39 @@
+//! Cuts a text into tokens.
+
+ghost use Rattle.std.specs.Prelude.{IfOk, All};
+ghost use Rattle.gp_tokens.specs.Cut.{IsCutOf, IsInRange};
+ghost use Rattle.gp_tokens.specs.Lexed.{Gives, tokens_of};
+
+use crate::fault::LexFault;
+use crate::front::{First, front};
+use crate::text::Text;
+use crate::token::Token;
+use std::alloc::Global;
+
+/// The tokens of the text, or the first fault that is met from the front.
+pub fn lex(alloc: Global, text: &[u8]) -> Result<Vec<Token>, LexFault>
+    ensures gives { Gives (λ v. v.items) result (tokens_of text.now) }
+    ensures cut { IfOk result (λ tokens. IsCutOf text.now tokens.items) }
+    ensures numbers { IfOk result (λ tokens. All IsInRange tokens.items) }
+{
+    let mut tokens = Vec::new(alloc);
+    let mut at = 0;
+    while at < text.len() {
+        let (_before, rest) = text.split_at(at);
+        match front(rest, at) {
+            First::Skip(len) => at += len,
+            First::Token(kind, len) => {
+                let (slice, _behind) = rest.split_at(len);
+                let copy = Text::from_slice(alloc, slice)?;
+                tokens.push(Token {
+                    kind,
+                    start: at as u64,
+                    text: copy,
+                })?;
+                at += len;
+            }
+            First::Fault(fault) => return Err(fault),
+        }
+    }
+    Ok(tokens)
+}
