@@ -1,16 +1,16 @@
 -- What follows of choices of numbers: which can stand behind others, and that a search through all finds a match.
-use Rattle.std.proofs.Common.{◌≡◌, ℕ, zero, suc, ◌+◌, ◌-◌, ◌<◌, ◌≤◌, List, [], ◌∷◌, ◌++◌, length, get_or, take, drop, refl, sym, ap, subst, ◌∙◌, arith, append_assoc, length-append, length-take, length-drop, get_or-take, get_or-drop, inl, inr}
+use Rattle.std.proofs.Common.{◌≡◌, ℕ, ◌+◌, ◌-◌, ◌<◌, ◌≤◌, List, [], ◌∷◌, ◌++◌, length, get_or, take, drop, refl, sym, ap, subst, ◌∙◌, arith, append_assoc, length-append, length-take, length-drop, get_or-take, get_or-drop, inl, inr}
 use Rattle.std.specs.Prelude.{◌⊎◌, ◌↔◌, Bool, true, false, not, IsTrue, Option, Some, None, IsSome, IsSomeAnd, Contains, slice_get, slice_index}
 use Rattle.std.proofs.Math.Seq.{take-append-add, take-append_seam, drop-append_seam, get_or-append_seam}
 use Rattle.std.proofs.lemmas.List.{get_or_append_left, take-append-le, drop-append-le}
 use Rattle.std.proofs.lemmas.Option.{get_or_from_slice_get, slice_get_read}
 use Rattle.std.proofs.lemmas.Grind.{common_steps, get_or_default_zero}
-use Rattle.gp_values.specs.Graph.{Graph, IsGraph, node_at, edge_at}
+use Rattle.gp_values.specs.Graph.{Graph, IsGraph}
 use Rattle.gp_syntax.specs.declared.plain.PlainRule.{PlainRule}
 use Rattle.gp_syntax.specs.declared.plain.PlainLeftNode.{PlainLeftNode}
 use Rattle.gp_syntax.specs.declared.plain.PlainLeftEdge.{PlainLeftEdge}
 use Rattle.gp_syntax.specs.Match.{AreApart}
-use Rattle.gp_cli.specs.PlainMatch.{PlainMatch, HasEnds, IsNodeWith, IsEdgeWith}
+use Rattle.gp_cli.specs.PlainMatch.{PlainMatch, IsNodeWith, IsEdgeWith}
 use Rattle.gp_cli.proofs.Constants.{got}
 use Rattle.gp_cli.specs.Search.{size_of, IsChoice, NoneBehind, LastNodeFits, LastEdgeFits}
 
@@ -67,16 +67,16 @@ pub none_behind : (r : PlainRule) (g : Graph) (chosen : List ℕ) (bound : ℕ) 
     → length chosen < size_of r → ((k : ℕ) → k < bound → NoneBehind r g (chosen ++ k ∷ [])) → NoneBehind r g chosen
 none_behind r g chosen bound w node edge short none = record { no_choice = no_choice }
   where
-  no_choice : (rest : List ℕ) → IsChoice r g (chosen ++ rest) → ⊥
-  no_choice [] c = let e = length_choice r g (chosen ++ []) c in omega (arith, length-append chosen [])
-  no_choice (k ∷ rest) c =
-      (none k (below_next r g chosen rest k bound w node edge c)).no_choice rest (subst (IsChoice r g) (sym (append_assoc chosen (k ∷ []) rest)) c)
+    no_choice : (rest : List ℕ) → IsChoice r g (chosen ++ rest) → ⊥
+    no_choice [] c = let e = length_choice r g (chosen ++ []) c in omega (arith, length-append chosen [])
+    no_choice (k ∷ rest) c =
+        (none k (below_next r g chosen rest k bound w node edge c)).no_choice rest (subst (IsChoice r g) (sym (append_assoc chosen (k ∷ []) rest)) c)
 
 pub no_match : (r : PlainRule) (g : Graph) → NoneBehind r g [] → (nodes edges : List ℕ) → PlainMatch r g nodes edges → ⊥
 no_match r g none nodes edges m = none.no_choice (nodes ++ edges) (record { is_match = joined })
   where
-  joined : PlainMatch r g (take (length r.left_nodes.items) (nodes ++ edges)) (drop (length r.left_nodes.items) (nodes ++ edges))
-  joined = rw (← m.node_count, take-append_seam nodes edges, drop-append_seam nodes edges) m
+    joined : PlainMatch r g (take (length r.left_nodes.items) (nodes ++ edges)) (drop (length r.left_nodes.items) (nodes ++ edges))
+    joined = rw (← m.node_count, take-append_seam nodes edges, drop-append_seam nodes edges) m
 
 -- ---- the last of the chosen numbers
 
@@ -128,7 +128,7 @@ apart_in_front xs rest some apart h =
     let short : n < length xs = omega arith in
     let early : h.0 < length xs = omega arith in
     apart h.0 n below (omega (arith, length-append xs rest))
-        (get_or_append_left xs rest 0 h.0 early ∙ sym (get_or_default_zero xs h.0 (slice_index xs n) early) ∙ sym (get_or-take n xs h.0 (slice_index xs n) below) ∙ h.2 ∙ sym (get_or_append_left xs rest 0 n short))
+    (get_or_append_left xs rest 0 h.0 early ∙ sym (get_or_default_zero xs h.0 (slice_index xs n) early) ∙ sym (get_or-take n xs h.0 (slice_index xs n) below) ∙ h.2 ∙ sym (get_or_append_left xs rest 0 n short))
 
 take_behind : (xs ys : List ℕ) (n : ℕ) → length xs ≤ n → take n (xs ++ ys) ≡ xs ++ take (n - length xs) ys
 take_behind xs ys n h = let e : n ≡ length xs + (n - length xs) = omega arith in ap (λ k. take k (xs ++ ys)) e ∙ take-append-add xs ys (n - length xs)
@@ -137,11 +137,11 @@ pub none_behind_node : (r : PlainRule) (g : Graph) (chosen : List ℕ) → 0 < l
     → (LastNodeFits r g chosen → ⊥) → NoneBehind r g chosen
 none_behind_node r g chosen some room unfit = record { no_choice = λ rest c. fitting _ _ (rw take_behind at c.is_match) }
   where
-  fitting : (rest edges : List ℕ) → PlainMatch r g (chosen ++ rest) edges → ⊥
-  fitting rest edges m = unfit (record {
-    fits = λ p h. subst (IsNodeWith g p.label) (get_or_append_left chosen rest 0 (length chosen - 1) (omega arith)) (m.nodes_fit (length chosen - 1) p h);
-    apart = apart_in_front chosen rest some m.nodes_apart;
-  })
+    fitting : (rest edges : List ℕ) → PlainMatch r g (chosen ++ rest) edges → ⊥
+    fitting rest edges m = unfit (record {
+      fits = λ p h. subst (IsNodeWith g p.label) (get_or_append_left chosen rest 0 (length chosen - 1) (omega arith)) (m.nodes_fit (length chosen - 1) p h);
+      apart = apart_in_front chosen rest some m.nodes_apart;
+    })
 
 pub none_behind_edge : (r : PlainRule) (g : Graph) (chosen : List ℕ) → length r.left_nodes.items < length chosen
     → (LastEdgeFits r g (take (length r.left_nodes.items) chosen) (drop (length r.left_nodes.items) chosen) → ⊥) → NoneBehind r g chosen
@@ -149,15 +149,15 @@ none_behind_edge r g chosen some unfit =
     let room : length r.left_nodes.items ≤ length chosen = omega arith in
     record { no_choice = λ rest c. fitting rest (rw (take-append-le, drop-append-le) at c.is_match) }
   where
-  fitting : (rest : List ℕ) → PlainMatch r g (take (length r.left_nodes.items) chosen) (drop (length r.left_nodes.items) chosen ++ rest) → ⊥
-  fitting rest m =
-      let es : List ℕ = drop (length r.left_nodes.items) chosen in
-      let more : 0 < length es = omega (arith, length-drop (length r.left_nodes.items) chosen) in
-      unfit (record {
-        fits = λ p h. subst (IsEdgeWith g p.label (slice_index (take (length r.left_nodes.items) chosen) p.source) (slice_index (take (length r.left_nodes.items) chosen) p.target))
-            (get_or_append_left es rest 0 (length es - 1) (omega arith)) (m.edges_fit (length es - 1) p h);
-        apart = apart_in_front es rest more m.edges_apart;
-      })
+    fitting : (rest : List ℕ) → PlainMatch r g (take (length r.left_nodes.items) chosen) (drop (length r.left_nodes.items) chosen ++ rest) → ⊥
+    fitting rest m =
+        let es : List ℕ = drop (length r.left_nodes.items) chosen in
+        let more : 0 < length es = omega (arith, length-drop (length r.left_nodes.items) chosen) in
+        unfit (record {
+          fits = λ p h. subst (IsEdgeWith g p.label (slice_index (take (length r.left_nodes.items) chosen) p.source) (slice_index (take (length r.left_nodes.items) chosen) p.target))
+              (get_or_append_left es rest 0 (length es - 1) (omega arith)) (m.edges_fit (length es - 1) p h);
+          apart = apart_in_front es rest more m.edges_apart;
+        })
 
 pub not_so : (b : Bool) (P : Type 0) → IsTrue b ↔ P → b ≡ false → P → ⊥
 not_so b P e h p = let f : IsTrue b = e.1 p in cc

@@ -1,6 +1,6 @@
 -- A match of a rule with constant labels is a match of the rule that it stands for, which applies and is never faulty.
 use Rattle.std.proofs.Common.{◌≡◌, ℕ, zero, suc, ◌<◌, Bool, true, false, List, [], ◌∷◌, ◌++◌, length, map, refl, sym, ap, subst, ◌∙◌, arith, inl, inr}
-use Rattle.std.specs.Prelude.{◌⊎◌, Option, Some, None, IsSomeAnd, Contains, slice_get, slice_index, slice_index_or}
+use Rattle.std.specs.Prelude.{Option, Some, None, IsSomeAnd, slice_get, slice_index, slice_index_or}
 use Rattle.std.specs.Option.{option_map}
 use Rattle.std.proofs.lemmas.List.{length-map}
 use Rattle.std.proofs.lemmas.Option.{slice_get-map, slice_get_within, same_Some}
@@ -16,12 +16,12 @@ use Rattle.gp_syntax.specs.declared.plain.PlainLeftEdge.{PlainLeftEdge}
 use Rattle.gp_syntax.specs.declared.plain.PlainRightNode.{PlainRightNode}
 use Rattle.gp_syntax.specs.declared.plain.PlainRightEdge.{PlainRightEdge}
 use Rattle.gp_syntax.specs.Expression.{Expression}
-use Rattle.gp_syntax.specs.Value.{Assignment, Setting, Valued, Value, NoValue, value_of}
-use Rattle.gp_syntax.specs.Rule.{Rule, LeftNode, LeftEdge, RightNode, RightEdge, IsKept, Found}
+use Rattle.gp_syntax.specs.Value.{Assignment, Setting, Value, NoValue, value_of}
+use Rattle.gp_syntax.specs.Rule.{Rule, LeftNode, LeftEdge, RightNode, RightEdge, Found}
 use Rattle.gp_syntax.specs.Match.{MatchBy, FitsNode, FitsEdge, setting_of}
-use Rattle.gp_syntax.specs.Step.{first_fault, right_labels, AppliesBy, Applies, FaultyBy, IsFaulty, Blocked}
+use Rattle.gp_syntax.specs.Step.{first_fault, right_labels, AppliesBy, Applies, IsFaulty, Blocked}
 use Rattle.gp_syntax.specs.Plain.{atom_expression, constant, left_node_of, left_edge_of, right_node_of, right_edge_of, plain_rule, IsPlain}
-use Rattle.gp_cli.specs.PlainMatch.{PlainMatch, IsNodeWith, IsEdgeWith}
+use Rattle.gp_cli.specs.PlainMatch.{PlainMatch}
 use Rattle.gp_cli.specs.Found.{plain_found}
 
 -- ---- labels
@@ -128,13 +128,13 @@ match_of r g nodes edges plain w = record {
   nodes = λ i q h. (let p = some_from_map left_node_of r.left_nodes.items i q h in
       subst (λ (q : LeftNode). IsSomeAnd (node_at g (slice_index nodes i)) (FitsNode (setting_of (plain_rule r) g (plain_found nodes edges) []) q)) p.2
       (some_and (node_at g (slice_index nodes i)) (λ (x : Node). (x.label ≡ p.0.label) × (x.mark ≡ node_marks.None)) (FitsNode (setting_of (plain_rule r) g (plain_found nodes edges) []) (left_node_of p.0))
-          (fits_node (setting_of (plain_rule r) g (plain_found nodes edges) []) p.0) (w.nodes_fit i p.0 p.1)));
+      (fits_node (setting_of (plain_rule r) g (plain_found nodes edges) []) p.0) (w.nodes_fit i p.0 p.1)));
   edges = λ i q h. (let p = some_from_map left_edge_of r.left_edges.items i q h in
       subst (λ (q : LeftEdge). IsSomeAnd (edge_at g (slice_index edges i)) (FitsEdge (setting_of (plain_rule r) g (plain_found nodes edges) []) q (slice_index_or (map (λ _. false) edges) i false))) p.2
       (some_and (edge_at g (slice_index edges i))
-          (λ (d : Edge). (d.source ≡ slice_index nodes p.0.source) × (d.target ≡ slice_index nodes p.0.target) × (d.label ≡ p.0.label) × (d.mark ≡ edge_marks.None))
-          (FitsEdge (setting_of (plain_rule r) g (plain_found nodes edges) []) (left_edge_of p.0) (slice_index_or (map (λ _. false) edges) i false))
-          (λ d f. fits_edge (setting_of (plain_rule r) g (plain_found nodes edges) []) p.0 (slice_index_or (map (λ _. false) edges) i false) d (none_reversed edges i) f) (w.edges_fit i p.0 p.1)));
+      (λ (d : Edge). (d.source ≡ slice_index nodes p.0.source) × (d.target ≡ slice_index nodes p.0.target) × (d.label ≡ p.0.label) × (d.mark ≡ edge_marks.None))
+      (FitsEdge (setting_of (plain_rule r) g (plain_found nodes edges) []) (left_edge_of p.0) (slice_index_or (map (λ _. false) edges) i false))
+      (λ d f. fits_edge (setting_of (plain_rule r) g (plain_found nodes edges) []) p.0 (slice_index_or (map (λ _. false) edges) i false) d (none_reversed edges i) f) (w.edges_fit i p.0 p.1)));
   dangling = λ i e d h kept at ends. (let p = got r.left_nodes.items i (let e = length-map r.left_nodes.items left_node_of in omega arith) in
       (w.dangling i p.0 p.1 (is_false p.0.kept (λ t. kept ((plain.kept i p.0 p.1).0 t)))).each e d at ends);
 }
@@ -156,9 +156,9 @@ applies_by r g nodes edges plain w = plain_of r g (plain_found nodes edges) w.0 
 
 no_faulty : (r : PlainRule) (g : Graph) (m : Found) (kind : NumberKind) → IsFaulty (plain_rule r) g m kind → ⊥
 no_faulty r g m kind w = elim w.1.cause [
-    | inl e ↦ absurd (let f : Value true ≡ NoValue kind = e in cc)
-    | inr e ↦ (let f = no_fault r (setting_of (plain_rule r) g m w.0) in absurd (let h = e.1 in cc))
-  ]
+  | inl e ↦ absurd (let f : Value true ≡ NoValue kind = e in cc)
+  | inr e ↦ (let f = no_fault r (setting_of (plain_rule r) g m w.0) in absurd (let h = e.1 in cc))
+]
 
 only_rule : (r : Rule) (i : ℕ) (q : Rule) → slice_get (r ∷ []) i ≡ Some q → r ≡ q
 only_rule r zero q h = same_Some r q h

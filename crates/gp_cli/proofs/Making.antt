@@ -1,20 +1,20 @@
 -- The parts of a step, one edge or node at a time.
-use Rattle.std.proofs.Common.{◌≡◌, ◌≢◌, ℕ, zero, suc, ◌+◌, ◌-◌, ◌<◌, ◌≤◌, Bool, true, false, List, [], ◌∷◌, ◌++◌, length, get_or, take, refl, sym, ap, subst, ◌∙◌, arith, add-one, add-zero, length-append, length-take, get_or-take, inl, inr}
-use Rattle.std.specs.Prelude.{◌⊎◌, Option, Some, None, is_none, IsSome, IfSome, Contains, count_by, slice_get, slice_index, slice_index_or}
+use Rattle.std.proofs.Common.{◌≡◌, ◌≢◌, ℕ, zero, suc, ◌+◌, ◌<◌, ◌≤◌, Bool, true, false, List, [], ◌∷◌, ◌++◌, length, take, refl, sym, ap, subst, ◌∙◌, arith, add-one, length-append, length-take, get_or-take, inl, inr}
+use Rattle.std.specs.Prelude.{◌⊎◌, Option, Some, None, is_none, IsSome, IfSome, Contains, slice_get, slice_index, slice_index_or}
 use Rattle.std.proofs.Math.Seq.{take-suc, get_or-append_seam}
 use Rattle.std.proofs.lemmas.List.{get_or_append_left}
 use Rattle.std.proofs.lemmas.List.Elements.{Contains-append_left, Contains-append_right, Contains-append_cases}
 use Rattle.std.proofs.lemmas.List.Sums.{count_by_more_no, count_by_more_yes}
 use Rattle.std.proofs.lemmas.Option.{slice_get_within, same_Some, get_or_from_slice_get}
 use Rattle.std.proofs.lemmas.Grind.{get_or_default_zero}
-use Rattle.gp_values.specs.Graph.{Graph, Node, Edge, IsGraph, HasNoEdges, node_at, edge_at, with_node, with_edge, without_node, without_edge, relabeled}
+use Rattle.gp_values.specs.Graph.{Graph, Node, Edge, IsGraph, HasNoEdges, node_at, edge_at, with_edge, without_node, without_edge}
 use Rattle.gp_values.specs.declared.marks.NodeMark.TheVariants as node_marks
 use Rattle.gp_values.proofs.Graphs.{get-insert_here, get-insert_apart, get-remove_here, get-remove_apart}
 use Rattle.gp_syntax.specs.declared.plain.PlainLeftNode.{PlainLeftNode}
 use Rattle.gp_syntax.specs.declared.plain.PlainRightNode.{PlainRightNode}
 use Rattle.gp_syntax.specs.declared.plain.PlainRightEdge.{PlainRightEdge}
 use Rattle.gp_syntax.specs.Match.{AreApart}
-use Rattle.gp_cli.specs.Making.{AllNodes, AllEdges, EdgesRemoved, IsDeleted, NodesRemoved, AreLoose, root_of, placed_node, lands, placing, made_before, HaveOrigins, KeptAreThere, NodesPlaced, HaveImages, placed_edge, EdgesPlaced}
+use Rattle.gp_cli.specs.Making.{AllNodes, AllEdges, EdgesRemoved, IsDeleted, NodesRemoved, AreLoose, root_of, placed_node, lands, placing, made_before, HaveOrigins, KeptAreThere, NodesPlaced, placed_edge, EdgesPlaced}
 use Rattle.gp_cli.proofs.Constants.{got}
 
 -- ---- lists of numbers
@@ -116,9 +116,11 @@ deleted_cases ps ns k n d =
     let cases : (d.place < k) ⊎ (d.place ≡ k) = grind arith in
     elim cases [
       | inl b ↦ inl (record { place = d.place; before = b; left = d.left; is_left = d.is_left; not_kept = d.not_kept; image = d.image })
-      | inr s ↦ inr (refl,
-          (λ p h. (let e : d.left ≡ p = same_Some d.left p (sym d.is_left ∙ ap (slice_get ps) s ∙ h) in ap (λ (x : PlainLeftNode). x.kept) (sym e) ∙ d.not_kept)),
-          ap (slice_index ns) (sym s) ∙ d.image)
+      | inr s ↦ inr (
+        refl,
+        (λ p h. (let e : d.left ≡ p = same_Some d.left p (sym d.is_left ∙ ap (slice_get ps) s ∙ h) in ap (λ (x : PlainLeftNode). x.kept) (sym e) ∙ d.not_kept)),
+        ap (slice_index ns) (sym s) ∙ d.image,
+      )
     ]
 
 pub nodes_removed_kept : (g : Graph) (ps : List PlainLeftNode) (ns : List ℕ) (k : ℕ) (h : Graph) (p : PlainLeftNode) → slice_get ps k ≡ Some p → p.kept ≡ true
@@ -226,12 +228,12 @@ kept_is_fresh g qs ns images h q i get origin origins apart below w c =
 made_next : (qs : List PlainRightNode) (k : ℕ) (q : PlainRightNode) → slice_get qs k ≡ Some q → q.origin ≡ None → made_before qs (k + 1) ≡ made_before qs k + 1
 made_next qs k q get o =
     count_by_more_yes (λ (x : PlainRightNode). is_none x.origin) qs k q (slice_get_within qs k q get)
-        (ap (λ (x : PlainRightNode). is_none x.origin) (get_or_from_slice_get qs k q q get) ∙ ap is_none o)
+    (ap (λ (x : PlainRightNode). is_none x.origin) (get_or_from_slice_get qs k q q get) ∙ ap is_none o)
 
 made_same : (qs : List PlainRightNode) (k : ℕ) (q : PlainRightNode) (i : ℕ) → slice_get qs k ≡ Some q → q.origin ≡ Some i → made_before qs (k + 1) ≡ made_before qs k
 made_same qs k q i get o =
     count_by_more_no (λ (x : PlainRightNode). is_none x.origin) qs k q (slice_get_within qs k q get)
-        (ap (λ (x : PlainRightNode). is_none x.origin) (get_or_from_slice_get qs k q q get) ∙ ap is_none o)
+    (ap (λ (x : PlainRightNode). is_none x.origin) (get_or_from_slice_get qs k q q get) ∙ ap is_none o)
 
 with_root : PlainRightNode → Bool → Node
 with_root q b = record { label = q.label; mark = node_marks.None; root = b }

@@ -1,23 +1,19 @@
 -- The parts of a step come to the step of the rule that a rule with constant labels stands for.
-use Rattle.std.proofs.Common.{◌≡◌, ℕ, zero, suc, cond, ◌+◌, ◌<◌, ◌≤◌, Bool, true, false, List, [], ◌∷◌, length, map, take, refl, sym, ap, subst, ◌∙◌, arith, inl, inr}
-use Rattle.std.specs.Prelude.{◌⊎◌, ◌&&◌, Option, Some, None, is_none, IsSome, IsSomeAnd, Contains, count_by, slice_get, slice_index, option_and_then, if◌then◌else◌}
+use Rattle.std.proofs.Common.{◌≡◌, ℕ, zero, suc, cond, ◌+◌, ◌<◌, Bool, true, false, List, [], ◌∷◌, length, map, take, refl, sym, ap, subst, ◌∙◌, arith, inl, inr}
+use Rattle.std.specs.Prelude.{◌⊎◌, ◌&&◌, Option, Some, None, is_none, IsSome, IsSomeAnd, Contains, count_by, slice_get, slice_index}
 use Rattle.std.specs.Option.{option_map_or}
 use Rattle.std.specs.List.{fold}
 use Rattle.std.proofs.lemmas.List.{length-map}
 use Rattle.std.proofs.lemmas.List.Elements.{Contains-append_right, Contains-append_cases}
-use Rattle.std.proofs.lemmas.Option.{slice_get_within, slice_get_past}
-use Rattle.gp_values.specs.Graph.{Graph, Node, Edge, IsGraph, HasNoEdges, node_at, edge_at}
-use Rattle.gp_values.specs.declared.marks.NodeMark.TheVariants as node_marks
-use Rattle.gp_values.specs.declared.marks.EdgeMark.TheVariants as edge_marks
+use Rattle.std.proofs.lemmas.Option.{slice_get_within}
+use Rattle.gp_values.specs.Graph.{Graph, Node, Edge, IsGraph, node_at, edge_at}
 use Rattle.gp_syntax.specs.declared.plain.PlainRule.{PlainRule}
 use Rattle.gp_syntax.specs.declared.plain.PlainLeftNode.{PlainLeftNode}
 use Rattle.gp_syntax.specs.declared.plain.PlainRightNode.{PlainRightNode}
-use Rattle.gp_syntax.specs.declared.plain.PlainRightEdge.{PlainRightEdge}
-use Rattle.gp_syntax.specs.Value.{Assignment, Value}
-use Rattle.gp_syntax.specs.Rule.{Rule, LeftNode, RightNode, RightEdge, IsKept, Found}
-use Rattle.gp_syntax.specs.Match.{AreApart, setting_of}
-use Rattle.gp_syntax.specs.Step.{Applies, Step, StepBy, Places, MakesNode, MakesEdge, new_before, is_new, left_root, made_root, found_node, CallsTo}
-use Rattle.gp_syntax.specs.Plain.{constant, left_node_of, right_node_of, right_edge_of, plain_rule, IsPlain}
+use Rattle.gp_syntax.specs.Rule.{LeftNode, RightNode, RightEdge, IsKept}
+use Rattle.gp_syntax.specs.Match.{setting_of}
+use Rattle.gp_syntax.specs.Step.{Step, StepBy, Places, MakesNode, MakesEdge, is_new, left_root, made_root}
+use Rattle.gp_syntax.specs.Plain.{left_node_of, right_node_of, right_edge_of, plain_rule, IsPlain}
 use Rattle.gp_cli.specs.PlainMatch.{PlainMatch}
 use Rattle.gp_cli.specs.Found.{plain_found}
 use Rattle.gp_cli.specs.Making.{AllNodes, AllEdges, EdgesRemoved, IsDeleted, NodesRemoved, AreLoose, root_of, placed_node, made_before, HaveOrigins, KeptAreThere, NodesPlaced, HaveImages, placed_edge, EdgesPlaced}
@@ -49,21 +45,21 @@ nodes_there g nodes edges h all w = record { each = λ i b. rw (w.nodes (slice_i
 has_or_not : (es : List ℕ) (e : ℕ) → Contains es e ⊎ (Contains es e → ⊥)
 has_or_not [] e = inr (λ h. (let b = h.1 in omega arith))
 has_or_not (x ∷ xs) e = elim (same_or_not x e) [
-    | inl s ↦ inl (contains_at (x ∷ xs) 0 e (omega arith) s)
-    | inr d ↦ elim (has_or_not xs e) [
-        | inl c ↦ inl (Contains-append_right (x ∷ []) xs e c)
-        | inr n ↦ inr (λ h. elim (Contains-append_cases (x ∷ []) xs e h) [ inl c ↦ d (one_at x e c.0 c.1 c.2) | inr c ↦ n c ])
-      ]
+  | inl s ↦ inl (contains_at (x ∷ xs) 0 e (omega arith) s)
+  | inr d ↦ elim (has_or_not xs e) [
+    | inl c ↦ inl (Contains-append_right (x ∷ []) xs e c)
+    | inr n ↦ inr (λ h. elim (Contains-append_cases (x ∷ []) xs e h) [ inl c ↦ d (one_at x e c.0 c.1 c.2) | inr c ↦ n c ])
   ]
+]
 
 pub are_loose : (r : PlainRule) (g : Graph) (nodes edges : List ℕ) (h : Graph) → PlainMatch r g nodes edges → EdgesRemoved g edges h → AreLoose h r.left_nodes.items nodes
 are_loose r g nodes edges h m w = record {
-    each = λ i p get kept e d at. (λ s. loose i p get kept e d at (inl s), λ s. loose i p get kept e d at (inr s));
-  }
+  each = λ i p get kept e d at. (λ s. loose i p get kept e d at (inl s), λ s. loose i p get kept e d at (inr s));
+}
   where
-  loose : (i : ℕ) (p : PlainLeftNode) → slice_get r.left_nodes.items i ≡ Some p → p.kept ≡ false → (e : ℕ) (d : Edge) → edge_at h e ≡ Some d
-      → (d.source ≡ slice_index nodes i) ⊎ (d.target ≡ slice_index nodes i) → ⊥
-  loose i p get kept e d at ends = elim (has_or_not edges e) [
+    loose : (i : ℕ) (p : PlainLeftNode) → slice_get r.left_nodes.items i ≡ Some p → p.kept ≡ false → (e : ℕ) (d : Edge) → edge_at h e ≡ Some d
+        → (d.source ≡ slice_index nodes i) ⊎ (d.target ≡ slice_index nodes i) → ⊥
+    loose i p get kept e d at ends = elim (has_or_not edges e) [
       | inl c ↦ absurd (let n : None ≡ Some d = sym (w.gone e c) ∙ at in cc)
       | inr c ↦ c ((m.dangling i p get kept).each e d (sym (w.others e c) ∙ at) ends)
     ]
@@ -75,16 +71,16 @@ pub kept_stays : (r : PlainRule) (g : Graph) (nodes edges : List ℕ) (k h : Gra
 kept_stays r g nodes edges k h plain m cut removed j i q get origin =
     removed.others (slice_index nodes i) still ∙ cut.nodes (slice_index nodes i)
   where
-  still : IsDeleted r.left_nodes.items nodes (length r.left_nodes.items) (slice_index nodes i) → ⊥
-  still d =
-      let count = m.node_count in
-      let before = d.before in
-      let within = plain.origins j i q get origin in
-      let same : d.place ≡ i = same_place nodes d.place i m.nodes_apart (omega arith) (omega arith) d.image in
-      let kept : IsKept (plain_rule r) d.place = (j, right_node_of q, some_map right_node_of r.right_nodes.items j q get, origin ∙ ap Some (sym same)) in
-      let t = (plain.kept d.place d.left d.is_left).1 kept in
-      let f = d.not_kept in
-      absurd cc
+    still : IsDeleted r.left_nodes.items nodes (length r.left_nodes.items) (slice_index nodes i) → ⊥
+    still d =
+        let count = m.node_count in
+        let before = d.before in
+        let within = plain.origins j i q get origin in
+        let same : d.place ≡ i = same_place nodes d.place i m.nodes_apart (omega arith) (omega arith) d.image in
+        let kept : IsKept (plain_rule r) d.place = (j, right_node_of q, some_map right_node_of r.right_nodes.items j q get, origin ∙ ap Some (sym same)) in
+        let t = (plain.kept d.place d.left d.is_left).1 kept in
+        let f = d.not_kept in
+        absurd cc
 
 pub kept_there : (r : PlainRule) (g : Graph) (nodes edges : List ℕ) (k h : Graph) → IsPlain r → PlainMatch r g nodes edges → EdgesRemoved g edges k
     → NodesRemoved k r.left_nodes.items nodes (length r.left_nodes.items) h → KeptAreThere h r.right_nodes.items nodes
@@ -151,9 +147,9 @@ root_from : (r : PlainRule) (g : Graph) (ns es : List ℕ) (k h : Graph) → IsP
     → NodesRemoved k r.left_nodes.items ns (length r.left_nodes.items) h
     → (j : ℕ) (q : PlainRightNode) → slice_get r.right_nodes.items j ≡ Some q → root_of h ns q.origin ≡ root_of g ns q.origin
 root_from r g ns es k h plain m cut removed j q get = elim (origin_cases q.origin) [
-    | inl none ↦ same_root_new g h ns q.origin none
-    | inr from ↦ same_root_kept g h ns q.origin from.0 from.1 (kept_stays r g ns es k h plain m cut removed j from.0 q get from.1)
-  ]
+  | inl none ↦ same_root_new g h ns q.origin none
+  | inr from ↦ same_root_kept g h ns q.origin from.0 from.1 (kept_stays r g ns es k h plain m cut removed j from.0 q get from.1)
+]
 
 image_within : (r : PlainRule) (images : List ℕ) → length images ≡ length r.right_nodes.items → (j : ℕ) (q : RightNode) → slice_get (map right_node_of r.right_nodes.items) j ≡ Some q → j < length images
 image_within r images count j q get =
@@ -183,26 +179,31 @@ right_node : (r : PlainRule) (g : Graph) (ns es : List ℕ) (k l : Graph) (image
     → (x : Node) × (node_at h (slice_index images j) ≡ Some x) × MakesNode (plain_rule r) g (plain_found ns es) [] q x
 right_node r g ns es k l images p h w j q get =
     let x = some_from_map right_node_of r.right_nodes.items j q get in
-    subst (λ (q : RightNode). (x : Node) × (node_at h (slice_index images j) ≡ Some x) × MakesNode (plain_rule r) g (plain_found ns es) [] q x) x.2
-    (placed_node l ns x.0, w.joined.nodes (slice_index images j) ∙ w.placed.nodes j x.0 (image_within r images w.count j q get) x.1, record {
-      label = value-constant x.0.label (setting_of (plain_rule r) g (plain_found ns es) []);
-      mark = refl;
-      root = root_from r g ns es k l w.plain w.is_match w.cut w.removed j x.0 x.1 ∙ root_stays r x.0.origin (root_of g ns x.0.origin);
-    })
+    subst (λ (q : RightNode). (x : Node) × (node_at h (slice_index images j) ≡ Some x) × MakesNode (plain_rule r) g (plain_found ns es) [] q x) x.2 (
+      placed_node l ns x.0,
+      w.joined.nodes (slice_index images j) ∙ w.placed.nodes j x.0 (image_within r images w.count j q get) x.1,
+      record {
+        label = value-constant x.0.label (setting_of (plain_rule r) g (plain_found ns es) []);
+        mark = refl;
+        root = root_from r g ns es k l w.plain w.is_match w.cut w.removed j x.0 x.1 ∙ root_stays r x.0.origin (root_of g ns x.0.origin);
+      },
+    )
 
 right_edge : (r : PlainRule) (g : Graph) (ns es : List ℕ) (k l : Graph) (images : List ℕ) (p h : Graph) → Parts r g ns es k l images p h
     → (j : ℕ) (q : RightEdge) → slice_get (map right_edge_of r.right_edges.items) j ≡ Some q
     → (d : Edge) × (edge_at h (g.next_edge + j) ≡ Some d) × MakesEdge (plain_rule r) g (plain_found ns es) [] images q d
 right_edge r g ns es k l images p h w j q get =
     let x = some_from_map right_edge_of r.right_edges.items j q get in
-    subst (λ (q : RightEdge). (d : Edge) × (edge_at h (g.next_edge + j) ≡ Some d) × MakesEdge (plain_rule r) g (plain_found ns es) [] images q d) x.2
-    (placed_edge images x.0,
-     ap (λ n. edge_at h (n + j)) (sym (next_edges r g ns es k l images p h w)) ∙ w.joined.placed j x.0 (slice_get_within r.right_edges.items j x.0 x.1) x.1, record {
-      source = refl;
-      target = refl;
-      label = value-constant x.0.label (setting_of (plain_rule r) g (plain_found ns es) []);
-      mark = refl;
-    })
+    subst (λ (q : RightEdge). (d : Edge) × (edge_at h (g.next_edge + j) ≡ Some d) × MakesEdge (plain_rule r) g (plain_found ns es) [] images q d) x.2 (
+      placed_edge images x.0,
+      ap (λ n. edge_at h (n + j)) (sym (next_edges r g ns es k l images p h w)) ∙ w.joined.placed j x.0 (slice_get_within r.right_edges.items j x.0 x.1) x.1,
+      record {
+        source = refl;
+        target = refl;
+        label = value-constant x.0.label (setting_of (plain_rule r) g (plain_found ns es) []);
+        mark = refl;
+      },
+    )
 
 deleted_node : (r : PlainRule) (g : Graph) (ns es : List ℕ) (k l : Graph) (images : List ℕ) (p h : Graph) → Parts r g ns es k l images p h
     → (n : ℕ) → (Contains images n → ⊥) → Contains ns n → IsDeleted r.left_nodes.items ns (length r.left_nodes.items) n

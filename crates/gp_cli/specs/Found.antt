@@ -1,5 +1,5 @@
 -- Where a match of a rule with constant labels lies, as the record of it that steps and runs have.
-use Rattle.std.specs.Prelude.{ℕ, Bool, false, List, map}
+use Rattle.std.specs.Prelude.{ℕ, false, List, map}
 use Rattle.gp_syntax.specs.Rule.{Found}
 use Rattle.gp_cli.specs.declared.matching.PlainFound.{PlainFound}
 

@@ -1,7 +1,7 @@
 //! The step that an applying match of a rule with constant labels makes.
 
 ghost use Rattle.std.specs.Prelude.{◌≡◌, ◌<◌, [], ◌∷◌, length, false, Some, None, IsSome, slice_index, IfOk, IfSome, IfNone, OnOk};
-ghost use Rattle.gp_values.specs.Graph.{IsGraph, node_at};
+ghost use Rattle.gp_values.specs.Graph.{IsGraph, HasNoEdges, node_at, without_node};
 ghost use Rattle.gp_syntax.specs.Match.{AreApart};
 ghost use Rattle.gp_syntax.specs.Step.{Applies, Step, CallsTo, Blocked};
 ghost use Rattle.gp_syntax.specs.Plain.{plain_rule, IsPlain};
@@ -31,6 +31,14 @@ fn remove_edges(graph: &mut Graph, edges: &[u64])
     }
 }
 
+fn remove_node(graph: &mut Graph, n: u64)
+    requires there { IsSome (node_at graph.old.graph n) }
+    requires no_edges { HasNoEdges graph.old.graph n }
+    ensures { graph.new.graph ≡ without_node graph.old.graph n }
+{
+    let _ = graph.remove_node(n);
+}
+
 // Removes the images of the left nodes that the interface does not have.
 fn remove_nodes(graph: &mut Graph, left: &[PlainLeftNode], nodes: &[u64])
     requires count { length nodes.now ≡ length left.now }
@@ -41,7 +49,7 @@ fn remove_nodes(graph: &mut Graph, left: &[PlainLeftNode], nodes: &[u64])
 {
     for i in 0..left.len() {
         if !left[i].kept {
-            let _ = graph.remove_node(nodes[i]);
+            remove_node(graph, nodes[i]);
         }
     }
 }
@@ -139,7 +147,11 @@ pub(crate) fn apply(
 
 /// Finds a match and makes its step. The answer is the match, or none where the rule has no match: the graph is then
 /// as before. After a refusal of memory the step may be made in part.
-pub(crate) fn call(alloc: Global, rule: &PlainRule, graph: &mut Graph) -> Result<Option<PlainFound>, NoMemory>
+pub(crate) fn call(
+    alloc: Global,
+    rule: &PlainRule,
+    graph: &mut Graph,
+) -> Result<Option<PlainFound>, NoMemory>
     requires { IsPlain rule.now }
     ensures step { IfOk result (λ o. IfSome o (λ f. CallsTo (plain_rule rule.now ∷ []) (0 ∷ []) graph.old.graph (found_of f) graph.new.graph)) }
     ensures blocked { IfOk result (λ o. IfNone o (Blocked (plain_rule rule.now ∷ []) (0 ∷ []) graph.old.graph)) }

@@ -7,4 +7,4 @@ pub loop-q-preserved : goal.loop-q-preserved
 loop-q-preserved c =
     let get = slice_get_read c.args.right.now _ c.loop-q.q-index c.q-item.result refl c.loop-q-test.true c.q-item.is in
     rw (c.in_ok-add_edge.ensures.ok, c.in_ok-label.ensures)
-        (edges_placed_next c.args.graph.now.graph c.args.right.now c.args.images.now c.loop-q.q-index c.loop-q.graph.graph c.q-item.result get c.loop-q.invariant)
+    (edges_placed_next c.args.graph.now.graph c.args.right.now c.args.images.now c.loop-q.q-index c.loop-q.graph.graph c.q-item.result get c.loop-q.invariant)

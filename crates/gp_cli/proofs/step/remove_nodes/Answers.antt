@@ -10,7 +10,7 @@ loop-i-preserved c =
     let get = slice_get_read c.args.left.now _ c.loop-i.i c.index-left-i.result refl c.loop-i-test.true c.index-left-i.is in
     let kept = ap (λ (p : PlainLeftNode). p.kept) c.index-left-i.is in
     elim c.if-not-left-i.branch [
-      | then-not-left-i w ↦ rw (w.graph-is, w.remove_node.ensures.removed)
+      | then-not-left-i w ↦ rw (w.graph-is, w.remove_node.ensures)
           (nodes_removed_next c.args.graph.now.graph c.args.left.now c.args.nodes.now c.loop-i.i c.loop-i.graph.graph c.index-left-i.result get (kept ∙ w.if-not-left-i.true) c.loop-i.invariant)
       | else-not-left-i w ↦ rw w.graph-is
           (nodes_removed_kept c.args.graph.now.graph c.args.left.now c.args.nodes.now c.loop-i.i c.loop-i.graph.graph c.index-left-i.result get (kept ∙ w.if-not-left-i.false) c.loop-i.invariant)
