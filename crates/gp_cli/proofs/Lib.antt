@@ -1,0 +1,4 @@
+pub mod Choices
+pub mod Constants
+pub mod Making
+pub mod Steps

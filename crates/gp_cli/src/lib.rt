@@ -1,0 +1,5 @@
+//! The program.
+#![tactic(auto)]
+
+mod matching;
+mod step;
