@@ -1,3 +1,3 @@
 pub mod Graphs
-pub mod Equality
 pub mod Order
+pub mod Labels

@@ -6,6 +6,7 @@ ghost use Rattle.gp_values.specs.Atoms.{IsAtom};
 use crate::chars::Chars;
 use crate::memory::NoMemory;
 use std::alloc::Global;
+use std::cmp::Ordering;
 
 /// One item of a list: an integer of 128 bits or a string (Plump 2012, section 2).
 #[derive(Drop)]
@@ -29,11 +30,7 @@ impl Atom {
     pub fn same(&self, other: &Atom) -> bool
         ensures { IsTrue result ↔ (self.now ≡ other.now) }
     {
-        match (self, other) {
-            (Atom::Int(x), Atom::Int(y)) => *x == *y,
-            (Atom::Str(x), Atom::Str(y)) => x.same(y),
-            _ => false,
-        }
+        *self == *other
     }
 
     // What every atom keeps, told to a caller.
@@ -55,5 +52,66 @@ impl Atom {
 impl Default for Atom {
     fn default() -> Atom {
         Atom::Int(0)
+    }
+}
+
+impl PartialEq for Atom {
+    ghost use Rattle.gp_values.specs.Atoms.{same_atom};
+    ghost use Rattle.gp_values.specs.CompareLaws.{atoms_per};
+
+    ghost eq = { same_atom };
+
+    ghost laws = { atoms_per };
+
+    fn eq(&self, other: &Atom) -> bool {
+        match (self, other) {
+            (Atom::Int(x), Atom::Int(y)) => *x == *y,
+            (Atom::Str(s), Atom::Str(t)) => *s == *t,
+            _ => false,
+        }
+    }
+}
+
+impl Eq for Atom {
+    ghost use Rattle.gp_values.specs.CompareLaws.{atoms_equiv};
+
+    ghost laws = { atoms_equiv };
+}
+
+impl PartialOrd for Atom {
+    ghost use Rattle.std.specs.Prelude.{Some};
+    ghost use Rattle.gp_values.specs.Compare.{atom_cmp};
+    ghost use Rattle.gp_values.specs.CompareLaws.{atoms_po};
+
+    ghost partial_cmp = { λ x y. Some (atom_cmp x y) };
+
+    ghost laws = { atoms_po };
+
+    fn partial_cmp(&self, other: &Atom) -> Option<Ordering> {
+        Some(self.cmp(other))
+    }
+}
+
+// Integers come before strings.
+impl Ord for Atom {
+    ghost use Rattle.std.specs.Prelude.{refl};
+    ghost use Rattle.gp_values.specs.Compare.{atom_cmp};
+    ghost use Rattle.gp_values.specs.CompareLaws.{atoms_total, atoms_ties};
+
+    ghost cmp = { atom_cmp };
+
+    ghost total = { atoms_total };
+
+    ghost matches_partial_cmp = { λ x y. refl };
+
+    ghost matches_eq = { atoms_ties };
+
+    fn cmp(&self, other: &Atom) -> Ordering {
+        match (self, other) {
+            (Atom::Int(x), Atom::Int(y)) => x.cmp(y),
+            (Atom::Int(_), Atom::Str(_)) => Ordering::Less,
+            (Atom::Str(_), Atom::Int(_)) => Ordering::Greater,
+            (Atom::Str(s), Atom::Str(t)) => s.cmp(t),
+        }
     }
 }

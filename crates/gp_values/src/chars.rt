@@ -5,6 +5,7 @@ ghost use Rattle.gp_values.specs.Texts.{IsCharacter, IsText};
 
 use crate::memory::NoMemory;
 use std::alloc::Global;
+use std::cmp::Ordering;
 use std::marker::Model;
 
 /// The characters of a string, each from 32 to 126 and no quotation mark. Contracts see the list of
@@ -74,5 +75,58 @@ impl Chars {
         ensures { IsTrue result ↔ (self.now ≡ other.now) }
     {
         self.codes.as_slice() == other.codes.as_slice()
+    }
+}
+
+// Strings are compared by the codes of their characters, in order.
+impl PartialEq for Chars {
+    ghost use Rattle.std.specs.Prelude.{nat_eq};
+    ghost use Rattle.std.specs.Cmp.Lexicographic.{pointwise};
+    ghost use Rattle.gp_values.specs.TextLaws.{texts_per};
+
+    ghost eq = { pointwise nat_eq };
+
+    ghost laws = { texts_per };
+
+    fn eq(&self, other: &Chars) -> bool {
+        self.codes.as_slice() == other.codes.as_slice()
+    }
+}
+
+impl Eq for Chars {
+    ghost use Rattle.std.specs.Cmp.Lexicographic.{nat_list_eq_equiv};
+
+    ghost laws = { nat_list_eq_equiv };
+}
+
+impl PartialOrd for Chars {
+    ghost use Rattle.std.specs.Prelude.{Some};
+    ghost use Rattle.std.specs.Ordering.{nat_cmp};
+    ghost use Rattle.std.specs.Cmp.Lexicographic.{slice_cmp, texts_po};
+
+    ghost partial_cmp = { λ s t. Some (slice_cmp nat_cmp s t) };
+
+    ghost laws = { texts_po };
+
+    fn partial_cmp(&self, other: &Chars) -> Option<Ordering> {
+        Some(self.cmp(other))
+    }
+}
+
+impl Ord for Chars {
+    ghost use Rattle.std.specs.Prelude.{refl};
+    ghost use Rattle.std.specs.Ordering.{nat_cmp};
+    ghost use Rattle.std.specs.Cmp.Lexicographic.{slice_cmp, nat_list_cmp_total, texts_ties};
+
+    ghost cmp = { slice_cmp nat_cmp };
+
+    ghost total = { nat_list_cmp_total };
+
+    ghost matches_partial_cmp = { λ s t. refl };
+
+    ghost matches_eq = { texts_ties };
+
+    fn cmp(&self, other: &Chars) -> Ordering {
+        self.codes.as_slice().cmp(&other.codes.as_slice())
     }
 }

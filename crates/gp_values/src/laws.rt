@@ -1,6 +1,7 @@
 //! What holds of graphs as the specifications define them. Each function does nothing: its contract is the law.
 
 ghost use Rattle.gp_values.specs.Laws.{EditsKeepGraphs, EditsChangeOnePlace, SameGraphs, TestsEquality};
+ghost use Rattle.gp_values.specs.Compare.{OrdersLists};
 ghost use Rattle.gp_values.specs.Order.{WalksMeetAll};
 
 /// Each edit of a graph leaves a graph.
@@ -26,4 +27,9 @@ pub fn tests_equality()
 /// A walk over the numbers below the next ones meets all nodes and edges, in order.
 pub fn walks_meet_all()
     ensures { WalksMeetAll }
+{}
+
+/// The order of lists is total, and only equal lists are tied.
+pub fn orders_lists()
+    ensures { OrdersLists }
 {}

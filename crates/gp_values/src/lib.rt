@@ -3,6 +3,7 @@
 
 mod atom;
 mod chars;
+mod label;
 pub mod laws;
 mod list;
 mod marks;

@@ -7,6 +7,7 @@ use crate::atom::Atom;
 use crate::memory::NoMemory;
 use smallvec::SmallVec;
 use std::alloc::Global;
+use std::cmp::Ordering;
 use std::marker::Model;
 
 /// A list of atoms, the value of a label. Contracts see the list of its atoms. A list of up to two atoms takes no
@@ -70,24 +71,72 @@ impl List {
         Ok(list)
     }
 
+    /// Puts the atoms of another list behind those of this one. On refusal the list is as before.
+    pub fn join(&mut self, other: &List) -> Result<(), NoMemory>
+        ensures ok { OnOk result (self.new ≡ self.old ++ other.now) }
+        ensures err { OnErr result (self.new ≡ self.old) }
+    {
+        let List { atoms: mut tail } = other.copy(*self.atoms.allocator())?;
+        self.atoms.append(&mut tail)?;
+        Ok(())
+    }
+
     /// Whether both have the same atoms in the same order.
     pub fn same(&self, other: &List) -> bool
         ensures { IsTrue result ↔ (self.now ≡ other.now) }
     {
-        same_atoms(self.atoms.as_slice(), other.atoms.as_slice())
+        *self == *other
     }
 }
 
-fn same_atoms(xs: &[Atom], ys: &[Atom]) -> bool
-    ensures { IsTrue result ↔ (xs.now ≡ ys.now) }
-{
-    if xs.len() != ys.len() {
-        return false;
+impl PartialEq for List {
+    ghost use Rattle.gp_values.specs.Atoms.{same_list};
+    ghost use Rattle.gp_values.specs.CompareLaws.{lists_per};
+
+    ghost eq = { same_list };
+
+    ghost laws = { lists_per };
+
+    fn eq(&self, other: &List) -> bool {
+        self.atoms.as_slice() == other.atoms.as_slice()
     }
-    for i in 0..xs.len() {
-        if !xs[i].same(&ys[i]) {
-            return false;
-        }
+}
+
+impl Eq for List {
+    ghost use Rattle.gp_values.specs.CompareLaws.{lists_equiv};
+
+    ghost laws = { lists_equiv };
+}
+
+impl PartialOrd for List {
+    ghost use Rattle.std.specs.Prelude.{Some};
+    ghost use Rattle.gp_values.specs.Compare.{list_cmp};
+    ghost use Rattle.gp_values.specs.CompareLaws.{lists_po};
+
+    ghost partial_cmp = { λ v w. Some (list_cmp v w) };
+
+    ghost laws = { lists_po };
+
+    fn partial_cmp(&self, other: &List) -> Option<Ordering> {
+        Some(self.cmp(other))
     }
-    true
+}
+
+// A list comes before each that it begins.
+impl Ord for List {
+    ghost use Rattle.std.specs.Prelude.{refl};
+    ghost use Rattle.gp_values.specs.Compare.{list_cmp};
+    ghost use Rattle.gp_values.specs.CompareLaws.{list_cmp_total, list_cmp_ties};
+
+    ghost cmp = { list_cmp };
+
+    ghost total = { list_cmp_total };
+
+    ghost matches_partial_cmp = { λ v w. refl };
+
+    ghost matches_eq = { list_cmp_ties };
+
+    fn cmp(&self, other: &List) -> Ordering {
+        self.atoms.as_slice().cmp(&other.atoms.as_slice())
+    }
 }

@@ -7,7 +7,7 @@ use Rattle.gp_values.specs.declared.atom.Atom.{Atom}
 use Rattle.gp_values.specs.declared.atom.Atom.TheVariants.{Int, Str}
 use Rattle.gp_values.specs.Atoms.{same_atom, same_list}
 
-same_atom-Decides : (x y : Atom) → Decides (same_atom x y) (x ≡ y)
+pub same_atom-Decides : (x y : Atom) → Decides (same_atom x y) (x ≡ y)
 same_atom-Decides (Int x) (Int y) = (λ h. ap Int ((signed_Decides x y).0 h), λ e. (signed_Decides x y).1 cc)
 same_atom-Decides (Str s) (Str t) = (λ h. ap Str ((bytes_decides s t).0 h), λ e. (bytes_decides s t).1 cc)
 same_atom-Decides (Int x) (Str t) = (λ h. cc, λ e. cc)

@@ -1,0 +1,5 @@
+use Rattle.gp_values.specs.CompareLaws.{list_cmp_total, list_cmp-equal}
+use Rattle.gp_values.proofs.laws.orders_lists.Goals as goal
+
+pub returns : goal.returns
+returns c = record { total = list_cmp_total; ties = list_cmp-equal }
