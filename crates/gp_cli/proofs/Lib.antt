@@ -2,3 +2,5 @@ pub mod Choices
 pub mod Constants
 pub mod Making
 pub mod Steps
+pub mod Replies
+pub mod Completeness

@@ -1,5 +1,13 @@
-//! The program.
+//! The program: words, files, the run, and what is written.
 #![tactic(auto)]
 
+mod deliver;
+mod load;
 mod matching;
+mod reply;
+mod run;
 mod step;
+mod top;
+mod words;
+
+pub use top::gp2_main;

@@ -1,3 +1,4 @@
 pub mod Host
 pub mod Drawn
 pub mod Laws
+pub mod GraphText

@@ -1,12 +1,12 @@
 pub mod Texts
 pub mod TextLaws
 pub mod Atoms
-pub mod Names
-pub mod Marks
 pub mod EqualityLaws
 pub mod Compare
 pub mod CompareLaws
 pub mod Labels
+pub mod Names
+pub mod Marks
 pub mod Graph
 pub mod Laws
 pub mod Order

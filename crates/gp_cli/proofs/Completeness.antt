@@ -1,0 +1,64 @@
+-- Where all is told and nothing fails, an answer is a graph, fail, or want of memory.
+use Rattle.std.proofs.Common.{◌≡◌, ◌≢◌, ℕ, List, length, refl, sym, ap, subst, ◌∙◌, arith, inl, inr}
+use Rattle.std.specs.Prelude.{◌⊎◌, Option, Some, None}
+use Rattle.std.specs.FinMap as map
+use Rattle.gp_io.specs.Outside.{Content, Rose, HasFile, LacksFile}
+use Rattle.gp_values.specs.Names.{Name}
+use Rattle.gp_values.specs.Graph.{Graph}
+use Rattle.gp_syntax.specs.Run.{Program}
+use Rattle.gp_cli.specs.CommandLine.{Command, command_of}
+use Rattle.gp_cli.specs.Answer.{Count, HasRisen, HasProgram, HasHost, HasLongFile, HasOtherProgram, HasOtherHost, CannotRead, risen, lacking, Replies, gives, fails, bad_words, long_program, other_program, long_host, other_host, no_program, no_host, Answer, replied, no_memory, write_fault, Completes}
+
+same_bytes : (content : Content) (name : Name) (a b : List ℕ) → map.get content name ≡ Some a → map.get content name ≡ Some b → a ≡ b
+same_bytes content name a b h k = cc
+
+same_command : (words : List Name) (k l : Command) → command_of words ≡ Some k → command_of words ≡ Some l → k ≡ l
+same_command words k l h i = cc
+
+module _ {content : Content} {name : Name} where
+  not_long_program : {p : Program} → HasProgram (Some content) name p → HasLongFile (Some content) name → ⊥
+  not_long_program p l = let e = ap length (same_bytes content name p.bytes l.bytes p.file l.file) in let a = p.short in let b = l.long in omega arith
+
+  not_other_program : {p : Program} → HasProgram (Some content) name p → HasOtherProgram (Some content) name → ⊥
+  not_other_program {p} h o = o.no_text p (rw (sym (same_bytes content name h.bytes o.bytes h.file o.file)) h.text)
+
+  not_long_host : {g : Graph} → HasHost (Some content) name g → HasLongFile (Some content) name → ⊥
+  not_long_host p l = let e = ap length (same_bytes content name p.bytes l.bytes p.file l.file) in let a = p.short in let b = l.long in omega arith
+
+  not_other_host : {g : Graph} → HasHost (Some content) name g → HasOtherHost (Some content) name → ⊥
+  not_other_host {g} h o = o.no_text g (rw (sym (same_bytes content name h.bytes o.bytes h.file o.file)) h.text)
+
+can_read : (content : Content) (name : Name) (files : Count) (bytes : List ℕ) → (HasRisen files → ⊥) → HasFile (Some content) name bytes → CannotRead (Some content) files name → ⊥
+can_read content name files bytes n h (risen r) = n r
+can_read content name files bytes n h (lacking l) = absurd cc
+
+abbrev Good : ℕ → Type 0
+Good s = (s ≡ 0) ⊎ (s ≡ 1) ⊎ (s ≡ 7)
+
+-- the same program or host, by the name that the words give
+module _ {content : Content} {files : Count} {p : Program} {g : Graph} where
+  replies_well : {words : List Name} {s : ℕ} {o e : List ℕ} (k : Command) → command_of words ≡ Some k → HasProgram (Some content) k.program p → HasHost (Some content) k.host g →
+      (HasRisen files → ⊥) → Replies words (Some content) files s o e → Good s
+  replies_well k w hp hh n (gives v _ _ _ _) = inl refl
+  replies_well k w hp hh n (fails v _ _ _) = inr (inl refl)
+  replies_well k w hp hh n (bad_words v) = absurd cc
+  replies_well {words} k w hp hh n (long_program {k = l} v f) = absurd (not_long_program (subst (λ (c : Command). HasProgram (Some content) c.program p) (same_command words k l w v) hp) f)
+  replies_well {words} k w hp hh n (other_program {k = l} v f) = absurd (not_other_program (subst (λ (c : Command). HasProgram (Some content) c.program p) (same_command words k l w v) hp) f)
+  replies_well {words} k w hp hh n (long_host {k = l} v _ f) = absurd (not_long_host (subst (λ (c : Command). HasHost (Some content) c.host g) (same_command words k l w v) hh) f)
+  replies_well {words} k w hp hh n (other_host {k = l} v _ f) = absurd (not_other_host (subst (λ (c : Command). HasHost (Some content) c.host g) (same_command words k l w v) hh) f)
+  replies_well {words} k w hp hh n (no_program {k = l} v u) = let q = subst (λ (c : Command). HasProgram (Some content) c.program p) (same_command words k l w v) hp in absurd (can_read content l.program files q.bytes n q.file u)
+  replies_well {words} k w hp hh n (no_host {k = l} v _ u) = let q = subst (λ (c : Command). HasHost (Some content) c.host g) (same_command words k l w v) hh in absurd (can_read content l.host files q.bytes n q.file u)
+
+  answers_well : {words : List Name} {out err : Count} {s : ℕ} {o e : List ℕ} (k : Command) → command_of words ≡ Some k → HasProgram (Some content) k.program p → HasHost (Some content) k.host g →
+      (HasRisen files → ⊥) → (HasRisen out → ⊥) → (HasRisen err → ⊥) → Answer words (Some content) files out err s o e → Good s
+  answers_well k w hp hh n not_out not_err (replied r) = replies_well k w hp hh n r
+  answers_well k w hp hh n not_out not_err no_memory = inr (inr refl)
+  answers_well k w hp hh n not_out not_err (write_fault _ _ r (inl c)) = absurd (not_out c.1)
+  answers_well k w hp hh n not_out not_err (write_fault _ _ r (inr c)) = absurd (not_err c.1)
+
+pub completes : {words : List Name} {told : Option Content} {files out err : Count} {s : ℕ} {o e : List ℕ} → Answer words told files out err s o e → Completes words told files out err s
+completes {words} {told} {files} {out} {err} {s} {o} {e} a content k p g told_is w hp hh n not_out not_err =
+    let Told : Option Content → Type 0 = λ t. Answer words t files out err s o e in
+    let P : Option Content → Type 0 = λ t. HasProgram t k.program p in
+    let H : Option Content → Type 0 = λ t. HasHost t k.host g in
+    answers_well k w (subst P told_is hp) (subst H told_is hh) n not_out not_err (subst Told told_is a)

@@ -1,0 +1,33 @@
+//! Writing the answer.
+
+ghost use Rattle.std.specs.Prelude.{◌≡◌, ◌≤◌};
+ghost use Rattle.gp_cli.specs.Parts.{Delivers, WritesPiece};
+
+use crate::reply::Reply;
+use gp_io::{Failed, Sink};
+
+// Writes the piece, unless it is empty.
+fn write_piece<S: Sink>(sink: &mut S, piece: &[u8]) -> Result<(), Failed>
+    ensures { WritesPiece (S.written sink.old) (S.written sink.new) (record { before = S.faults sink.old; now = S.faults sink.new }) piece.now result }
+{
+    if piece.is_empty() {
+        return Ok(());
+    }
+    sink.write(piece)
+}
+
+/// Writes both pieces of the answer, and answers its status, or 9 where a write fails; then nothing more is written.
+pub(crate) fn deliver<O: Sink, E: Sink>(reply: &Reply, out: &mut O, err: &mut E) -> u8
+    ensures { Delivers reply.now.status reply.now.out.items reply.now.err.items
+        (record { before = O.faults out.old; now = O.faults out.new })
+        (record { before = E.faults err.old; now = E.faults err.new })
+        (O.written out.old) (O.written out.new) (E.written err.old) (E.written err.new) result }
+{
+    match write_piece(out, &reply.out) {
+        Err(Failed) => 9,
+        Ok(()) => match write_piece(err, &reply.err) {
+            Err(Failed) => 9,
+            Ok(()) => reply.status,
+        },
+    }
+}
