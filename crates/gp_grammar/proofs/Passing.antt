@@ -1,12 +1,12 @@
 -- A test that goes over tokens gives the same before a shape and behind it.
-use Rattle.std.proofs.Common.{◌≡◌, Bool, true, false, List, [], ◌∷◌, refl, sym, ap, subst, ◌∙◌, rules}
+use Rattle.std.proofs.Common.{◌≡◌, Bool, true, false, List, refl, ◌∙◌}
 use Rattle.std.specs.Prelude.{if◌then◌else◌}
 use Rattle.gp_tokens.specs.declared.token.Kind.TheVariants as k
 use Rattle.gp_tokens.specs.declared.token.Token.{Token}
 use Rattle.gp_grammar.specs.declared.want.Want.{Want}
 use Rattle.gp_grammar.specs.declared.want.Want.TheVariants as wants
-use Rattle.gp_grammar.specs.Wants.{meets, excludes}
-use Rattle.gp_grammar.specs.Shape.{Shape, Is, IsNumber, ◌then◌, Made, Either, one, other, Absent, absent, Many, none, more}
+use Rattle.gp_grammar.specs.Wants.{excludes}
+use Rattle.gp_grammar.specs.Shape.{Shape, Is, IsNumber, ◌then◌, Made, Either, one, other, Absent, absent, Many, none, more, second_of, list_of, Separated}
 use Rattle.gp_grammar.specs.Reading.{stands_before}
 use Rattle.gp_grammar.proofs.Wants.{excluded}
 
@@ -35,6 +35,9 @@ absent_passes test y ts _ _ absent = refl
 pub many_passes : {A : Type 0} (test : List Token → Bool) (R : Shape A) → Passes test R → Passes test (Many R)
 many_passes test R p ts _ _ none = refl
 many_passes test R p ts rest _ (more {mid = mid} {x = x} {xs = xs} h hs) = p ts mid x h ∙ many_passes test R p mid rest xs hs
+
+pub separated_passes : {A : Type 0} (test : List Token → Bool) (sign : Want) (R : Shape A) → Passes test (Is sign) → Passes test R → Passes test (Separated sign R)
+separated_passes test sign R p q = made_passes test list_of _ (then_passes test R _ q (many_passes test _ (made_passes test second_of _ (then_passes test (Is sign) R p q))))
 
 -- the wanted token is met, and the one that stops ends the search
 pub want_met : (want stop : Want) → excludes want stop ≡ true → (ts rest : List Token) (x : Token) → Is want ts rest x → stands_before want stop ts ≡ true

@@ -1,5 +1,5 @@
 -- What is read has the shape, and what has the shape is read: once for each part that grammars are made of.
-use Rattle.std.proofs.Common.{◌≡◌, ℕ, zero, suc, ◌<◌, ◌≤◌, Bool, true, false, List, [], ◌∷◌, length, Option, Some, None, refl, sym, ap, subst, ◌∙◌, rules, arith}
+use Rattle.std.proofs.Common.{◌≡◌, ℕ, zero, suc, ◌≤◌, Bool, true, false, List, [], ◌∷◌, length, Option, Some, None, refl, subst, arith}
 use Rattle.std.specs.Prelude.{if◌then◌else◌, option_map}
 use Rattle.gp_tokens.specs.declared.token.Kind.TheVariants as k
 use Rattle.gp_tokens.specs.declared.token.Token.{Token}
@@ -10,7 +10,7 @@ use Rattle.gp_grammar.specs.Wants.{meets, excludes}
 use Rattle.gp_grammar.specs.Shape.{Shape, Is, IsNumber, ◌then◌, Made, Either, one, other, Absent, absent, Many, none, more, second_of, list_of, Separated}
 use Rattle.gp_grammar.specs.Reading.{Reader, ◌>>=◌, token, begins, number, ◌and◌, made, at, many, repeated, separated}
 use Rattle.gp_grammar.specs.Reading as r
-use Rattle.gp_grammar.specs.Laws.{Sound, Again, Reads, Anything, Comes, No, Begins, NeverBegins, Shrinks, Keeps}
+use Rattle.gp_grammar.specs.Laws.{Sound, Again, Anything, Comes, No, Begins, NeverBegins, Shrinks, Keeps}
 use Rattle.gp_grammar.proofs.Wants.{excluded}
 
 pub bind_some : {A B : Type 0} (o : Option A) (f : A → Option B) (y : B) → (o >>= f) ≡ Some y → (x : A) × (o ≡ Some x) × (f x ≡ Some y)
@@ -123,6 +123,16 @@ pub many_never : {A : Type 0} (want : Want) (R : Shape A) → NeverBegins want R
 many_never want R p ts _ _ none e = e
 many_never want R p ts rest _ (more {mid = mid} {x = x} h hs) e = p ts mid x h tt
 
+-- whatever comes behind it
+pub never_less : {A : Type 0} (want : Want) (R : Shape A) (F : List Token → Type 0) → NeverBegins want R Anything → NeverBegins want R F
+never_less want R F p ts rest x h f = p ts rest x h tt
+
+pub separated_begins : {A : Type 0} (want sign : Want) (R : Shape A) → Begins want R → Begins want (Separated sign R)
+separated_begins want sign R p = made_begins want list_of _ (then_begins want R _ p)
+
+pub separated_never : {A : Type 0} (want sign : Want) (R : Shape A) (F : List Token → Type 0) → NeverBegins want R Anything → NeverBegins want (Separated sign R) F
+separated_never want sign R F p ts rest x h f = p ts h.shape.mid h.of.0 h.shape.first tt
+
 -- ---- what has the shape is read, before what may follow it
 
 pub token_again : (want : Want) → Again (token want) (Is want) Anything
@@ -194,6 +204,12 @@ absent_keeps y ts _ _ absent = omega arith
 pub many_keeps : {A : Type 0} (R : Shape A) → Keeps R → Keeps (Many R)
 many_keeps R p ts _ _ none = omega arith
 many_keeps R p ts rest _ (more {mid = mid} {x = x} {xs = xs} h hs) = omega (arith, p ts mid x h, many_keeps R p mid rest xs hs)
+
+pub separated_keeps : {A : Type 0} (sign : Want) (R : Shape A) → Keeps R → Keeps (Separated sign R)
+separated_keeps sign R p = made_keeps list_of _ (then_keeps R _ p (many_keeps _ (made_keeps second_of _ (then_keeps _ R (shrinks_keeps _ (token_shrinks sign)) p))))
+
+pub separated_shrinks : {A : Type 0} (sign : Want) (R : Shape A) → Shrinks R → Shrinks (Separated sign R)
+separated_shrinks sign R p = made_shrinks list_of _ (then_shrinks R _ p (many_keeps _ (made_keeps second_of _ (then_keeps _ R (shrinks_keeps _ (token_shrinks sign)) (shrinks_keeps R p)))))
 
 -- ---- many
 

@@ -1,5 +1,5 @@
 -- No token meets two wants of which one excludes the other.
-use Rattle.std.proofs.Common.{◌≡◌, ℕ, ◌<◌, ◌≤◌, Bool, true, false, not, List, refl, sym, ap, subst, ◌∙◌, rules, arith}
+use Rattle.std.proofs.Common.{◌≡◌, ℕ, Bool, true, false, not, List, refl, sym, ◌∙◌, rules, arith}
 use Rattle.std.specs.Prelude.{◌&&◌, ◌||◌, slice_index, nat_le}
 use Rattle.std.proofs.lemmas.Bool.{leb-true}
 use Rattle.std.specs.Char.{is_ascii_uppercase, is_ascii_lowercase}
@@ -7,15 +7,14 @@ use Rattle.std.specs.Str.{bytes_eq}
 use Rattle.std.proofs.lemmas.Slice.Eq.{bytes_eq-Decides}
 use denote.Enum.Bare.{same_true, true_same}
 use Rattle.gp_tokens.specs.contracts.token.Kind.{the_type}
-use Rattle.gp_tokens.specs.declared.keyword.Keyword.{Keyword}
 use Rattle.gp_tokens.specs.declared.token.Kind.{Kind}
 use Rattle.gp_tokens.specs.declared.token.Kind.TheVariants as k
 use Rattle.gp_tokens.specs.declared.token.Token.{Token}
 use Rattle.gp_tokens.specs.Kinds.{same_kind}
-use Rattle.gp_tokens.specs.Words.{keyword_text, is_word, is_free_word, is_item, is_rule_name, is_variable, is_procedure_name, is_reserved}
+use Rattle.gp_tokens.specs.Words.{keyword_text, is_free_word, is_reserved}
 use Rattle.gp_grammar.specs.declared.want.Want.{Want}
 use Rattle.gp_grammar.specs.declared.want.Want.TheVariants as want
-use Rattle.gp_grammar.specs.Wants.{meets, may_be, word_token, is_rule_want, rules_out, excludes}
+use Rattle.gp_grammar.specs.Wants.{meets, may_be, word_token, rules_out, excludes}
 
 pub kind_true : (a b : Kind) → same_kind a b ≡ true → a ≡ b
 unfolding same_kind

@@ -4,7 +4,7 @@ use Rattle.gp_tokens.specs.declared.token.Token.{Token}
 use Rattle.gp_grammar.specs.declared.want.Want.TheVariants as wants
 use Rattle.gp_grammar.specs.declared.error.ReadError.{ReadError}
 use Rattle.gp_grammar.specs.declared.error.ReadError.TheVariants as errors
-use Rattle.gp_grammar.specs.Reading.{Fails, token, begins, many}
+use Rattle.gp_grammar.specs.Reading.{Fails, token, begins, many, repeated}
 use Rattle.std.proofs.lemmas.List.{map-append}
 use Rattle.gp_values.specs.Names.{Name}
 use Rattle.gp_grammar.specs.Graph.{comma}
@@ -20,7 +20,7 @@ pub record ReadsOn (tokens : List Token) (found : List Name) (rest : List Token)
   pub fewer : length start < length tokens
   pub others : List Token
   pub texts_are : found ≡ texts (first ∷ others)
-  pub way : IsOnTheWay comma next_item start others rest
+  pub way : IsOnTheWay comma next_item (repeated comma next_item start) start others rest
 
 pub begin : (tokens start : List Token) (first : Token) (found : List Name) → token wants.Item tokens ≡ Some (first, start) → length start < length tokens → found ≡ first.text ∷ [] → ReadsOn tokens found start
 begin tokens start first found r f e = record { first = first; start = start; read = r; fewer = f; others = []; texts_are = e; way = starts comma next_item start }
@@ -33,7 +33,7 @@ on tokens rest after x found more b r f e w = record {
   fewer = w.fewer;
   others = w.others ++ x ∷ [];
   texts_are = e ∙ ap (λ xs. xs ++ x.text ∷ []) w.texts_are ∙ ap (λ xs. w.first.text ∷ xs) (sym (map-append (λ (t : Token). t.text) w.others (x ∷ [])));
-  way = goes_on comma next_item w.start w.others rest x after b r f w.way;
+  way = goes_on comma next_item (repeated comma next_item w.start) w.start w.others rest x after b r f w.way;
 }
 
 -- what the first item and the others are together
@@ -48,11 +48,11 @@ read_all tokens start first (Some y) r e = rw (r, e) refl
 
 pub stop : (e : ReadError) (tokens rest : List Token) (found : List Name) → begins comma rest ≡ true → Fails e (next_item rest) → ReadsOn tokens found rest → Fails e (items tokens)
 stop errors.NoMemory tokens rest found b h w = tt
-stop (errors.Syntax k) tokens rest found b h w = read_all tokens w.start w.first None w.read (stops comma next_item (errors.Syntax k) w.start w.others rest b h w.way)
+stop (errors.Syntax k) tokens rest found b h w = read_all tokens w.start w.first None w.read (stops comma next_item (errors.Syntax k) (repeated comma next_item w.start) w.start w.others rest b h w.way)
 
 pub end : (tokens rest : List Token) (found : List Name) → begins comma rest ≡ false → ReadsOn tokens found rest → items tokens ≡ Some (found, rest)
 end tokens rest found b w =
-    read_all tokens w.start w.first (Some (w.others, rest)) w.read (ends comma next_item w.start w.others rest b w.way) ∙ ap (λ (ts : List Name). Some (ts, rest)) (sym w.texts_are)
+    read_all tokens w.start w.first (Some (w.others, rest)) w.read (ends comma next_item (repeated comma next_item w.start) w.start w.others rest b w.way) ∙ ap (λ (ts : List Name). Some (ts, rest)) (sym w.texts_are)
 
 pub shorter : (tokens rest : List Token) (found : List Name) → ReadsOn tokens found rest → length rest < length tokens
 shorter tokens rest found w = let a = w.fewer in let b = w.way.shorter in omega arith

@@ -3,9 +3,9 @@ use Rattle.std.proofs.Common.{◌≡◌, ℕ, zero, suc, ◌+◌, ◌^◌, ◌<�
 use Rattle.std.specs.Prelude.{if◌then◌else◌, not, slice_index, slice_index_or, ◌==◌, ◌&&◌, nat_lt, nat_le, Contains, option_map}
 use Rattle.std.specs.List.{prefix_len, list_all}
 use Rattle.std.proofs.lemmas.List.{take-append-drop, length-take-le}
-use Rattle.std.proofs.Math.Seq.{take-suc, take-length}
-use Rattle.std.proofs.lemmas.List.Sums.{prefix_len-le-length}
-use Rattle.std.proofs.lemmas.Bool.{leb-true, ltb-true, ltb-false}
+use Rattle.std.proofs.Math.Seq.{take-suc, take-length, drop-cons}
+use Rattle.std.proofs.lemmas.List.Sums.{prefix_len-le-length, prefix_len_stops}
+use Rattle.std.proofs.lemmas.Bool.{leb-true, leb-false, ltb-true, ltb-false}
 use Rattle.std.proofs.lemmas.Bool.Decides.{Decides-eqb}
 use Rattle.gp_tokens.specs.declared.fault.LexFault.TheVariants as fault
 use Rattle.gp_tokens.specs.declared.front.Class.TheVariants as class
@@ -16,19 +16,19 @@ use Rattle.gp_tokens.specs.declared.token.Kind.TheVariants as k
 use Rattle.gp_tokens.specs.Bytes.{is_blank, is_digit, is_word_byte, is_line_byte, is_string_byte}
 use Rattle.gp_tokens.specs.Front.{run, comment_end, signs, stands, first_fit, sign, number_token, word, string, comment_of, comment, signed, front}
 use Rattle.gp_tokens.specs.Numbers.{number_of, checked_number}
-use Rattle.gp_tokens.specs.Cut.{IsLineComment, EndsComment, closes, goes_on, IsGap, nothing, blank, line_comment, BeginsComment, HasNoLongerSign, IsSpelled, number}
+use Rattle.gp_tokens.specs.Cut.{IsLineComment, EndsComment, closes, goes_on, IsGap, nothing, blank, line_comment, BeginsComment, HasNoLongerSign, IsSpelled, number, IsStuck}
 use Rattle.gp_tokens.specs.Cut as cut
 use Rattle.gp_tokens.proofs.Runs.{run_passes, run_stops, short_run, passes}
 
 -- what stands at the front of this text is within it, and is what it is said to be
-abbrev pub Fits : List ℕ → First → Type 0
-Fits z (f.Skip len) = (0 < len) × (len ≤ length z) × ((rest : List ℕ) → IsGap (drop len z) rest → IsGap z rest)
-Fits z (f.Token kind len) = (0 < len) × (len ≤ length z) × IsSpelled kind (take len z) (drop len z)
-Fits z (f.Fault fault) = Unit {0}
+abbrev pub Fits : ℕ → List ℕ → First → Type 0
+Fits at z (f.Skip len) = (0 < len) × (len ≤ length z) × ((rest : List ℕ) → IsGap (drop len z) rest → IsGap z rest)
+Fits at z (f.Token kind len) = (0 < len) × (len ≤ length z) × IsSpelled kind (take len z) (drop len z)
+Fits at z (f.Fault e) = IsStuck at z e
 
-fits_if : (z : List ℕ) (b : Bool) (x y : First) → (b ≡ true → Fits z x) → (b ≡ false → Fits z y) → Fits z (if b then x else y)
-fits_if z true x y p q = p refl
-fits_if z false x y p q = q refl
+fits_if : (at : ℕ) (z : List ℕ) (b : Bool) (x y : First) → (b ≡ true → Fits at z x) → (b ≡ false → Fits at z y) → Fits at z (if b then x else y)
+fits_if at z true x y p q = p refl
+fits_if at z false x y p q = q refl
 
 both : (a b : Bool) → (a && b) ≡ true → (a ≡ true) × (b ≡ true)
 both true b h = (refl, h)
@@ -36,8 +36,8 @@ both false b h = absurd cc
 
 -- ---- comments
 
-line_fits : (t : List ℕ) → Fits (47 ∷ 47 ∷ t) (f.Skip (run class.Line (47 ∷ 47 ∷ t)))
-line_fits t =
+line_fits : (at : ℕ) (t : List ℕ) → Fits at (47 ∷ 47 ∷ t) (f.Skip (run class.Line (47 ∷ 47 ∷ t)))
+line_fits at t =
     let m = prefix_len is_line_byte t in
     let two : 1 + (1 + m) ≡ suc (suc m) = omega arith in
     let small = prefix_len-le-length is_line_byte t in (
@@ -87,22 +87,36 @@ end_is (b ∷ t) n h = go (λ m e. end_is t m e) (b == 42 && slice_index t 0 == 
         rw q (closed b t a.0 a.1)
     go below false e h = later below e (comment_end t) refl h
 
-comment_fits : (at : ℕ) (t : List ℕ) → Fits (47 ∷ 42 ∷ t) (comment at (47 ∷ 42 ∷ t))
+no_end : (t : List ℕ) → comment_end t ≡ None → (front_bytes behind : List ℕ) → t ≡ front_bytes ++ 42 ∷ 47 ∷ behind → ⊥
+no_end [] h [] behind e = cc
+no_end [] h (x ∷ front_bytes) behind e = cc
+no_end (b ∷ t) h front_bytes behind e = go (λ h front_bytes behind e. no_end t h front_bytes behind e) (b == 42 && slice_index t 0 == 47) refl h front_bytes e
+  where
+    none_later : (o : Option ℕ) → option_map suc o ≡ None → o ≡ None
+    none_later None e = refl
+    none_later (Some n) e = absurd cc
+
+    go : (comment_end t ≡ None → (front_bytes behind : List ℕ) → t ≡ front_bytes ++ 42 ∷ 47 ∷ behind → ⊥) → (c : Bool) → (b == 42 && slice_index t 0 == 47) ≡ c → (if c then Some 2 else option_map suc (comment_end t)) ≡ None → (front_bytes : List ℕ) → (b ∷ t) ≡ front_bytes ++ 42 ∷ 47 ∷ behind → ⊥
+    go below true q h front_bytes e = cc
+    go below false q h [] e = two_are_not 42 47 b t q (ap (take 2) e)
+    go below false q h (x ∷ front_bytes) e = below (none_later (comment_end t) h) front_bytes behind cc
+
+comment_fits : (at : ℕ) (t : List ℕ) → Fits at (47 ∷ 42 ∷ t) (comment at (47 ∷ 42 ∷ t))
 comment_fits at t = go (comment_end t) refl
   where
-    go : (o : Option ℕ) → comment_end t ≡ o → Fits (47 ∷ 42 ∷ t) (comment_of at o)
-    go None e = tt
+    go : (o : Option ℕ) → comment_end t ≡ o → Fits at (47 ∷ 42 ∷ t) (comment_of at o)
+    go None e = cut.open_comment (no_end t e)
     go (Some n) e =
         let a = end_is t n e in
         let two : n + 2 ≡ suc (suc n) = omega arith in
         let small = a.0 in
         (omega arith, omega arith, λ rest g. cut.comment a.1 (rw two at g))
 
-line_at : (b : ℕ) (t : List ℕ) → (b == 47 && slice_index t 0 == 47) ≡ true → Fits (b ∷ t) (f.Skip (run class.Line (b ∷ t)))
-line_at b [] e = let a = two_are 47 47 b [] e in absurd (omega arith)
-line_at b (c ∷ t) e = let a = two_are 47 47 b (c ∷ t) e in let one : b ≡ 47 = a.0 in let two : c ≡ 47 = a.1 in rw (one, two) (line_fits t)
+line_at : (at b : ℕ) (t : List ℕ) → (b == 47 && slice_index t 0 == 47) ≡ true → Fits at (b ∷ t) (f.Skip (run class.Line (b ∷ t)))
+line_at at b [] e = let a = two_are 47 47 b [] e in absurd (omega arith)
+line_at at b (c ∷ t) e = let a = two_are 47 47 b (c ∷ t) e in let one : b ≡ 47 = a.0 in let two : c ≡ 47 = a.1 in rw (one, two) (line_fits at t)
 
-comment_at : (at b : ℕ) (t : List ℕ) → (b == 47 && slice_index t 0 == 42) ≡ true → Fits (b ∷ t) (comment at (b ∷ t))
+comment_at : (at b : ℕ) (t : List ℕ) → (b == 47 && slice_index t 0 == 42) ≡ true → Fits at (b ∷ t) (comment at (b ∷ t))
 comment_at at b [] e = let a = two_are 47 42 b [] e in absurd (omega arith)
 comment_at at b (c ∷ t) e = let a = two_are 47 42 b (c ∷ t) e in let one : b ≡ 47 = a.0 in let two : c ≡ 42 = a.1 in rw (one, two) (comment_fits at t)
 
@@ -115,7 +129,14 @@ checked w v h = go (nat_le (number_of w) (2 ^ 127)) refl h
     go true e h = leb-true _ _ e
     go false e h = absurd cc
 
-word_fits : (at b : ℕ) (t : List ℕ) → is_word_byte b ≡ true → Fits (b ∷ t) (word at (b ∷ t))
+too_long : (w : List ℕ) → checked_number w ≡ None → 2 ^ 127 < number_of w
+too_long w h = go (nat_le (number_of w) (2 ^ 127)) refl h
+  where
+    go : (b : Bool) → nat_le (number_of w) (2 ^ 127) ≡ b → (if b then Some (number_of w) else None) ≡ None → 2 ^ 127 < number_of w
+    go true e h = absurd cc
+    go false e h = leb-false (number_of w) (2 ^ 127) e
+
+word_fits : (at b : ℕ) (t : List ℕ) → is_word_byte b ≡ true → Fits at (b ∷ t) (word at (b ∷ t))
 word_fits at b t h =
     let z = b ∷ t in
     let len = run class.Word z in
@@ -125,33 +146,46 @@ word_fits at b t h =
     let size : length w ≡ len = length-take-le len z within in
     let words : list_all is_word_byte w ≡ true = run_passes is_word_byte z in
     let stops : is_word_byte (slice_index (drop len z) 0) ≡ false = run_stops is_word_byte 0 refl z in
-    fits_if z (nat_lt (run class.Digit w) len) (f.Token k.Word len) (number_token at len (checked_number w))
+    fits_if at z (nat_lt (run class.Digit w) len) (f.Token k.Word len) (number_token at len (checked_number w))
     (λ e. (some, within, cut.word words (short_run is_digit w (subst (λ n. prefix_len is_digit w < n) (sym size) (ltb-true (run class.Digit w) len e))) stops))
     (λ e.
     let all : run class.Digit w ≡ length w = omega (arith, size, ltb-false (run class.Digit w) len e, prefix_len-le-length is_digit w) in
     let digits : list_all is_digit w ≡ true = rw (all, take-length w) at (run_passes is_digit w) in
     go z len (checked_number w) refl some within digits stops)
   where
-    go : (z : List ℕ) (len : ℕ) (o : Option ℕ) → checked_number (take len z) ≡ o → 0 < len → len ≤ length z → list_all is_digit (take len z) ≡ true → is_word_byte (slice_index (drop len z) 0) ≡ false → Fits z (number_token at len o)
-    go z len None e some within digits stops = tt
+    go : (z : List ℕ) (len : ℕ) (o : Option ℕ) → checked_number (take len z) ≡ o → 0 < len → len ≤ length z → list_all is_digit (take len z) ≡ true → is_word_byte (slice_index (drop len z) 0) ≡ false → Fits at z (number_token at len o)
+    go z len None e some within digits stops = subst (λ w. IsStuck at w (fault.NumberTooLong at)) (take-append-drop len z) (cut.number_too_long (take len z) (drop len z) digits (too_long (take len z) e) stops)
     go z len (Some v) e some within digits stops = (some, within, number digits (checked (take len z) v e) stops)
 
 -- ---- strings
 
-string_fits : (at : ℕ) (t : List ℕ) → Fits (34 ∷ t) (string at (34 ∷ t))
+string_fits : (at : ℕ) (t : List ℕ) → Fits at (34 ∷ t) (string at (34 ∷ t))
 string_fits at t =
     let len = run class.String t in
     let within : len ≤ length t = prefix_len-le-length is_string_byte t in
     let inner : list_all is_string_byte (take len t) ≡ true = run_passes is_string_byte t in
-    fits_if (34 ∷ t) (len == length t) (f.Fault (fault.OpenString at)) (if slice_index t len == 34 then f.Token k.String (len + 2) else f.Fault (fault.BadByte (at + len + 1))) (λ e. tt)
-    (λ inside. fits_if (34 ∷ t) (slice_index t len == 34) (f.Token k.String (len + 2)) (f.Fault (fault.BadByte (at + len + 1))) (λ e.
+    fits_if at (34 ∷ t) (len == length t) (f.Fault (fault.OpenString at)) (if slice_index t len == 34 then f.Token k.String (len + 2) else f.Fault (fault.BadByte (at + len + 1)))
+    (λ e.
+    let all : len ≡ length t = (Decides-eqb len (length t)).0 e in
+    cut.open_string (rw (all, take-length t) at inner))
+    (λ inside.
     let apart : len ≡ length t → ⊥ = λ q. let yes = (Decides-eqb len (length t)).1 q in cc in
     let more : len < length t = omega arith in
+    fits_if at (34 ∷ t) (slice_index t len == 34) (f.Token k.String (len + 2)) (f.Fault (fault.BadByte (at + len + 1)))
+    (λ e.
     let two : len + 2 ≡ suc (suc len) = omega arith in
     let quote : slice_index t len ≡ 34 = (Decides-eqb _ _).0 e in
     let text : take (len + 2) (34 ∷ t) ≡ 34 ∷ take len t ++ 34 ∷ [] = rw two (ap (λ w. 34 ∷ w) (take-suc t len 0 more ∙ ap (λ c. take len t ++ c ∷ []) quote)) in
     (omega arith, omega arith, subst (λ w. IsSpelled k.String w (drop (len + 2) (34 ∷ t))) (sym text) (cut.string (take len t) inner)))
-    (λ e. tt))
+    (λ e. bad_inside at t len more inner (prefix_len_stops is_string_byte t 0 more) e))
+  where
+    bad_inside : (at : ℕ) (t : List ℕ) (len : ℕ) → len < length t → list_all is_string_byte (take len t) ≡ true → is_string_byte (slice_index t len) ≡ false → (slice_index t len == 34) ≡ false → IsStuck at (34 ∷ t) (fault.BadByte (at + len + 1))
+    bad_inside at t len more inner stops e =
+        let size : length (take len t) ≡ len = length-take-le len t (omega arith) in
+        let whole : 34 ∷ take len t ++ slice_index t len ∷ drop (suc len) t ≡ 34 ∷ t = ap (λ w. 34 ∷ w) (ap (λ w. take len t ++ w) (sym (drop-cons t len 0 more)) ∙ take-append-drop len t) in
+        let no_quote : slice_index t len ≡ 34 → ⊥ = λ q. let yes = (Decides-eqb (slice_index t len) 34).1 q in cc in
+        let main : IsStuck at (34 ∷ take len t ++ slice_index t len ∷ drop (suc len) t) (fault.BadByte (at + length (take len t) + 1)) = cut.bad_byte_in_string (take len t) (slice_index t len) (drop (suc len) t) inner stops no_quote in
+        subst (λ w. IsStuck at w (fault.BadByte (at + len + 1))) whole (subst (λ n. IsStuck at (34 ∷ take len t ++ slice_index t len ∷ drop (suc len) t) (fault.BadByte (at + n + 1))) size main)
 
 -- ---- signs
 
@@ -231,14 +265,29 @@ stands_there b (c ∷ t) (x ∷ y ∷ []) g e =
     rw (p, q) refl
 stands_there b t (x ∷ y ∷ z ∷ more) g e = absurd cc
 
-sign_fits : (at b : ℕ) (t : List ℕ) → (BeginsComment (b ∷ t) → ⊥) → Fits (b ∷ t) (signed at (sign b (slice_index t 0)))
-sign_fits at b t clear = go (sign b (slice_index t 0)) refl
+-- where none stands, the text begins with none
+none_stands : (b next : ℕ) (table : List (Kind × List ℕ)) (s : Kind × List ℕ) → first_fit b next table ≡ None → Contains table s → stands b next s.1 ≡ true → ⊥
+none_stands b next [] s h (i, lt, at) e = absurd (omega arith)
+none_stands b next (o ∷ others) s h (i, lt, at) e = go (λ h c. none_stands b next others s h c e) (stands b next o.1) refl h i lt at
   where
-    go : (o : Option (Kind × ℕ)) → sign b (slice_index t 0) ≡ o → Fits (b ∷ t) (signed at o)
-    go None e = tt
+    go : (first_fit b next others ≡ None → Contains others s → ⊥) → (c : Bool) → stands b next o.1 ≡ c → (if c then Some (o.0, length o.1) else first_fit b next others) ≡ None → (i : ℕ) → i < length (o ∷ others) → slice_index_or (o ∷ others) i s ≡ s → ⊥
+    go below true q h i lt at = cc
+    go below false q h zero lt at =
+        let this : o ≡ s = at in
+        let not_here : stands b next s.1 ≡ false = subst (λ (o : Kind × List ℕ). stands b next o.1 ≡ false) this q in
+        cc
+    go below false q h (suc i) lt at = below h (i, omega arith, at)
+
+goods : (s : Kind × List ℕ) → Contains signs s → good s.1 ≡ true
+goods = passes (λ (s : Kind × List ℕ). good s.1) signs refl
+
+sign_fits : (at b : ℕ) (t : List ℕ) → is_blank b ≡ false → is_word_byte b ≡ false → (b == 34) ≡ false → (BeginsComment (b ∷ t) → ⊥) → Fits at (b ∷ t) (signed at (sign b (slice_index t 0)))
+sign_fits at b t no_blank no_word no_quote clear = go (sign b (slice_index t 0)) refl
+  where
+    go : (o : Option (Kind × ℕ)) → sign b (slice_index t 0) ≡ o → Fits at (b ∷ t) (signed at o)
+    go None e = cut.bad_byte no_blank no_word (λ q. let yes = (Decides-eqb b 34).1 q in cc) (λ s c begins. none_stands b (slice_index t 0) signs s e c (stands_there b t s.1 (goods s c) begins))
     go (Some r) e =
         let z = b ∷ t in
-        let goods : (s : Kind × List ℕ) → Contains signs s → good s.1 ≡ true = passes (λ (s : Kind × List ℕ). good s.1) signs refl in
         let a = found b (slice_index t 0) signs r e in
         let text = a.0 in
         let f = begun b t text (goods (r.0, text) a.1) a.2 in
@@ -257,16 +306,16 @@ no_comment : (b : ℕ) (t : List ℕ) → (b == 47 && slice_index t 0 == 47) ≡
 no_comment b t one two (inl h) = two_are_not 47 47 b t one h
 no_comment b t one two (inr h) = two_are_not 47 42 b t two h
 
-string_at : (at b : ℕ) (t : List ℕ) → (b == 34) ≡ true → Fits (b ∷ t) (string at (b ∷ t))
+string_at : (at b : ℕ) (t : List ℕ) → (b == 34) ≡ true → Fits at (b ∷ t) (string at (b ∷ t))
 string_at at b t e = let one : b ≡ 34 = (Decides-eqb b 34).0 e in rw one (string_fits at t)
 
-pub front_fits : (at : ℕ) (z : List ℕ) → 0 < length z → Fits z (front at z)
+pub front_fits : (at : ℕ) (z : List ℕ) → 0 < length z → Fits at z (front at z)
 unfolding front
 front_fits at [] some = absurd (omega arith)
 front_fits at (b ∷ t) some =
     let z = b ∷ t in
-    fits_if z (is_blank b) _ _ (λ e. (omega arith, omega arith, λ rest g. blank e g)) (λ _.
-    fits_if z (b == 47 && slice_index t 0 == 47) _ _ (λ e. line_at b t e) (λ one.
-    fits_if z (b == 47 && slice_index t 0 == 42) _ _ (λ e. comment_at at b t e) (λ two.
-    fits_if z (is_word_byte b) _ _ (λ e. word_fits at b t e) (λ _.
-    fits_if z (b == 34) _ _ (λ e. string_at at b t e) (λ _. sign_fits at b t (no_comment b t one two))))))
+    fits_if at z (is_blank b) _ _ (λ e. (omega arith, omega arith, λ rest g. blank e g)) (λ no_blank.
+    fits_if at z (b == 47 && slice_index t 0 == 47) _ _ (λ e. line_at at b t e) (λ one.
+    fits_if at z (b == 47 && slice_index t 0 == 42) _ _ (λ e. comment_at at b t e) (λ two.
+    fits_if at z (is_word_byte b) _ _ (λ e. word_fits at b t e) (λ no_word.
+    fits_if at z (b == 34) _ _ (λ e. string_at at b t e) (λ no_quote. sign_fits at b t no_blank no_word no_quote (no_comment b t one two))))))

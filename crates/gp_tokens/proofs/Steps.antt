@@ -1,5 +1,5 @@
 -- Lexing goes on behind what stands at the front.
-use Rattle.std.proofs.Common.{◌≡◌, ℕ, zero, suc, ◌+◌, ◌-◌, ◌<◌, ◌≤◌, List, [], ◌∷◌, ◌++◌, length, take, drop, Ok, Err, refl, sym, ap, ◌∙◌, append_assoc, arith}
+use Rattle.std.proofs.Common.{◌≡◌, ℕ, zero, suc, ◌+◌, ◌-◌, ◌<◌, ◌≤◌, List, [], ◌∷◌, ◌++◌, length, take, drop, Ok, Err, refl, sym, ap, ◌∙◌, append_assoc, arith, length-drop}
 use Rattle.std.proofs.lemmas.List.{append-nil, drop_all}
 use Rattle.gp_tokens.specs.declared.front.First.TheVariants as f
 use Rattle.gp_tokens.specs.declared.fault.LexFault.{LexFault}
@@ -54,3 +54,9 @@ whole tokens at text le h =
     let none : drop at text ≡ [] = drop_all at text le in
     let e : with_front tokens (lexed 0 at []) ≡ lexed 0 0 text = rw none at h in
     sym e ∙ ap (λ (ts : List Token). Ok ts) (append-nil tokens)
+
+-- where nothing fits the fault is the outcome, whatever was read before
+pub stuck : (tokens : List Token) (at : ℕ) (text : List ℕ) (e : LexFault) → at < length text → f.Fault e ≡ front at (drop at text) → with_front tokens (lexed 0 at (drop at text)) ≡ lexed 0 0 text → lexed 0 0 text ≡ Err e
+stuck tokens at text e lt q h =
+    let some : 0 < length (drop at text) = omega (arith, length-drop at text) in
+    sym h ∙ ap (with_front tokens) (fault_on at e (drop at text) some q)

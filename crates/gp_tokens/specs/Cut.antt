@@ -1,6 +1,8 @@
 -- What it is to be the tokens of a text.
 use Rattle.std.specs.Prelude.{◌≡◌, ℕ, ◌+◌, ◌^◌, ◌<◌, ◌≤◌, ◌⊎◌, true, false, List, [], ◌∷◌, ◌++◌, take, drop, length, slice_index, slice_index_or, codes, Contains}
 use Rattle.std.specs.List.{list_all, slice_range}
+use Rattle.gp_tokens.specs.declared.fault.LexFault.{LexFault}
+use Rattle.gp_tokens.specs.declared.fault.LexFault.TheVariants as fault
 use Rattle.gp_tokens.specs.declared.token.Kind.{Kind}
 use Rattle.gp_tokens.specs.declared.token.Kind.TheVariants as k
 use Rattle.gp_tokens.specs.declared.token.Token.{Token}
@@ -68,3 +70,22 @@ IsCutOf source tokens = IsCutFrom source 0 tokens
 -- a number has a value that is no more than 2 ^ 127
 abbrev pub IsInRange : Token → Type 0
 IsInRange t = t.kind ≡ k.Number → number_of t.text ≤ 2 ^ 127
+
+-- ---- faults
+
+-- What stands here is no blank, no whole comment and no token, and this is why. The text begins at this offset.
+pub data IsStuck : ℕ → List ℕ → LexFault → Type 0 where
+  bad_byte : {at b : ℕ} {text : List ℕ} → is_blank b ≡ false → is_word_byte b ≡ false → (b ≡ 34 → ⊥) → ((s : Kind × List ℕ) → Contains signs s → take (length s.1) (b ∷ text) ≡ s.1 → ⊥) → IsStuck at (b ∷ text) (fault.BadByte at)
+  bad_byte_in_string : {at : ℕ} (inner : List ℕ) (b : ℕ) (text : List ℕ) → list_all is_string_byte inner ≡ true → is_string_byte b ≡ false → (b ≡ 34 → ⊥) → IsStuck at (34 ∷ inner ++ b ∷ text) (fault.BadByte (at + length inner + 1))
+  open_string : {at : ℕ} {inner : List ℕ} → list_all is_string_byte inner ≡ true → IsStuck at (34 ∷ inner) (fault.OpenString at)
+  open_comment : {at : ℕ} {text : List ℕ} → ((front behind : List ℕ) → text ≡ front ++ 42 ∷ 47 ∷ behind → ⊥) → IsStuck at (47 ∷ 42 ∷ text) (fault.OpenComment at)
+  number_too_long : {at : ℕ} (text behind : List ℕ) → list_all is_digit text ≡ true → 2 ^ 127 < number_of text → is_word_byte (slice_index behind 0) ≡ false → IsStuck at (text ++ behind) (fault.NumberTooLong at)
+
+-- From this offset on: tokens with gaps between them, and then the fault.
+pub data IsFaultFrom (source : List ℕ) : ℕ → LexFault → Type 0 where
+  here : {at stop : ℕ} {e : LexFault} → at ≤ stop → IsGap (drop at source) (drop stop source) → IsStuck stop (drop stop source) e → IsFaultFrom source at e
+  later : {at : ℕ} {t : Token} {e : LexFault} → at ≤ t.start → IsGap (drop at source) (drop t.start source) → IsTokenOf source t → IsFaultFrom source (end_of t) e → IsFaultFrom source at e
+
+-- the first fault from the front
+abbrev pub IsFaultOf : List ℕ → LexFault → Type 0
+IsFaultOf source e = IsFaultFrom source 0 e

@@ -1,7 +1,7 @@
 //! Cuts a text into tokens.
 
-ghost use Rattle.std.specs.Prelude.{IfOk, All};
-ghost use Rattle.gp_tokens.specs.Cut.{IsCutOf, IsInRange};
+ghost use Rattle.std.specs.Prelude.{◌≢◌, All, IfErr, IfOk};
+ghost use Rattle.gp_tokens.specs.Cut.{IsCutOf, IsFaultOf, IsInRange};
 ghost use Rattle.gp_tokens.specs.Lexed.{Gives, tokens_of};
 
 use crate::fault::LexFault;
@@ -14,6 +14,7 @@ use std::alloc::Global;
 pub fn lex(alloc: Global, text: &[u8]) -> Result<Vec<Token>, LexFault>
     ensures gives { Gives (λ v. v.items) result (tokens_of text.now) }
     ensures cut { IfOk result (λ tokens. IsCutOf text.now tokens.items) }
+    ensures first_fault { IfErr result (λ e. e ≢ LexFault.NoMemory → IsFaultOf text.now e) }
     ensures numbers { IfOk result (λ tokens. All IsInRange tokens.items) }
 {
     let mut tokens = Vec::new(alloc);
