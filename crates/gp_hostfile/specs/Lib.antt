@@ -1,3 +1,5 @@
 pub mod Host
 pub mod Drawn
+pub mod GraphText
+pub mod Lines
 pub mod Laws

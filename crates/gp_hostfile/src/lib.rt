@@ -4,5 +4,7 @@
 pub mod laws;
 mod names;
 mod read;
+mod text;
 
 pub use read::{HostRefusal, read_host};
+pub use text::write_graph;
