@@ -1,8 +1,14 @@
--- What holds of host texts.
+-- What holds of host texts and of the texts of graphs.
 use Rattle.std.specs.Prelude.{◌≡◌, ℕ, List}
 use Rattle.gp_values.specs.Graph.{Graph}
 use Rattle.gp_hostfile.specs.Host.{IsHostText}
+use Rattle.gp_hostfile.specs.GraphText.{IsGraphText}
 
 -- A text has at most one graph.
 abbrev pub HostTextsHaveOneGraph : Type 0
 HostTextsHaveOneGraph = (bytes : List ℕ) (g h : Graph) → IsHostText bytes g → IsHostText bytes h → g ≡ h
+
+-- A graph has a text, and no other.
+pub record GraphsHaveOneText : Type 0 where
+  pub some : (g : Graph) → (text : List ℕ) × IsGraphText g text
+  pub no_other : (g : Graph) (s t : List ℕ) → IsGraphText g s → IsGraphText g t → s ≡ t

@@ -1,4 +1,6 @@
 pub mod Host
 pub mod Drawn
+pub mod GraphText
+pub mod Lines
 pub mod Laws
 pub mod GraphText

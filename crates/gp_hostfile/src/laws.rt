@@ -1,8 +1,13 @@
-//! What holds of host texts. Each function does nothing: its contract is the law.
+//! What holds of host texts and of the texts of graphs. Each function does nothing: its contract is the law.
 
-ghost use Rattle.gp_hostfile.specs.Laws.{HostTextsHaveOneGraph};
+ghost use Rattle.gp_hostfile.specs.Laws.{HostTextsHaveOneGraph, GraphsHaveOneText};
 
 /// A text is the text of at most one graph.
 pub fn host_texts_have_one_graph()
     ensures { HostTextsHaveOneGraph }
+{}
+
+/// A graph has one text.
+pub fn graphs_have_one_text()
+    ensures { GraphsHaveOneText }
 {}

@@ -1,0 +1,202 @@
+-- The lines of edges, and the text of a graph.
+use Rattle.std.proofs.Common.{◌≡◌, ℕ, zero, suc, ◌+◌, ◌<◌, ◌≤◌, Bool, true, false, List, [], ◌∷◌, ◌++◌, length, get_or, map, drop, take, refl, sym, ap, subst, ◌∙◌, append_assoc, add-one, drop-cons, arith}
+use Rattle.std.proofs.Math.ListN.{drop_of_length-le}
+use Rattle.std.proofs.lemmas.List.{append-nil, map-append}
+use Rattle.std.proofs.lemmas.Grind.{flat_map-append}
+use Rattle.std.specs.Prelude.{codes, flat_map, IsPermutation, sum_by, Result, Ok, Err, OnErr}
+use Rattle.std.specs.declared.cmp.Ordering.{Ordering}
+use Rattle.std.specs.declared.cmp.Ordering.TheVariants.{Less, Equal, Greater}
+use Rattle.std.specs.Ordering.{nat_cmp, ordering_then, ordering_reverse, is_lt}
+use Rattle.std.specs.Cmp.{IsTotalOrder, IsStrictWeakOrder, nat_cmp_total, on_total, then_total}
+use Rattle.std.specs.Cmp.Lexicographic.{slice_cmp, nat_list_cmp_total}
+use Rattle.std.specs.List.Sorted.{apply_swaps, SwapsInRange}
+use Rattle.std.specs.FinMap.{entries, nat_cmp-IsAntisymmetric}
+use Rattle.std.proofs.lemmas.List.Sorted.{ranks_by, sum_by-IsPermutation, IsPermutation-map}
+use Rattle.indexmap.proofs.ReorderLemmas.{map-swap}
+use Rattle.gp_values.specs.declared.marks.EdgeMark.{EdgeMark}
+use Rattle.gp_values.specs.declared.marks.EdgeMark.TheVariants as edge_marks
+use Rattle.gp_values.specs.Marks.{edge_mark_rank}
+use Rattle.gp_values.specs.Labels.{label_text}
+use Rattle.gp_values.specs.Graph.{Node, Edge, Graph, IsGraph, node_at, edge_at}
+use Rattle.gp_values.specs.Order.{numbered, nodes_from, edges_from}
+use Rattle.gp_values.proofs.Order.{entries-walk, entries_from-one_more}
+use Rattle.gp_hostfile.specs.declared.text.EdgeLine.{EdgeLine}
+use Rattle.gp_hostfile.specs.GraphText.{EdgeKey, edge_key, key_cmp, edge_mark_text, node_line, edge_line, edge_lines, edges_of, IsGraphText, BeginsGraph}
+use Rattle.gp_hostfile.specs.Lines.{line_key, line_keys, entry_keys, rank_text, key_line, key_lines}
+use Rattle.gp_hostfile.proofs.Sorted.{Rises, sorted_from, rises_from, in_order, in_order_moves, in_order_rises, one_list, rises_mapped, rises_back}
+
+-- ---- one turn of a walk
+
+pub one_node : (g : Graph) (n : ℕ) → flat_map node_line (nodes_from g 0 (n + 1)) ≡ flat_map node_line (nodes_from g 0 n) ++ flat_map node_line (numbered n (node_at g n))
+one_node g n =
+    let z : 0 + n ≡ n = omega arith in
+    ap (flat_map node_line) (entries_from-one_more g.nodes 0 n ∙ ap (λ k. nodes_from g 0 n ++ numbered k (node_at g k)) z)
+    ∙ flat_map-append node_line (nodes_from g 0 n) (numbered n (node_at g n))
+
+pub node_turn : (g : Graph) (n : ℕ) (old mid new : List ℕ) → mid ≡ old ++ flat_map node_line (nodes_from g 0 n) → new ≡ mid ++ flat_map node_line (numbered n (node_at g n)) → new ≡ old ++ flat_map node_line (nodes_from g 0 (n + 1))
+node_turn g n old mid new a b =
+    b ∙ ap (λ t. t ++ flat_map node_line (numbered n (node_at g n))) a ∙ append_assoc old (flat_map node_line (nodes_from g 0 n)) (flat_map node_line (numbered n (node_at g n)))
+    ∙ ap (λ t. old ++ t) (sym (one_node g n))
+
+pub edge_turn : (g : Graph) (e : ℕ) (mid new : List EdgeKey) → mid ≡ entry_keys (edges_from g 0 e) → new ≡ mid ++ entry_keys (numbered e (edge_at g e)) → new ≡ entry_keys (edges_from g 0 (e + 1))
+edge_turn g e mid new a b =
+    let z : 0 + e ≡ e = omega arith in
+    b ∙ ap (λ t. t ++ entry_keys (numbered e (edge_at g e))) a ∙ sym (map-append _ (edges_from g 0 e) (numbered e (edge_at g e)))
+    ∙ ap entry_keys (sym (entries_from-one_more g.edges 0 e ∙ ap (λ k. edges_from g 0 e ++ numbered k (edge_at g k)) z))
+
+-- ---- the lines one by one
+
+pub line_turn : (ls : List EdgeLine) (i : ℕ) (l : EdgeLine) (old mid new : List ℕ) → i < length ls → l ≡ get_or ls i l
+    → mid ++ key_lines i (line_keys (drop i ls)) ≡ old ++ key_lines 0 (line_keys ls) → new ≡ mid ++ key_line i (line_key l)
+    → new ++ key_lines (i + 1) (line_keys (drop (i + 1) ls)) ≡ old ++ key_lines 0 (line_keys ls)
+unfolding key_lines
+line_turn ls i l old mid new lt is before e =
+    let d : drop i ls ≡ l ∷ drop (i + 1) ls = drop-cons ls i l lt ∙ ap (λ y. y ∷ drop (suc i) ls) (sym is) ∙ rw add-one refl in
+    ap (λ t. t ++ key_lines (i + 1) (line_keys (drop (i + 1) ls))) e ∙ append_assoc mid (key_line i (line_key l)) (key_lines (i + 1) (line_keys (drop (i + 1) ls)))
+    ∙ ap (λ xs. mid ++ key_lines i (line_keys xs)) (sym d) ∙ before
+
+pub lines_end : (ls : List EdgeLine) (i : ℕ) (old mid : List ℕ) → length ls ≤ i → mid ++ key_lines i (line_keys (drop i ls)) ≡ old ++ key_lines 0 (line_keys ls) → mid ≡ old ++ key_lines 0 (line_keys ls)
+unfolding key_lines
+lines_end ls i old mid le before = sym (append-nil mid) ∙ ap (λ xs. mid ++ key_lines i (line_keys xs)) (sym (drop_of_length-le ls le)) ∙ before
+
+-- ---- the order
+
+pub key_total : IsTotalOrder key_cmp
+key_total =
+    then_total (on_total (λ (k : EdgeKey). k.source) nat_cmp_total)
+    (then_total (on_total (λ (k : EdgeKey). k.target) nat_cmp_total) (then_total (on_total (λ (k : EdgeKey). k.mark) nat_cmp_total) (on_total (λ (k : EdgeKey). k.label) nat_list_cmp_total)))
+
+abbrev pub key_lt : EdgeKey → EdgeKey → Bool
+key_lt a b = is_lt (key_cmp a b)
+
+both_equal : (a b : Ordering) → ordering_then a b ≡ Equal → (a ≡ Equal) × (b ≡ Equal)
+both_equal Less b h = absurd cc
+both_equal Equal b h = (refl, h)
+both_equal Greater b h = absurd cc
+
+same_texts : (a b : List ℕ) → slice_cmp nat_cmp a b ≡ Equal → a ≡ b
+same_texts [] [] h = refl
+same_texts [] (y ∷ ys) h = absurd cc
+same_texts (x ∷ xs) [] h = absurd cc
+same_texts (x ∷ xs) (y ∷ ys) h =
+    let e = both_equal (nat_cmp x y) (slice_cmp nat_cmp xs ys) h in
+    let a : x ≡ y = nat_cmp-IsAntisymmetric x y e.0 in
+    let b : xs ≡ ys = same_texts xs ys e.1 in
+    λ i. a i ∷ b i
+
+same_keys : (a b : EdgeKey) → key_cmp a b ≡ Equal → a ≡ b
+same_keys a b h =
+    let s = both_equal (nat_cmp a.source b.source) _ h in
+    let t = both_equal (nat_cmp a.target b.target) _ s.1 in
+    let m = both_equal (nat_cmp a.mark b.mark) _ t.1 in
+    let p = nat_cmp-IsAntisymmetric a.source b.source s.0 in
+    let q = nat_cmp-IsAntisymmetric a.target b.target t.0 in
+    let r = nat_cmp-IsAntisymmetric a.mark b.mark m.0 in
+    let l = same_texts a.label b.label m.1 in
+    λ i. record { source = p i; target = q i; mark = r i; label = l i }
+
+neither : (a b : Ordering) → a ≡ ordering_reverse b → is_lt a ≡ false → is_lt b ≡ false → a ≡ Equal
+neither Less b h p q = absurd cc
+neither Equal b h p q = refl
+neither Greater Less h p q = absurd cc
+neither Greater Equal h p q = absurd cc
+neither Greater Greater h p q = absurd cc
+
+tied_keys : (a b : EdgeKey) → key_lt a b ≡ false → key_lt b a ≡ false → a ≡ b
+tied_keys a b p q = same_keys a b (neither (key_cmp a b) (key_cmp b a) (key_total.antisymm a b) p q)
+
+by_keys : IsStrictWeakOrder key_lt
+by_keys = ranks_by key_total (λ (k : EdgeKey). k)
+
+by_edges : IsStrictWeakOrder (λ (a b : Edge). key_lt (edge_key a) (edge_key b))
+by_edges = ranks_by key_total edge_key
+
+by_lines : IsStrictWeakOrder (λ (a b : EdgeLine). key_lt (line_key a) (line_key b))
+by_lines = ranks_by key_total line_key
+
+-- ---- from lines to edges
+
+marks_alike : (m : EdgeMark) → rank_text (edge_mark_rank m) ≡ edge_mark_text m
+marks_alike edge_marks.None = refl
+marks_alike edge_marks.Red = refl
+marks_alike edge_marks.Green = refl
+marks_alike edge_marks.Blue = refl
+marks_alike edge_marks.Dashed = refl
+
+line_alike : (i : ℕ) (d : Edge) → key_line i (edge_key d) ≡ edge_line i d
+line_alike i d = rw (marks_alike d.mark) refl
+
+lines_alike : (i : ℕ) (ds : List Edge) → key_lines i (map edge_key ds) ≡ edge_lines i ds
+unfolding key_lines
+lines_alike i [] = refl
+lines_alike i (d ∷ ds) = λ j. line_alike i d j ++ lines_alike (i + 1) ds j
+
+swaps_mapped : {A B : Type 0} (f : A → B) (xs : List A) (ms : List (ℕ × ℕ)) → map f (apply_swaps xs ms) ≡ apply_swaps (map f xs) ms
+swaps_mapped f xs [] = refl
+swaps_mapped f xs (m ∷ ms) = map-swap f (apply_swaps xs ms) m.0 m.1 ∙ ap (λ ys. Rattle.std.specs.List.swap ys m.0 m.1) (swaps_mapped f xs ms)
+
+length_mapped : {A B : Type 0} (f : A → B) (xs : List A) → length (map f xs) ≡ length xs
+length_mapped f [] = refl
+length_mapped f (x ∷ xs) = ap suc (length_mapped f xs)
+
+map_twice : (ds : List (ℕ × Edge)) → entry_keys ds ≡ map edge_key (map (λ (p : ℕ × Edge). p.1) ds)
+map_twice [] = refl
+map_twice (d ∷ ds) = ap (λ t. edge_key d.1 ∷ t) (map_twice ds)
+
+abbrev whole : Graph → List Edge → List ℕ
+whole g edges = codes "[\n" ++ flat_map node_line (entries g.nodes) ++ codes "|\n" ++ edge_lines 0 edges ++ codes "]\n"
+
+-- the text that the lines give, once they are sorted
+pub is_text : (g : Graph) (w : IsGraph g) (old new : List EdgeLine) (text : List ℕ) → line_keys old ≡ entry_keys (edges_from g 0 g.next_edge)
+    → IsPermutation old new → Rises (λ a b. key_lt (line_key a) (line_key b)) new
+    → text ≡ codes "[\n" ++ flat_map node_line (nodes_from g 0 g.next_node) ++ codes "|\n" ++ key_lines 0 (line_keys new) ++ codes "]\n" → IsGraphText g text
+is_text g w old new text made p up e =
+    let nodes : entries g.nodes ≡ nodes_from g 0 g.next_node = entries-walk g.nodes g.next_node w.nodes_below in
+    let edges : entries g.edges ≡ edges_from g 0 g.next_edge = entries-walk g.edges g.next_edge w.edges_below in
+    let keys : line_keys old ≡ map edge_key (edges_of g) = made ∙ ap entry_keys (sym edges) ∙ map_twice (entries g.edges) in
+    let count : length old ≡ length (edges_of g) = sym (length_mapped line_key old) ∙ ap length keys ∙ length_mapped edge_key (edges_of g) in
+    let order : List Edge = apply_swaps (edges_of g) p.moves in
+    let alike : line_keys new ≡ map edge_key order =
+        ap line_keys p.is ∙ swaps_mapped line_key old p.moves ∙ ap (λ ks. apply_swaps ks p.moves) keys ∙ sym (swaps_mapped edge_key (edges_of g) p.moves)
+    in
+    record {
+      edges = order;
+      same = record { moves = p.moves; below = subst (λ n. SwapsInRange n p.moves) count p.below; is = refl };
+      sorted = sorted_from _ order (rises_back edge_key key_lt order (subst (λ (ks : List EdgeKey). Rises key_lt ks) alike (rises_mapped line_key key_lt new up)));
+      is =
+          e ∙ ap (λ ns. codes "[\n" ++ flat_map node_line ns ++ codes "|\n" ++ key_lines 0 (line_keys new) ++ codes "]\n") (sym nodes)
+          ∙ ap (λ t. codes "[\n" ++ flat_map node_line (entries g.nodes) ++ codes "|\n" ++ t ++ codes "]\n") (ap (key_lines 0) alike ∙ lines_alike 0 order);
+    }
+
+pub lines_rise : (ls : List EdgeLine) → Rattle.std.specs.List.Sorted.IsSortedBy (λ (a b : EdgeLine). key_lt (line_key a) (line_key b)) ls → Rises (λ a b. key_lt (line_key a) (line_key b)) ls
+lines_rise ls s = rises_from _ by_lines ls s
+
+-- ---- each graph has one text
+
+pub some_text : (g : Graph) → (text : List ℕ) × IsGraphText g text
+some_text g =
+    let order = in_order (λ (a b : Edge). key_lt (edge_key a) (edge_key b)) (edges_of g) in
+    (whole g order, record {
+      edges = order;
+      same = in_order_moves _ (edges_of g);
+      sorted = sorted_from _ order (in_order_rises _ by_edges (edges_of g));
+      is = refl;
+    })
+
+pub begins_nowhere : {T E : Type 0} (r : Result T E) (g : Graph) (old new : List ℕ) → new ≡ old → OnErr r (BeginsGraph g old new)
+begins_nowhere (Ok x) g old new h = tt
+begins_nowhere (Err e) g old new h =
+    let t = some_text g in
+    record { text = t.0; is_text = t.1; count = 0; gained = h ∙ sym (append-nil old) }
+
+pub one_text : (g : Graph) (s t : List ℕ) → IsGraphText g s → IsGraphText g t → s ≡ t
+one_text g s t a b =
+    let up : (o : List Edge) → Rattle.std.specs.List.Sorted.IsSortedBy (λ (a b : Edge). key_lt (edge_key a) (edge_key b)) o → Rises key_lt (map edge_key o) = λ o h. rises_mapped edge_key key_lt o (rises_from _ by_edges o h) in
+    let counts : (o : List Edge) → IsPermutation (edges_of g) o → (f : EdgeKey → ℕ) → sum_by f (map edge_key o) ≡ sum_by f (map edge_key (edges_of g)) =
+        λ o p f. sum_by-IsPermutation f (map edge_key (edges_of g)) (map edge_key o) (IsPermutation-map edge_key (edges_of g) o p)
+    in
+    let keys : map edge_key a.edges ≡ map edge_key b.edges =
+        one_list key_lt by_keys tied_keys _ _ (up a.edges a.sorted) (up b.edges b.sorted) (λ f. counts a.edges a.same f ∙ sym (counts b.edges b.same f))
+    in
+    let lines : edge_lines 0 a.edges ≡ edge_lines 0 b.edges = sym (lines_alike 0 a.edges) ∙ ap (key_lines 0) keys ∙ lines_alike 0 b.edges in
+    a.is ∙ ap (λ t. codes "[\n" ++ flat_map node_line (entries g.nodes) ++ codes "|\n" ++ t ++ codes "]\n") lines ∙ sym b.is
