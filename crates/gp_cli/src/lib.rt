@@ -3,3 +3,5 @@
 
 mod matching;
 mod step;
+#[cfg(test)]
+mod tests;
