@@ -7,6 +7,8 @@ mod matching;
 mod reply;
 mod run;
 mod step;
+#[cfg(test)]
+mod tests;
 mod top;
 mod words;
 

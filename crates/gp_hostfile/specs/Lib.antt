@@ -3,4 +3,3 @@ pub mod Drawn
 pub mod GraphText
 pub mod Lines
 pub mod Laws
-pub mod GraphText
