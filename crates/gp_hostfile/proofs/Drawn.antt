@@ -1,9 +1,8 @@
 -- What was made is what was drawn.
-use Rattle.std.proofs.Common.{◌≡◌, ℕ, zero, suc, ◌+◌, ◌<◌, ◌≢◌, Bool, true, false, cond, ◌&&◌, ◌||◌, List, [], ◌∷◌, ◌++◌, length, map, Option, Some, None, refl, sym, ap, subst, ◌∙◌, append_assoc, length-append, arith}
+use Rattle.std.proofs.Common.{◌≡◌, ℕ, zero, suc, ◌+◌, ◌<◌, ◌≢◌, Bool, true, false, cond, ◌&&◌, ◌||◌, List, [], ◌∷◌, ◌++◌, length, map, Option, Some, None, refl, sym, ap, subst, ◌∙◌, append_assoc, arith}
 use Rattle.std.proofs.lemmas.List.{append-nil}
 use Rattle.std.specs.Prelude.{if◌then◌else◌, slice_get, IsSome, is_some, flat_map}
 use Rattle.std.specs.List.{list_all, list_any, position_from}
-use Rattle.std.specs.FinMap.{FinMap, insert}
 use Rattle.gp_grammar.specs.declared.graph.NodeTree.{NodeTree}
 use Rattle.gp_grammar.specs.declared.graph.EdgeTree.{EdgeTree}
 use Rattle.gp_grammar.specs.Reading.{◌>>=◌}
@@ -11,7 +10,7 @@ use Rattle.gp_grammar.specs.Labels.{label_of}
 use Rattle.gp_grammar.proofs.Shapes.{bind_some, some_is}
 use Rattle.gp_values.specs.declared.atom.Atom.{Atom}
 use Rattle.gp_values.specs.Names.{Name, same_name, has_name, place_of, first_doubled_behind, first_unknown}
-use Rattle.gp_values.specs.Graph.{Node, Edge, Graph, node_at, edge_at, with_node, with_edge, empty_graph}
+use Rattle.gp_values.specs.Graph.{Graph, node_at, edge_at, with_node, with_edge, empty_graph}
 use Rattle.gp_values.proofs.Graphs.{get-insert_here, get-insert_apart}
 use Rattle.gp_hostfile.specs.Host.{IsDrawnNode, IsDrawnEdge}
 use Rattle.gp_hostfile.specs.Drawn.{SoFar, one_name_more, plain_node, plain_edge, one_node_more, nodes_made, one_edge_more, edges_made, AreNodes}
@@ -111,7 +110,7 @@ slice_get_some [] k lt = absurd (omega arith)
 slice_get_some (x ∷ xs) zero lt = (x, refl)
 slice_get_some (x ∷ xs) (suc k) lt = slice_get_some xs k (omega arith)
 
-length_mapped : {A B : Type 0} (f : A → B) (xs : List A) → length (map f xs) ≡ length xs
+pub length_mapped : {A B : Type 0} (f : A → B) (xs : List A) → length (map f xs) ≡ length xs
 length_mapped f [] = refl
 length_mapped f (x ∷ xs) = ap suc (length_mapped f xs)
 
@@ -185,8 +184,8 @@ edges_sound nodes [] old new h =
 edges_sound nodes (e ∷ es) old new h =
     let a = bind_some (one_edge_more nodes e old) (edges_made nodes es) new h in
     let b =
-        bind_some (one_name_more old.0 e.name)
-        (λ names. place_of nodes e.source >>= λ s. place_of nodes e.target >>= λ t. label_of e.label >>= λ v. Some (names, with_edge old.1 (plain_edge s t v))) a.0 a.1
+    bind_some (one_name_more old.0 e.name)
+    (λ names. place_of nodes e.source >>= λ s. place_of nodes e.target >>= λ t. label_of e.label >>= λ v. Some (names, with_edge old.1 (plain_edge s t v))) a.0 a.1
     in
     let s = bind_some (place_of nodes e.source) (λ s. place_of nodes e.target >>= λ t. label_of e.label >>= λ v. Some (b.0, with_edge old.1 (plain_edge s t v))) a.0 b.2 in
     let t = bind_some (place_of nodes e.target) (λ t. label_of e.label >>= λ v. Some (b.0, with_edge old.1 (plain_edge s.0 t v))) a.0 s.2 in

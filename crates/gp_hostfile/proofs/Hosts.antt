@@ -1,5 +1,5 @@
 -- Host texts.
-use Rattle.std.proofs.Common.{◌≡◌, ℕ, zero, suc, ◌+◌, ◌<◌, ◌≤◌, Bool, true, false, List, [], ◌∷◌, ◌++◌, length, map, Option, Some, None, Ok, Err, refl, sym, ap, subst, ◌∙◌, arith}
+use Rattle.std.proofs.Common.{◌≡◌, ℕ, zero, suc, ◌+◌, ◌≤◌, Bool, true, false, List, [], ◌∷◌, length, Option, Some, None, Ok, Err, refl, sym, ap, subst, ◌∙◌, arith}
 use Rattle.std.specs.Prelude.{if◌then◌else◌, slice_get, IsSome, is_some, Result, IfOk}
 use Rattle.std.specs.List.{list_all}
 use Rattle.std.specs.Result.{result_ok}
@@ -9,13 +9,12 @@ use Rattle.gp_tokens.specs.Lexed.{tokens_of}
 use Rattle.gp_grammar.specs.declared.graph.NodeTree.{NodeTree}
 use Rattle.gp_grammar.specs.declared.graph.EdgeTree.{EdgeTree}
 use Rattle.gp_grammar.specs.Reading.{◌>>=◌}
-use Rattle.gp_grammar.specs.Graph.{Drawing, IsDrawing}
+use Rattle.gp_grammar.specs.Graph.{Drawing}
 use Rattle.gp_grammar.specs.GraphReading.{drawing}
 use Rattle.gp_grammar.specs.Labels.{label_of, has_labels, node_labels, edge_labels, node_names}
 use Rattle.gp_grammar.proofs.Shapes.{bind_some, some_is}
 use Rattle.gp_grammar.proofs.GraphLaws.{drawing_sound, drawing_again}
-use Rattle.gp_values.specs.declared.atom.Atom.{Atom}
-use Rattle.gp_values.specs.Names.{Name, place_of}
+use Rattle.gp_values.specs.Names.{Name}
 use Rattle.gp_values.specs.Graph.{Node, Edge, Graph, IsGraph, node_at, edge_at, empty_graph}
 use Rattle.gp_values.proofs.Graphs.{same_graph}
 use Rattle.gp_graph.specs.declared.graph.Graph.{Graph as HeldGraph}
@@ -35,23 +34,24 @@ drawn : (d : Drawing) (n e : SoFar) → AreDrawnNodes d.0 ([], empty_graph) n �
 drawn d n e p q =
     let names : n.0 ≡ node_names d = p.names in
     let at_zero : (k : ℕ) → 0 + k ≡ k = λ k. omega arith in
-    let edges_from : n.1.next_edge ≡ 0 = p.next_edge in
-    (record {
-      labels = both_labels d p.labels q.labels;
-      nodes = p.fresh;
-      edges = q.fresh;
-      ends = rw names at q.ends;
-    },
-    record {
-      next_node = q.next_node ∙ p.next_node ∙ at_zero (length d.0);
-      next_edge = q.next_edge ∙ ap (λ k. k + length d.1) edges_from ∙ at_zero (length d.1);
-      nodes = λ i x h.
-          let there : IsDrawnNode x (node_at n.1 i) = subst (λ j. IsDrawnNode x (node_at n.1 j)) (at_zero i) (p.here i x h) in
-          subst (λ ns. IsDrawnNode x (Rattle.std.specs.FinMap.get ns i)) (sym q.all_nodes) there;
-      edges = λ i x h.
-          let there : IsDrawnEdge n.0 x (edge_at e.1 i) = subst (λ j. IsDrawnEdge n.0 x (edge_at e.1 j)) (ap (λ k. k + i) edges_from ∙ at_zero i) (q.here i x h) in
-          subst (λ (ns : List Name). IsDrawnEdge ns x (edge_at e.1 i)) names there;
-    })
+    let edges_from : n.1.next_edge ≡ 0 = p.next_edge in (
+      record {
+        labels = both_labels d p.labels q.labels;
+        nodes = p.fresh;
+        edges = q.fresh;
+        ends = rw names at q.ends;
+      },
+      record {
+        next_node = q.next_node ∙ p.next_node ∙ at_zero (length d.0);
+        next_edge = q.next_edge ∙ ap (λ k. k + length d.1) edges_from ∙ at_zero (length d.1);
+        nodes = λ i x h.
+            let there : IsDrawnNode x (node_at n.1 i) = subst (λ j. IsDrawnNode x (node_at n.1 j)) (at_zero i) (p.here i x h) in
+            subst (λ ns. IsDrawnNode x (Rattle.std.specs.FinMap.get ns i)) (sym q.all_nodes) there;
+        edges = λ i x h.
+            let there : IsDrawnEdge n.0 x (edge_at e.1 i) = subst (λ j. IsDrawnEdge n.0 x (edge_at e.1 j)) (ap (λ k. k + i) edges_from ∙ at_zero i) (q.here i x h) in
+            subst (λ (ns : List Name). IsDrawnEdge ns x (edge_at e.1 i)) names there;
+      },
+    )
 
 pub graph_sound : (d : Drawing) (g : Graph) → graph_made d ≡ Some g → IsHostDrawing d × IsDrawn d g
 unfolding graph_made
@@ -76,6 +76,7 @@ graph_complete d w h = by (nodes_made d.0 ([], empty_graph)) refl h
         let names : n.0 ≡ node_names d = (nodes_sound d.0 _ n f).names in
         edges_complete n.0 d.1 ([], n.1) w.edges (two_labels d w.labels).1 (rw (← names) at w.ends) e
     edges_left n f (Some x) e h = cc
+
     by : (o : Option SoFar) → nodes_made d.0 ([], empty_graph) ≡ o → (o >>= λ n. edges_made n.0 d.1 ([], n.1) >>= λ e. Some e.1) ≡ None → ⊥
     by None e h = nodes_complete d.0 ([], empty_graph) w.nodes (two_labels d w.labels).0 e
     by (Some n) e h = edges_left n e (edges_made n.0 d.1 ([], n.1)) refl h
@@ -191,6 +192,7 @@ one_graph d g h p v q w = same_graph g h nodes edges (p.next_node ∙ sym q.next
         let b : node_at h k ≡ None = nothing (node_at h k) (λ s. let lt = w.nodes_below k s in let n = q.next_node in omega arith) in
         a ∙ sym b
     at_node k (Some n) e = node_alike n _ _ (p.nodes k n e) (q.nodes k n e)
+
     at_edge : (k : ℕ) (o : Option EdgeTree) → slice_get d.1 k ≡ o → edge_at g k ≡ edge_at h k
     at_edge k None e =
         let far : length d.1 ≤ k = past d.1 k e in
@@ -198,8 +200,10 @@ one_graph d g h p v q w = same_graph g h nodes edges (p.next_node ∙ sym q.next
         let b : edge_at h k ≡ None = nothing (edge_at h k) (λ s. let lt = w.edges_below k s in let n = q.next_edge in omega arith) in
         a ∙ sym b
     at_edge k (Some n) e = edge_alike (node_names d) n _ _ (p.edges k n e) (q.edges k n e)
+
     nodes : (k : ℕ) → node_at g k ≡ node_at h k
     nodes k = at_node k (slice_get d.0 k) refl
+
     edges : (k : ℕ) → edge_at g k ≡ edge_at h k
     edges k = at_edge k (slice_get d.1 k) refl
 

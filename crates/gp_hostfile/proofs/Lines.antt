@@ -1,5 +1,5 @@
 -- The lines of edges, and the text of a graph.
-use Rattle.std.proofs.Common.{◌≡◌, ℕ, zero, suc, ◌+◌, ◌<◌, ◌≤◌, Bool, true, false, List, [], ◌∷◌, ◌++◌, length, get_or, map, drop, take, refl, sym, ap, subst, ◌∙◌, append_assoc, add-one, drop-cons, arith}
+use Rattle.std.proofs.Common.{◌≡◌, ℕ, suc, ◌+◌, ◌<◌, ◌≤◌, Bool, false, List, [], ◌∷◌, ◌++◌, length, get_or, map, drop, refl, sym, ap, subst, ◌∙◌, append_assoc, add-one, drop-cons, arith}
 use Rattle.std.proofs.Math.ListN.{drop_of_length-le}
 use Rattle.std.proofs.lemmas.List.{append-nil, map-append}
 use Rattle.std.proofs.lemmas.Grind.{flat_map-append}
@@ -16,13 +16,13 @@ use Rattle.indexmap.proofs.ReorderLemmas.{map-swap}
 use Rattle.gp_values.specs.declared.marks.EdgeMark.{EdgeMark}
 use Rattle.gp_values.specs.declared.marks.EdgeMark.TheVariants as edge_marks
 use Rattle.gp_values.specs.Marks.{edge_mark_rank}
-use Rattle.gp_values.specs.Labels.{label_text}
-use Rattle.gp_values.specs.Graph.{Node, Edge, Graph, IsGraph, node_at, edge_at}
+use Rattle.gp_values.specs.Graph.{Edge, Graph, IsGraph, node_at, edge_at}
 use Rattle.gp_values.specs.Order.{numbered, nodes_from, edges_from}
 use Rattle.gp_values.proofs.Order.{entries-walk, entries_from-one_more}
 use Rattle.gp_hostfile.specs.declared.text.EdgeLine.{EdgeLine}
 use Rattle.gp_hostfile.specs.GraphText.{EdgeKey, edge_key, key_cmp, edge_mark_text, node_line, edge_line, edge_lines, edges_of, IsGraphText, BeginsGraph}
 use Rattle.gp_hostfile.specs.Lines.{line_key, line_keys, entry_keys, rank_text, key_line, key_lines}
+use Rattle.gp_hostfile.proofs.Drawn.{length_mapped}
 use Rattle.gp_hostfile.proofs.Sorted.{Rises, sorted_from, rises_from, in_order, in_order_moves, in_order_rises, one_list, rises_mapped, rises_back}
 
 -- ---- one turn of a walk
@@ -135,10 +135,6 @@ swaps_mapped : {A B : Type 0} (f : A → B) (xs : List A) (ms : List (ℕ × ℕ
 swaps_mapped f xs [] = refl
 swaps_mapped f xs (m ∷ ms) = map-swap f (apply_swaps xs ms) m.0 m.1 ∙ ap (λ ys. Rattle.std.specs.List.swap ys m.0 m.1) (swaps_mapped f xs ms)
 
-length_mapped : {A B : Type 0} (f : A → B) (xs : List A) → length (map f xs) ≡ length xs
-length_mapped f [] = refl
-length_mapped f (x ∷ xs) = ap suc (length_mapped f xs)
-
 map_twice : (ds : List (ℕ × Edge)) → entry_keys ds ≡ map edge_key (map (λ (p : ℕ × Edge). p.1) ds)
 map_twice [] = refl
 map_twice (d ∷ ds) = ap (λ t. edge_key d.1 ∷ t) (map_twice ds)
@@ -157,7 +153,7 @@ is_text g w old new text made p up e =
     let count : length old ≡ length (edges_of g) = sym (length_mapped line_key old) ∙ ap length keys ∙ length_mapped edge_key (edges_of g) in
     let order : List Edge = apply_swaps (edges_of g) p.moves in
     let alike : line_keys new ≡ map edge_key order =
-        ap line_keys p.is ∙ swaps_mapped line_key old p.moves ∙ ap (λ ks. apply_swaps ks p.moves) keys ∙ sym (swaps_mapped edge_key (edges_of g) p.moves)
+    ap line_keys p.is ∙ swaps_mapped line_key old p.moves ∙ ap (λ ks. apply_swaps ks p.moves) keys ∙ sym (swaps_mapped edge_key (edges_of g) p.moves)
     in
     record {
       edges = order;
@@ -175,13 +171,15 @@ lines_rise ls s = rises_from _ by_lines ls s
 
 pub some_text : (g : Graph) → (text : List ℕ) × IsGraphText g text
 some_text g =
-    let order = in_order (λ (a b : Edge). key_lt (edge_key a) (edge_key b)) (edges_of g) in
-    (whole g order, record {
-      edges = order;
-      same = in_order_moves _ (edges_of g);
-      sorted = sorted_from _ order (in_order_rises _ by_edges (edges_of g));
-      is = refl;
-    })
+    let order = in_order (λ (a b : Edge). key_lt (edge_key a) (edge_key b)) (edges_of g) in (
+      whole g order,
+      record {
+        edges = order;
+        same = in_order_moves _ (edges_of g);
+        sorted = sorted_from _ order (in_order_rises _ by_edges (edges_of g));
+        is = refl;
+      },
+    )
 
 pub begins_nowhere : {T E : Type 0} (r : Result T E) (g : Graph) (old new : List ℕ) → new ≡ old → OnErr r (BeginsGraph g old new)
 begins_nowhere (Ok x) g old new h = tt
@@ -193,10 +191,10 @@ pub one_text : (g : Graph) (s t : List ℕ) → IsGraphText g s → IsGraphText 
 one_text g s t a b =
     let up : (o : List Edge) → Rattle.std.specs.List.Sorted.IsSortedBy (λ (a b : Edge). key_lt (edge_key a) (edge_key b)) o → Rises key_lt (map edge_key o) = λ o h. rises_mapped edge_key key_lt o (rises_from _ by_edges o h) in
     let counts : (o : List Edge) → IsPermutation (edges_of g) o → (f : EdgeKey → ℕ) → sum_by f (map edge_key o) ≡ sum_by f (map edge_key (edges_of g)) =
-        λ o p f. sum_by-IsPermutation f (map edge_key (edges_of g)) (map edge_key o) (IsPermutation-map edge_key (edges_of g) o p)
+    λ o p f. sum_by-IsPermutation f (map edge_key (edges_of g)) (map edge_key o) (IsPermutation-map edge_key (edges_of g) o p)
     in
     let keys : map edge_key a.edges ≡ map edge_key b.edges =
-        one_list key_lt by_keys tied_keys _ _ (up a.edges a.sorted) (up b.edges b.sorted) (λ f. counts a.edges a.same f ∙ sym (counts b.edges b.same f))
+    one_list key_lt by_keys tied_keys _ _ (up a.edges a.sorted) (up b.edges b.sorted) (λ f. counts a.edges a.same f ∙ sym (counts b.edges b.same f))
     in
     let lines : edge_lines 0 a.edges ≡ edge_lines 0 b.edges = sym (lines_alike 0 a.edges) ∙ ap (key_lines 0) keys ∙ lines_alike 0 b.edges in
     a.is ∙ ap (λ t. codes "[\n" ++ flat_map node_line (entries g.nodes) ++ codes "|\n" ++ t ++ codes "]\n") lines ∙ sym b.is

@@ -1,5 +1,5 @@
 -- Sorted lists: each list has one, and only one, if what ties is equal.
-use Rattle.std.proofs.Common.{◌≡◌, ℕ, zero, suc, ◌+◌, ◌<◌, ◌≤◌, Bool, true, false, cond, not, ◌&&◌, List, [], ◌∷◌, ◌++◌, length, get_or, map, refl, sym, ap, subst, ◌∙◌, arith}
+use Rattle.std.proofs.Common.{◌≡◌, ℕ, zero, suc, ◌+◌, ◌<◌, Bool, true, false, List, [], ◌∷◌, length, get_or, map, refl, sym, ap, subst, arith}
 use Rattle.std.specs.Prelude.{if◌then◌else◌, IsPermutation, sum_by}
 use Rattle.std.specs.Cmp.{IsStrictWeakOrder}
 use Rattle.std.specs.List.Sorted.{IsSortedBy}
@@ -60,11 +60,12 @@ module _ {X : Type 0} (lt : X → X → Bool) where
   module _ (o : IsStrictWeakOrder lt) where
     pub rises_from : (xs : List X) → IsSortedBy lt xs → Rises xs
     rises_from [] s = tt
-    rises_from (x ∷ xs) s =
-        (none_below_from x xs (λ j d h. sorted_far lt o (x ∷ xs) s 0 (suc j) d (omega arith) (omega arith)),
-        rises_from xs (λ k d a b.
-            let e : suc k + 1 ≡ suc (k + 1) = omega arith in
-            subst (λ j. lt (get_or (x ∷ xs) j d) (get_or xs k d) ≡ false) e (s (suc k) d (omega arith) (omega arith))))
+    rises_from (x ∷ xs) s = (
+      none_below_from x xs (λ j d h. sorted_far lt o (x ∷ xs) s 0 (suc j) d (omega arith) (omega arith)),
+      rises_from xs (λ k d a b.
+          let e : suc k + 1 ≡ suc (k + 1) = omega arith in
+          subst (λ j. lt (get_or (x ∷ xs) j d) (get_or xs k d) ≡ false) e (s (suc k) d (omega arith) (omega arith))),
+    )
 
     none_below_chain : (x z : X) (zs : List X) → lt z x ≡ false → NoneBelow z zs → NoneBelow x zs
     none_below_chain x z [] h n = tt
@@ -131,11 +132,11 @@ module _ {X : Type 0} (lt : X → X → Bool) where
       one_list (x ∷ xs) (y ∷ ys) r s all =
           let e : x ≡ y = same x y (heads x y xs ys s all) (heads y x ys xs r (λ f. sym (all f))) in
           let rest : xs ≡ ys = one_list xs ys r.1 s.1 (λ f.
-              let a = sum_by-cons f x xs in
-              let b = sum_by-cons f y ys in
-              let c = all f in
-              let d : f x ≡ f y = ap f e in
-              omega (arith, a, b, c, d))
+          let a = sum_by-cons f x xs in
+          let b = sum_by-cons f y ys in
+          let c = all f in
+          let d : f x ≡ f y = ap f e in
+          omega (arith, a, b, c, d))
           in
           λ i. e i ∷ rest i
 

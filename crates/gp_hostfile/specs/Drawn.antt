@@ -1,5 +1,5 @@
 -- Making the graph of a drawing, node by node and edge by edge, as the reader does.
-use Rattle.std.specs.Prelude.{◌≡◌, ℕ, ◌+◌, ◌<◌, Bool, true, false, if◌then◌else◌, List, [], ◌∷◌, ◌++◌, length, Option, Some, None, IsSome, Result, Ok, Err}
+use Rattle.std.specs.Prelude.{◌≡◌, ℕ, ◌<◌, false, if◌then◌else◌, List, [], ◌∷◌, ◌++◌, length, Option, Some, None, IsSome, Result, Ok, Err}
 use Rattle.gp_grammar.specs.declared.graph.NodeTree.{NodeTree}
 use Rattle.gp_grammar.specs.declared.graph.EdgeTree.{EdgeTree}
 use Rattle.std.specs.Result.{result_ok}
@@ -12,7 +12,7 @@ use Rattle.gp_grammar.specs.declared.error.ReadError.TheVariants as errors
 use Rattle.gp_grammar.specs.GraphReading.{drawing}
 use Rattle.gp_grammar.specs.Reading.{◌>>=◌}
 use Rattle.gp_grammar.specs.Graph.{Drawing}
-use Rattle.gp_grammar.specs.Labels.{label_of, node_names}
+use Rattle.gp_grammar.specs.Labels.{label_of}
 use Rattle.gp_values.specs.declared.atom.Atom.{Atom}
 use Rattle.gp_values.specs.declared.marks.NodeMark.TheVariants as node_marks
 use Rattle.gp_values.specs.declared.marks.EdgeMark.TheVariants as edge_marks

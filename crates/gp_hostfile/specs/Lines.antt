@@ -1,5 +1,5 @@
 -- Lines of edges before and after they are ordered, as the writer holds them.
-use Rattle.std.specs.Prelude.{◌≡◌, ℕ, ◌+◌, nat_eq, if◌then◌else◌, List, [], ◌∷◌, ◌++◌, map, codes}
+use Rattle.std.specs.Prelude.{ℕ, ◌+◌, nat_eq, if◌then◌else◌, List, [], ◌∷◌, ◌++◌, map, codes}
 use Rattle.std.specs.Fmt.{decimal}
 use Rattle.gp_values.specs.Graph.{Edge}
 use Rattle.gp_hostfile.specs.declared.text.EdgeLine.{EdgeLine}

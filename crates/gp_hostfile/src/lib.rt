@@ -4,6 +4,8 @@
 pub mod laws;
 mod names;
 mod read;
+#[cfg(test)]
+mod tests;
 mod text;
 
 pub use read::{HostRefusal, read_host};

@@ -29,6 +29,7 @@ pub enum HostRefusal {
 impl From<NoMemory> for HostRefusal {
     ghost use Rattle.std.specs.Prelude.{◌≡◌};
     ghost use Rattle.gp_hostfile.specs.declared.read.HostRefusal.TheVariants as refusals;
+
     ghost from_gives = { λ _ e. e ≡ refusals.NoMemory };
 
     fn from(_: NoMemory) -> HostRefusal {
@@ -39,6 +40,7 @@ impl From<NoMemory> for HostRefusal {
 impl From<LexFault> for HostRefusal {
     ghost use Rattle.std.specs.Prelude.{◌≡◌};
     ghost use Rattle.gp_hostfile.specs.Drawn.{refusal_of_fault};
+
     ghost from_gives = { λ f e. e ≡ refusal_of_fault f };
 
     fn from(fault: LexFault) -> HostRefusal {
@@ -52,6 +54,7 @@ impl From<LexFault> for HostRefusal {
 impl From<ReadError> for HostRefusal {
     ghost use Rattle.std.specs.Prelude.{◌≡◌};
     ghost use Rattle.gp_hostfile.specs.Drawn.{refusal_of_error};
+
     ghost from_gives = { λ f e. e ≡ refusal_of_error f };
 
     fn from(error: ReadError) -> HostRefusal {

@@ -1,4 +1,3 @@
-use Rattle.std.proofs.Common.{sym}
 use Rattle.std.proofs.lemmas.Result.{err_from_is_err_and}
 use Rattle.gp_hostfile.proofs.Turns.{edges_go_on, edges_stop, edges_end}
 use Rattle.gp_hostfile.proofs.read.draw_edges.Goals as goal

@@ -1,4 +1,3 @@
-use Rattle.std.proofs.Common.{sym}
 use Rattle.std.proofs.lemmas.Result.{err_from_is_err_and}
 use Rattle.gp_hostfile.proofs.Turns.{nodes_go_on, nodes_stop, nodes_end}
 use Rattle.gp_hostfile.proofs.read.draw_nodes.Goals as goal

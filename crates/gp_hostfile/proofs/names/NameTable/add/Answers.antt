@@ -1,5 +1,4 @@
 use Rattle.std.proofs.Common.{ℕ, List, map, Vec, Global, ◌∙◌, ap, not}
-use Rattle.gp_values.specs.Names.{Name}
 use Rattle.gp_hostfile.proofs.Tables.{has_key, with_key}
 use Rattle.gp_hostfile.proofs.names.NameTable.add.Goals as goal
 

@@ -1,4 +1,4 @@
-use Rattle.std.proofs.Common.{◌∙◌, sym, refl}
+use Rattle.std.proofs.Common.{◌∙◌, refl}
 use Rattle.gp_hostfile.proofs.Tables.{key_place}
 use Rattle.gp_hostfile.proofs.names.NameTable.place.Goals as goal
 
