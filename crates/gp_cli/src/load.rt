@@ -49,7 +49,11 @@ fn read_file<F: Files>(
 }
 
 /// The rule of the program's file.
-pub(crate) fn load_program<F: Files>(alloc: Global, files: &mut F, name: &str) -> Result<PlainRule, Stop>
+pub(crate) fn load_program<F: Files>(
+    alloc: Global,
+    files: &mut F,
+    name: &str,
+) -> Result<PlainRule, Stop>
     ensures loads { LoadsProgram (F.content files.old) (record { before = F.faults files.old; now = F.faults files.new }) name.now result }
     ensures later { F.faults files.old ≤ F.faults files.new }
     ensures same { F.content files.new ≡ F.content files.old }

@@ -4,7 +4,6 @@ ghost use Rattle.std.specs.Prelude.{◌≡◌, [], IfOk};
 ghost use Rattle.gp_syntax.specs.Plain.{plain_rule, IsPlain};
 ghost use Rattle.gp_cli.specs.Parts.{Shows};
 
-
 use crate::reply::{Reply, on_out};
 use crate::step::call;
 use gp_graph::Graph;

@@ -6,15 +6,19 @@ ghost use Rattle.gp_cli.specs.Parts.{RunsFiles};
 
 use crate::deliver::deliver;
 use crate::load::{load_host, load_program};
-use crate::reply::{Stop, on_err};
-use crate::reply::Reply;
+use crate::reply::{Reply, Stop, on_err};
 use crate::run::run;
 use crate::words::command_of;
 use gp_io::{Files, Sink};
 use gp_values::NoMemory;
 use std::alloc::{AllocGlobal, Global};
 
-fn run_files<F: Files>(alloc: Global, program: &str, host: &str, files: &mut F) -> Result<Reply, Stop>
+fn run_files<F: Files>(
+    alloc: Global,
+    program: &str,
+    host: &str,
+    files: &mut F,
+) -> Result<Reply, Stop>
     ensures { RunsFiles (F.content files.old) (record { before = F.faults files.old; now = F.faults files.new }) program.now host.now result }
 {
     let rule = load_program(alloc, files, program)?;
