@@ -1,300 +1,196 @@
-//! Steps of rules by hand, on small hosts.
+//! Programs on hosts through the top call.
 
-ghost use Rattle.std.specs.Prelude.{◌≡◌, ◌↔◌, ℕ, ◌<◌, length, slice_get, Some, IsTrue, IsSome, true};
-ghost use Rattle.gp_values.specs.Graph.{node_at};
-ghost use Rattle.gp_syntax.specs.Rule.{IsKept};
-ghost use Rattle.gp_syntax.specs.Plain.{plain_rule, IsPlain};
-ghost use Rattle.gp_cli.specs.PlainMatch.{HasEnds};
-
-use crate::step::call;
-use gp_graph::Graph;
-use gp_syntax::{PlainLeftEdge, PlainLeftNode, PlainRightEdge, PlainRightNode, PlainRule};
-use gp_values::{Atom, EdgeMark, List, NoMemory, NodeMark};
+use crate::gp2_main;
+use gp_io::{MemFiles, MemSink};
 use std::alloc::Global;
-use std::process::Abort;
 use std::test::Fail;
 
-fn has_left_ends(rule: &PlainRule) -> bool
-    ensures { IsTrue result → HasEnds rule.now }
-{
-    let n = rule.left_nodes.len();
-    for p in &rule.left_edges {
-        if p.source >= n || p.target >= n {
-            return false;
-        }
+// The words `run p h`, and so many of them.
+fn run_words(alloc: Global, count: usize) -> Result<Vec<String>, Fail> {
+    let mut words = Vec::new(alloc);
+    for word in ["run", "p", "h"] {
+        words.push(String::from_str(alloc, word)?)?;
     }
-    true
+    words.truncate(count);
+    Ok(words)
 }
 
-fn has_right_ends(rule: &PlainRule) -> bool
-    ensures { IsTrue result → (k : ℕ) (q : PlainRightEdge) → slice_get rule.now.right_edges.items k ≡ Some q
-        → (q.source < length rule.now.right_nodes.items) × (q.target < length rule.now.right_nodes.items) }
-{
-    let n = rule.right_nodes.len();
-    for q in &rule.right_edges {
-        if q.source >= n || q.target >= n {
-            return false;
-        }
-    }
-    true
+// Files p and h of these texts.
+fn two_files(alloc: Global, program: &str, host: &str) -> Result<MemFiles, Fail> {
+    let mut files = Vec::new(alloc);
+    files.push((
+        String::from_str(alloc, "p")?,
+        program.as_bytes().to_vec(alloc)?,
+    ))?;
+    files.push((
+        String::from_str(alloc, "h")?,
+        host.as_bytes().to_vec(alloc)?,
+    ))?;
+    Ok(MemFiles::new(files, Vec::new(alloc)))
 }
 
-fn comes_from(q: &PlainRightNode, i: usize) -> bool
-    ensures { IsTrue result ↔ (q.now.origin ≡ Some i) }
-{
-    match q.origin {
-        Some(k) => k == i,
-        None => false,
+fn sink(alloc: Global, failing: Vec<(u64, u64)>) -> Result<MemSink, Fail> {
+    match MemSink::new(alloc, 4096, failing) {
+        Ok(sink) => Ok(sink),
+        Err(_) => Err(Fail::from("no room was made")),
     }
 }
 
-// Whether one of the first right nodes comes from a left node.
-fn is_origin(right: &[PlainRightNode], i: usize) -> bool
-    ensures yes { result ≡ true → (k : ℕ) × (q : PlainRightNode) × (slice_get right.now k ≡ Some q) × (q.origin ≡ Some i) }
-    ensures not { (k : ℕ) (q : PlainRightNode) → slice_get right.now k ≡ Some q → q.origin ≡ Some i → result ≡ true }
-{
-    for q in right {
-        if comes_from(q, i) {
-            return true;
-        }
-    }
-    false
-}
-
-// Whether right nodes come from places of left nodes, and no two from the same.
-fn has_origins(rule: &PlainRule) -> bool
-    ensures within { IsTrue result → (j i : ℕ) (q : PlainRightNode) → slice_get rule.now.right_nodes.items j ≡ Some q → q.origin ≡ Some i → i < length rule.now.left_nodes.items }
-    ensures apart { IsTrue result → (j k i : ℕ) (p q : PlainRightNode) → slice_get rule.now.right_nodes.items j ≡ Some p → slice_get rule.now.right_nodes.items k ≡ Some q
-        → p.origin ≡ Some i → q.origin ≡ Some i → k < j → ⊥ }
-{
-    let n = rule.left_nodes.len();
-    for j in 0..rule.right_nodes.len() {
-        if let Some(i) = rule.right_nodes[j].origin {
-            if i >= n || is_origin(&rule.right_nodes[..j], i) {
-                return false;
-            }
-        }
-    }
-    true
-}
-
-// Whether left nodes are kept exactly where a right node comes from them.
-fn keeps_origins(rule: &PlainRule) -> bool
-    ensures { IsTrue result → (i : ℕ) (p : PlainLeftNode) → slice_get rule.now.left_nodes.items i ≡ Some p → (p.kept ≡ true) ↔ IsKept (plain_rule rule.now) i }
-{
-    for i in 0..rule.left_nodes.len() {
-        if rule.left_nodes[i].kept != is_origin(&rule.right_nodes, i) {
-            return false;
-        }
-    }
-    true
-}
-
-fn is_plain(rule: &PlainRule) -> bool
-    ensures { IsTrue result → IsPlain rule.now }
-{
-    has_left_ends(rule) && has_right_ends(rule) && has_origins(rule) && keeps_origins(rule)
-}
-
-fn label(alloc: Global, n: i128) -> Result<List, NoMemory> {
-    let mut list = List::new(alloc);
-    list.push(Atom::Int(n))?;
-    Ok(list)
-}
-
-fn integer_in(list: &List) -> Option<i128> {
-    match list.atoms() {
-        [Atom::Int(n)] => Some(*n),
-        _ => None,
-    }
-}
-
-type LeftSide<'a> = (&'a [(bool, i128)], &'a [(usize, usize, i128)]);
-
-type RightSide<'a> = (
-    &'a [(Option<usize>, i128)],
-    &'a [(Option<usize>, usize, usize, i128)],
-);
-
-fn rule_of(alloc: Global, left: LeftSide, right: RightSide) -> Result<PlainRule, NoMemory> {
-    let mut rule = PlainRule {
-        left_nodes: Vec::new(alloc),
-        left_edges: Vec::new(alloc),
-        right_nodes: Vec::new(alloc),
-        right_edges: Vec::new(alloc),
-    };
-    for &(kept, n) in left.0 {
-        let label = label(alloc, n)?;
-        rule.left_nodes.push(PlainLeftNode { kept, label })?;
-    }
-    for &(source, target, n) in left.1 {
-        let label = label(alloc, n)?;
-        rule.left_edges.push(PlainLeftEdge {
-            source,
-            target,
-            label,
-        })?;
-    }
-    for &(origin, n) in right.0 {
-        let label = label(alloc, n)?;
-        rule.right_nodes.push(PlainRightNode { origin, label })?;
-    }
-    for &(origin, source, target, n) in right.1 {
-        let label = label(alloc, n)?;
-        rule.right_edges.push(PlainRightEdge {
-            origin,
-            turned: false,
-            source,
-            target,
-            label,
-        })?;
-    }
-    Ok(rule)
-}
-
-fn has_node(graph: &Graph, n: u64) -> bool
-    ensures { IsTrue result ↔ IsSome (node_at graph.now.graph n) }
-{
-    graph.node(n).is_some()
-}
-
-// The first node is a root, and the others are none.
-fn host(
-    rt: &impl Abort,
-    alloc: Global,
-    nodes: &[i128],
-    edges: &[(u64, u64, i128)],
-) -> Result<Graph, NoMemory> {
-    let mut graph = Graph::new(alloc);
-    for &n in nodes {
-        let (first, _) = graph.next_numbers();
-        graph.add_node(label(alloc, n)?, NodeMark::None, first == 0)?;
-    }
-    for &(source, target, n) in edges {
-        assert!(rt; has_node(&graph, source) && has_node(&graph, target));
-        graph.add_edge(source, target, label(alloc, n)?, EdgeMark::None)?;
-    }
-    Ok(graph)
-}
-
-// Calls the rule, and compares the numbers of the match; none is no match.
-fn calls(
-    rt: &impl Abort,
-    alloc: Global,
-    rule: &PlainRule,
-    graph: &mut Graph,
-    found: Option<(&[u64], &[u64])>,
-) -> Result<(), NoMemory> {
-    assert!(rt; is_plain(rule));
-    match (call(alloc, rule, graph)?, found) {
-        (Some(f), Some((nodes, edges))) => {
-            assert!(rt; f.nodes.as_slice() == nodes && f.edges.as_slice() == edges);
-        }
-        (None, None) => {}
-        _ => assert!(rt; false),
+#[test]
+fn rules_make_the_graphs_that_were_worked_out_by_hand(rt: HostRuntime) -> Result<(), Fail> {
+    let alloc = rt.alloc();
+    let rows: [(&str, &str, u8, &str); 9] = [
+        (
+            "Main = make // calls it once\nmake() [ | ] => [ (n0, 0) | ] interface = {}",
+            "[ | ]",
+            0,
+            "[\n  (n0, 0)\n|\n]\n",
+        ),
+        (
+            "Main = pair // calls it once\npair() [ (n0, 1) (n1, 2) | (e0, n0, n1, empty) ] => [ (n0, 1) | ] interface = {n0}",
+            "[ (a, 1) (b, 2) | (x, a, b, empty) ]",
+            0,
+            "[\n  (n0, 1)\n|\n]\n",
+        ),
+        (
+            "Main = pair // calls it once\npair() [ (n0, 1) (n1, 2) | (e0, n0, n1, empty) ] => [ (n0, 1) | ] interface = {n0}",
+            "[ (a, 1) (b, 2) | (x, a, b, empty) (y, b, a, empty) ]",
+            1,
+            "fail\n",
+        ),
+        (
+            "Main = r // calls it once\nr() [ (a, 1) | (e, a, a, 5) ] => [ (a, 2) | ] interface = {a}",
+            "[ (x, 1) (y, 1) | (f, x, y, 5) (g, y, y, 5) ]",
+            0,
+            "[\n  (n0, 1)\n  (n1, 2)\n|\n  (e0, n0, n1, 5)\n]\n",
+        ),
+        (
+            "Main = r // calls it once\nr() [ (a, 1) (b, 2) | (e, a, b, 3) (f, a, b, 3) ] => [ (a, 1) (b, 2) | ] interface = {a, b}",
+            "[ (a, 1) (b, 2) | (x, a, b, 3) ]",
+            1,
+            "fail\n",
+        ),
+        (
+            "Main = r // calls it once\nr() [ (a, 1) (b, 2) | (e, a, b, 3) (f, a, b, 3) ] => [ (a, 1) (b, 2) | ] interface = {a, b}",
+            "[ (a, 1) (b, 2) | (x, a, b, 3) (y, a, b, 3) ]",
+            0,
+            "[\n  (n0, 1)\n  (n1, 2)\n|\n]\n",
+        ),
+        (
+            "Main = r // calls it once\nr() [ (a, 1) (b, 2) | (e, a, b, 3) ] => [ (a, 1) (b, 2) | (e, b, a, 4) ] interface = {a, b}",
+            "[ (a, 1) (b, 2) | (x, a, b, 3) ]",
+            0,
+            "[\n  (n0, 1)\n  (n1, 2)\n|\n  (e0, n1, n0, 4)\n]\n",
+        ),
+        (
+            "Main = r // calls it once\nr() [ (a, 1) (b, 2) | ] => [ (a, 1) (c, 3) (d, -4) | (e, c, d, empty) ] interface = {a}",
+            "[ (x, 2) (y, 1) | ]",
+            0,
+            "[\n  (n1, 1)\n  (n2, 3)\n  (n3, -4)\n|\n  (e0, n2, n3, empty)\n]\n",
+        ),
+        (
+            "Main = r // calls it once\nr() [ (a, 7) (b, 3) | (e, a, b, 9) ] => [ (a, 7) (b, 3) | ] interface = {a, b}",
+            "[ (v0, 0) (v1, 1) (v2, 2) (v3, 3) (v4, 4) (v5, 0) (v6, 1) (v7, 2) (v8, 3) (v9, 4) (v10, 0) (v11, 1) (v12, 2) (v13, 3) (v14, 4) (v15, 0) (v16, 1) (v17, 2) (v18, 3) (v19, 4) (v20, 0) (v21, 1) (v22, 2) (v23, 3) (v24, 4) (v25, 0) (v26, 1) (v27, 2) (v28, 3) (v29, 7) | (e0, v10, v4, 0) (e1, v12, v20, 1) (e2, v1, v2, 2) (e3, v26, v17, 0) (e4, v3, v11, 1) (e5, v18, v1, 2) (e6, v29, v16, 0) (e7, v6, v1, 1) (e8, v2, v13, 2) (e9, v13, v2, 0) (e10, v7, v2, 1) (e11, v17, v13, 2) (e12, v1, v26, 0) (e13, v18, v3, 1) (e14, v7, v20, 2) (e15, v20, v18, 0) (e16, v1, v18, 1) (e17, v18, v12, 2) (e18, v1, v7, 0) (e19, v1, v17, 1) (e20, v27, v4, 2) (e21, v9, v13, 0) (e22, v4, v17, 1) (e23, v3, v18, 2) (e24, v9, v17, 0) (e25, v26, v21, 1) (e26, v5, v3, 2) (e27, v18, v18, 0) (e28, v20, v6, 1) (e29, v11, v3, 2) (e30, v17, v22, 0) (e31, v2, v18, 1) (e32, v1, v19, 2) (e33, v6, v15, 0) (e34, v21, v17, 1) (e35, v13, v24, 2) (e36, v10, v14, 0) (e37, v18, v29, 1) (e38, v14, v11, 2) (e39, v9, v7, 0) (e40, v25, v5, 1) (e41, v29, v3, 9) (e42, v22, v24, 0) (e43, v7, v2, 1) (e44, v18, v9, 2) (e45, v16, v15, 0) (e46, v28, v10, 1) (e47, v23, v14, 2) (e48, v9, v19, 0) (e49, v2, v3, 1) (e50, v16, v13, 2) (e51, v5, v24, 0) (e52, v10, v4, 1) (e53, v29, v15, 2) (e54, v13, v1, 0) (e55, v21, v2, 1) (e56, v24, v17, 2) (e57, v18, v25, 0) (e58, v28, v26, 1) (e59, v10, v10, 2) ]",
+            0,
+            "[\n  (n0, 0)\n  (n1, 1)\n  (n2, 2)\n  (n3, 3)\n  (n4, 4)\n  (n5, 0)\n  (n6, 1)\n  (n7, 2)\n  (n8, 3)\n  (n9, 4)\n  (n10, 0)\n  (n11, 1)\n  (n12, 2)\n  (n13, 3)\n  (n14, 4)\n  (n15, 0)\n  (n16, 1)\n  (n17, 2)\n  (n18, 3)\n  (n19, 4)\n  (n20, 0)\n  (n21, 1)\n  (n22, 2)\n  (n23, 3)\n  (n24, 4)\n  (n25, 0)\n  (n26, 1)\n  (n27, 2)\n  (n28, 3)\n  (n29, 7)\n|\n  (e0, n1, n2, 2)\n  (e1, n1, n7, 0)\n  (e2, n1, n17, 1)\n  (e3, n1, n18, 1)\n  (e4, n1, n19, 2)\n  (e5, n1, n26, 0)\n  (e6, n2, n3, 1)\n  (e7, n2, n13, 2)\n  (e8, n2, n18, 1)\n  (e9, n3, n11, 1)\n  (e10, n3, n18, 2)\n  (e11, n4, n17, 1)\n  (e12, n5, n3, 2)\n  (e13, n5, n24, 0)\n  (e14, n6, n1, 1)\n  (e15, n6, n15, 0)\n  (e16, n7, n2, 1)\n  (e17, n7, n2, 1)\n  (e18, n7, n20, 2)\n  (e19, n9, n7, 0)\n  (e20, n9, n13, 0)\n  (e21, n9, n17, 0)\n  (e22, n9, n19, 0)\n  (e23, n10, n4, 0)\n  (e24, n10, n4, 1)\n  (e25, n10, n10, 2)\n  (e26, n10, n14, 0)\n  (e27, n11, n3, 2)\n  (e28, n12, n20, 1)\n  (e29, n13, n1, 0)\n  (e30, n13, n2, 0)\n  (e31, n13, n24, 2)\n  (e32, n14, n11, 2)\n  (e33, n16, n13, 2)\n  (e34, n16, n15, 0)\n  (e35, n17, n13, 2)\n  (e36, n17, n22, 0)\n  (e37, n18, n1, 2)\n  (e38, n18, n3, 1)\n  (e39, n18, n9, 2)\n  (e40, n18, n12, 2)\n  (e41, n18, n18, 0)\n  (e42, n18, n25, 0)\n  (e43, n18, n29, 1)\n  (e44, n20, n6, 1)\n  (e45, n20, n18, 0)\n  (e46, n21, n2, 1)\n  (e47, n21, n17, 1)\n  (e48, n22, n24, 0)\n  (e49, n23, n14, 2)\n  (e50, n24, n17, 2)\n  (e51, n25, n5, 1)\n  (e52, n26, n17, 0)\n  (e53, n26, n21, 1)\n  (e54, n27, n4, 2)\n  (e55, n28, n10, 1)\n  (e56, n28, n26, 1)\n  (e57, n29, n15, 2)\n  (e58, n29, n16, 0)\n]\n",
+        ),
+    ];
+    for (program, host, status, shown) in rows {
+        let mut files = two_files(alloc, program, host)?;
+        let mut out = sink(alloc, Vec::new(alloc))?;
+        let mut err = sink(alloc, Vec::new(alloc))?;
+        let words = run_words(alloc, 3)?;
+        assert_eq!(rt;
+            gp2_main(&rt, &words, &mut files, &mut out, &mut err),
+            status
+        );
+        assert_eq!(rt; out.bytes(), shown.as_bytes());
+        assert_eq!(rt; err.bytes().len(), 0);
     }
     Ok(())
 }
 
-fn node(graph: &Graph, n: u64) -> Option<(Option<i128>, bool)> {
-    let (list, _, root) = graph.node(n)?;
-    Some((integer_in(list), root))
-}
-
-fn edge(graph: &Graph, e: u64) -> Option<(u64, u64, Option<i128>)> {
-    let (source, target, list, _) = graph.edge(e)?;
-    Some((source, target, integer_in(list)))
-}
-
 #[test]
-fn a_left_loop_wants_a_loop(rt: HostRuntime) -> Result<(), Fail> {
+fn texts_past_the_language_are_refused(rt: HostRuntime) -> Result<(), Fail> {
     let alloc = rt.alloc();
-    let rule = rule_of(alloc, (&[(true, 1)], &[(0, 0, 5)]), (&[(Some(0), 2)], &[]))?;
-    let mut graph = host(&rt, alloc, &[1, 1], &[(0, 1, 5), (1, 1, 5)])?;
-    calls(&rt, alloc, &rule, &mut graph, Some((&[1], &[1])))?;
-    assert_eq!(rt; node(&graph, 0), Some((Some(1), true)));
-    assert_eq!(rt; node(&graph, 1), Some((Some(2), false)));
-    assert_eq!(rt; edge(&graph, 0), Some((0, 1, Some(5))));
-    assert_eq!(rt; edge(&graph, 1), None);
-    Ok(())
-}
-
-#[test]
-fn two_left_edges_want_two_edges(rt: HostRuntime) -> Result<(), Fail> {
-    let alloc = rt.alloc();
-    let left: LeftSide = (&[(true, 1), (true, 1)], &[(0, 1, 5), (0, 1, 5)]);
-    let rule = rule_of(alloc, left, (&[(Some(0), 1), (Some(1), 1)], &[]))?;
-    let mut one = host(&rt, alloc, &[1, 1], &[(0, 1, 5)])?;
-    calls(&rt, alloc, &rule, &mut one, None)?;
-    assert_eq!(rt; edge(&one, 0), Some((0, 1, Some(5))));
-    let mut two = host(&rt, alloc, &[1, 1], &[(0, 1, 5), (0, 1, 5)])?;
-    calls(&rt, alloc, &rule, &mut two, Some((&[0, 1], &[0, 1])))?;
-    assert_eq!(rt; (edge(&two, 0), edge(&two, 1)), (None, None));
-    assert_eq!(rt; two.next_numbers(), (2, 2));
-    Ok(())
-}
-
-#[test]
-fn an_edge_is_made_again_under_a_new_number(rt: HostRuntime) -> Result<(), Fail> {
-    let alloc = rt.alloc();
-    let left: LeftSide = (&[(true, 1), (true, 2)], &[(0, 1, 5)]);
-    let right: RightSide = (&[(Some(0), 1), (Some(1), 2)], &[(Some(0), 0, 1, 6)]);
-    let rule = rule_of(alloc, left, right)?;
-    let mut graph = host(&rt, alloc, &[1, 2], &[(0, 1, 5)])?;
-    calls(&rt, alloc, &rule, &mut graph, Some((&[0, 1], &[0])))?;
-    assert_eq!(rt; node(&graph, 0), Some((Some(1), true)));
-    assert_eq!(rt; edge(&graph, 0), None);
-    assert_eq!(rt; edge(&graph, 1), Some((0, 1, Some(6))));
-    assert_eq!(rt; graph.next_numbers(), (2, 2));
-    Ok(())
-}
-
-#[test]
-fn a_deleted_node_leaves_its_number(rt: HostRuntime) -> Result<(), Fail> {
-    let alloc = rt.alloc();
-    let rule = rule_of(
-        alloc,
-        (&[(false, 1)], &[]),
-        (&[(None, 2), (None, 3)], &[(None, 1, 0, 4)]),
-    )?;
-    let mut graph = host(&rt, alloc, &[9, 1], &[])?;
-    calls(&rt, alloc, &rule, &mut graph, Some((&[1], &[])))?;
-    assert_eq!(rt; node(&graph, 0), Some((Some(9), true)));
-    assert_eq!(rt; node(&graph, 1), None);
-    assert_eq!(rt; node(&graph, 2), Some((Some(2), false)));
-    assert_eq!(rt; node(&graph, 3), Some((Some(3), false)));
-    assert_eq!(rt; edge(&graph, 0), Some((3, 2, Some(4))));
-    assert_eq!(rt; graph.next_numbers(), (4, 1));
-    Ok(())
-}
-
-#[test]
-fn a_node_with_another_edge_is_not_deleted(rt: HostRuntime) -> Result<(), Fail> {
-    let alloc = rt.alloc();
-    let rule = rule_of(alloc, (&[(false, 1)], &[]), (&[], &[]))?;
-    let mut graph = host(&rt, alloc, &[1, 1, 7], &[(2, 0, 5)])?;
-    calls(&rt, alloc, &rule, &mut graph, Some((&[1], &[])))?;
-    calls(&rt, alloc, &rule, &mut graph, None)?;
-    assert_eq!(rt; node(&graph, 0), Some((Some(1), true)));
-    assert_eq!(rt; node(&graph, 1), None);
-    Ok(())
-}
-
-// Nodes 0 to 29 in a ring, twice round; the label of the last edge, from 29 to 0, stands once.
-#[test]
-fn the_last_of_sixty_edges_is_found(rt: HostRuntime) -> Result<(), Fail> {
-    let alloc = rt.alloc();
-    let left: LeftSide = (&[(true, 1), (true, 1)], &[(0, 1, 6)]);
-    let right: RightSide = (&[(Some(0), 1), (Some(1), 1)], &[(Some(0), 0, 1, 7)]);
-    let rule = rule_of(alloc, left, right)?;
-    let mut edges = Vec::new(alloc);
-    for e in 0..60u64 {
-        edges.push((e % 30, (e + 1) % 30, if e == 59 { 6 } else { 5 }))?;
+    let rows: [(&str, &str, u8, &str); 7] = [
+        ("Main = skip", "[ | ]", 3, "program: NotYet\n"),
+        (
+            "Main = make make() [ | ] => [ (n0, 0) | ] interface = {} x",
+            "[ | ]",
+            3,
+            "program: NotYet\n",
+        ),
+        (
+            "Main = make made() [ | ] => [ (n0, 0) | ] interface = {}",
+            "[ | ]",
+            3,
+            "program: NotYet\n",
+        ),
+        (
+            "Main = make make() [ | ] => [ (n0, 0) (n0, 1) | ] interface = {}",
+            "[ | ]",
+            3,
+            "program: NotYet\n",
+        ),
+        (
+            "Main = make make() [ | ] => [ (n0, 0) | ] interface = {n0}",
+            "[ | ]",
+            3,
+            "program: NotYet\n",
+        ),
+        (
+            "Main = make make() [ | ] => [ (n0, 0) | ] interface = {}",
+            "[ (a, \"x\") | ]",
+            4,
+            "host: NotYet\n",
+        ),
+        (
+            "Main = make make() [ | ] => [ (n0, 0) | ] interface = {}",
+            "[ (a, 1) (a, 2) | ]",
+            4,
+            "host: NotYet\n",
+        ),
+    ];
+    for (program, host, status, shown) in rows {
+        let mut files = two_files(alloc, program, host)?;
+        let mut out = sink(alloc, Vec::new(alloc))?;
+        let mut err = sink(alloc, Vec::new(alloc))?;
+        let words = run_words(alloc, 3)?;
+        assert_eq!(rt;
+            gp2_main(&rt, &words, &mut files, &mut out, &mut err),
+            status
+        );
+        assert_eq!(rt; out.bytes().len(), 0);
+        assert_eq!(rt; err.bytes(), shown.as_bytes());
     }
-    let mut graph = host(&rt, alloc, &[1; 30], &edges)?;
-    calls(&rt, alloc, &rule, &mut graph, Some((&[29, 0], &[59])))?;
-    assert_eq!(rt; edge(&graph, 59), None);
-    assert_eq!(rt; edge(&graph, 60), Some((29, 0, Some(7))));
-    calls(&rt, alloc, &rule, &mut graph, None)?;
+    Ok(())
+}
+
+#[test]
+fn refused_words_and_failing_devices_have_a_status_each(rt: HostRuntime) -> Result<(), Fail> {
+    let alloc = rt.alloc();
+    let program = "Main = make make() [ | ] => [ (n0, 0) | ] interface = {}";
+    for count in 0..3 {
+        let mut files = two_files(alloc, program, "[ | ]")?;
+        let mut out = sink(alloc, Vec::new(alloc))?;
+        let mut err = sink(alloc, Vec::new(alloc))?;
+        let words = run_words(alloc, count)?;
+        assert_eq!(rt; gp2_main(&rt, &words, &mut files, &mut out, &mut err), 2);
+        assert_eq!(rt; err.bytes(), b"usage: gp2 run PROGRAM HOST\n".as_slice());
+    }
+    let mut missing = MemFiles::new(Vec::new(alloc), Vec::new(alloc));
+    let mut out = sink(alloc, Vec::new(alloc))?;
+    let mut err = sink(alloc, Vec::new(alloc))?;
+    let words = run_words(alloc, 3)?;
+    assert_eq!(rt; gp2_main(&rt, &words, &mut missing, &mut out, &mut err), 8);
+    assert_eq!(rt; err.bytes(), b"read: p\n".as_slice());
+
+    let mut files = two_files(alloc, program, "[ | ]")?;
+    let mut out = sink(alloc, vec![in alloc; (0, 5)]?)?;
+    let mut err = sink(alloc, Vec::new(alloc))?;
+    assert_eq!(rt; gp2_main(&rt, &words, &mut files, &mut out, &mut err), 9);
+    assert_eq!(rt; out.bytes(), b"[\n  (".as_slice());
+    assert_eq!(rt; err.bytes().len(), 0);
     Ok(())
 }
