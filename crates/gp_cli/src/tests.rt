@@ -61,18 +61,42 @@ fn is_origin(right: &[PlainRightNode], i: usize) -> bool
     false
 }
 
-// Whether right nodes come from places of left nodes, and no two from the same.
-fn has_origins(rule: &PlainRule) -> bool
-    ensures within { IsTrue result → (j i : ℕ) (q : PlainRightNode) → slice_get rule.now.right_nodes.items j ≡ Some q → q.origin ≡ Some i → i < length rule.now.left_nodes.items }
-    ensures apart { IsTrue result → (j k i : ℕ) (p q : PlainRightNode) → slice_get rule.now.right_nodes.items j ≡ Some p → slice_get rule.now.right_nodes.items k ≡ Some q
-        → p.origin ≡ Some i → q.origin ≡ Some i → k < j → ⊥ }
+fn comes_from_below(q: &PlainRightNode, n: usize) -> bool
+    ensures { IsTrue result → (i : ℕ) → q.now.origin ≡ Some i → i < n }
+{
+    match q.origin {
+        Some(i) => i < n,
+        None => true,
+    }
+}
+
+fn has_left_origins(rule: &PlainRule) -> bool
+    ensures { IsTrue result → (j i : ℕ) (q : PlainRightNode) → slice_get rule.now.right_nodes.items j ≡ Some q → q.origin ≡ Some i → i < length rule.now.left_nodes.items }
 {
     let n = rule.left_nodes.len();
-    for j in 0..rule.right_nodes.len() {
-        if let Some(i) = rule.right_nodes[j].origin {
-            if i >= n || is_origin(&rule.right_nodes[..j], i) {
-                return false;
-            }
+    for q in &rule.right_nodes {
+        if !comes_from_below(q, n) {
+            return false;
+        }
+    }
+    true
+}
+
+fn comes_from_another(q: &PlainRightNode, before: &[PlainRightNode]) -> bool
+    ensures { result ≡ true → (k i : ℕ) (p : PlainRightNode) → slice_get before.now k ≡ Some p → q.now.origin ≡ Some i → p.origin ≡ Some i → ⊥ }
+{
+    match q.origin {
+        Some(i) => !is_origin(before, i),
+        None => true,
+    }
+}
+
+fn origins_differ(right: &[PlainRightNode]) -> bool
+    ensures { IsTrue result → (j k i : ℕ) (q p : PlainRightNode) → k < j → slice_get right.now j ≡ Some q → slice_get right.now k ≡ Some p → q.origin ≡ Some i → p.origin ≡ Some i → ⊥ }
+{
+    for j in 0..right.len() {
+        if !comes_from_another(&right[j], &right[..j]) {
+            return false;
         }
     }
     true
@@ -93,7 +117,11 @@ fn keeps_origins(rule: &PlainRule) -> bool
 fn is_plain(rule: &PlainRule) -> bool
     ensures { IsTrue result → IsPlain rule.now }
 {
-    has_left_ends(rule) && has_right_ends(rule) && has_origins(rule) && keeps_origins(rule)
+    has_left_ends(rule)
+        && has_right_ends(rule)
+        && has_left_origins(rule)
+        && origins_differ(&rule.right_nodes)
+        && keeps_origins(rule)
 }
 
 fn label(alloc: Global, n: i128) -> Result<List, NoMemory> {
