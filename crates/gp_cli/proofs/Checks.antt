@@ -7,8 +7,7 @@ use Rattle.gp_syntax.specs.declared.plain.PlainRule.{PlainRule}
 use Rattle.gp_syntax.specs.declared.plain.PlainLeftNode.{PlainLeftNode}
 use Rattle.gp_syntax.specs.declared.plain.PlainRightNode.{PlainRightNode}
 use Rattle.gp_syntax.specs.Rule.{RightNode, IsKept}
-use Rattle.gp_syntax.specs.Plain.{right_node_of, plain_rule, IsPlain}
-use Rattle.gp_cli.specs.PlainMatch.{HasEnds}
+use Rattle.gp_syntax.specs.Plain.{right_node_of, plain_rule}
 use Rattle.gp_cli.proofs.Constants.{some_map, some_from_map}
 
 -- a left node more is kept exactly where some right node comes from it
