@@ -4,3 +4,4 @@ pub mod Making
 pub mod Steps
 pub mod Replies
 pub mod Completeness
+pub mod Outcomes
