@@ -106,7 +106,7 @@ fit_side d l s n e u =
 pub accepted : (p : ProgramDrawing) → is_accepted p ≡ true → IsAccepted p
 accepted p h =
     let r = p.rule in
-    let m = both (pointwise nat_eq p.main (codes "Main")) (pointwise nat_eq p.call r.name && is_fit_rule r) h in
+    let m = both (pointwise nat_eq p.name (codes "Main")) (pointwise nat_eq p.call r.name && is_fit_rule r) h in
     let a = both (pointwise nat_eq p.call r.name) (is_fit_rule r) m.1 in
     let b = both (is_fit r.left) (is_fit r.right && has_interface r) a.1 in
     let c = both (is_fit r.right) (has_interface r) b.1 in
@@ -115,7 +115,7 @@ accepted p h =
     let x = one_side r.left b.0 in
     let y = one_side r.right c.0 in
     record {
-      main = (bytes_decides p.main (codes "Main")).0 m.0;
+      name = (bytes_decides p.name (codes "Main")).0 m.0;
       called = (bytes_decides p.call r.name).0 a.0;
       left_labels = x.0;
       right_labels = y.0;
@@ -132,7 +132,7 @@ pub accepts : (p : ProgramDrawing) → IsAccepted p → is_accepted p ≡ true
 accepts p a =
     let r = p.rule in
     let w = a.well_named in
-    together (pointwise nat_eq p.main (codes "Main")) _ ((bytes_decides p.main (codes "Main")).1 a.main)
+    together (pointwise nat_eq p.name (codes "Main")) _ ((bytes_decides p.name (codes "Main")).1 a.name)
     (together (pointwise nat_eq p.call r.name) _ ((bytes_decides p.call r.name).1 a.called)
     (together (is_fit r.left) _ (fit_side r.left a.left_labels w.left_small w.once.left_nodes w.once.left_edges w.nodes.left_ends)
     (together (is_fit r.right) _ (fit_side r.right a.right_labels w.right_small w.once.right_nodes w.once.right_edges w.nodes.right_ends)

@@ -9,11 +9,12 @@ use Rattle.gp_grammar.specs.Shape.{Is, Made, Absent, absent, Separated}
 use Rattle.gp_grammar.specs.Reading.{token, begins}
 use Rattle.gp_grammar.specs.Laws.{Sound, Again, Anything, Comes, No}
 use Rattle.gp_grammar.specs.Graph.{comma}
-use Rattle.gp_grammar.proofs.Shapes.{token_sound, and_sound, made_sound, at_sound, absent_sound, separated_sound, token_again, and_again, made_again, at_again, absent_again, separated_again, token_begins, then_again, then_begins, token_shrinks, shrinks_keeps, weaker, made_begins}
+use Rattle.gp_syntax.specs.declared.plain.PlainMain.TheVariants as mains
+use Rattle.gp_grammar.proofs.Shapes.{begins_never, before_less, absent_never, token_sound, and_sound, made_sound, at_sound, absent_sound, separated_sound, token_again, and_again, made_again, at_again, absent_again, separated_again, token_begins, then_again, then_begins, token_shrinks, shrinks_keeps, weaker, made_begins}
 use Rattle.gp_grammar.proofs.Wants.{excluded}
 use Rattle.gp_grammar.proofs.GraphLaws.{drawing_sound, drawing_again}
-use Rattle.gp_parse.specs.Grammar.{close_brace, texts, IsInterface, IsRuleDrawing, IsProgramDrawing}
-use Rattle.gp_parse.specs.Reading.{items, interface, rule, program}
+use Rattle.gp_parse.specs.Grammar.{close_brace, exclamation, texts, IsInterface, RuleDrawing, IsRuleDrawing, IsMain, IsProgramDrawing}
+use Rattle.gp_parse.specs.Reading.{items, interface, rule, main, program}
 
 -- ---- what is read is a program
 
@@ -26,9 +27,13 @@ unfolding rule
 rule_sound = made_sound _ _ _ (and_sound _ _ _ _ (token_sound _) (and_sound _ _ _ _ (token_sound _) (and_sound _ _ _ _ (token_sound _) (and_sound _ _ _ _ drawing_sound (and_sound _ _ _ _ (token_sound _) (and_sound _ _ _ _ drawing_sound
     (and_sound _ _ _ _ (token_sound _) (and_sound _ _ _ _ (token_sound _) (and_sound _ _ _ _ (token_sound _) (and_sound _ _ _ _ interface_sound (token_sound _)))))))))))
 
+main_sound : Sound main IsMain
+unfolding main
+main_sound = at_sound exclamation _ _ _ _ (made_sound _ _ _ (token_sound exclamation)) (absent_sound mains.Call)
+
 pub program_sound : Sound program IsProgramDrawing
 unfolding program
-program_sound = made_sound _ _ _ (and_sound _ _ _ _ (token_sound _) (and_sound _ _ _ _ (token_sound _) (and_sound _ _ _ _ (token_sound _) rule_sound)))
+program_sound = made_sound _ _ _ (and_sound _ _ _ _ (token_sound _) (and_sound _ _ _ _ (token_sound _) (and_sound _ _ _ _ (token_sound _) (and_sound _ _ _ _ main_sound rule_sound))))
 
 -- ---- what is a program is read
 
@@ -72,6 +77,18 @@ rule_again = made_again _ _ _ Anything (then_again _ _ _ _ Anything (token_again
     (then_again _ _ _ _ Anything (token_again _) (then_again _ _ _ _ Anything drawing_again (then_again _ _ _ _ Anything (token_again _) (then_again _ _ _ _ Anything (token_again _) (then_again _ _ _ _ Anything (token_again _)
     (and_again _ _ _ _ Closes Anything interface_again (token_again close_brace) (λ mid rest y h e. token_begins close_brace mid rest y h)))))))))))
 
+-- a rule's declaration begins with its name, which is no sign of a loop
+no_loop : (ts rest : List Token) (r : RuleDrawing) → IsRuleDrawing ts rest r → No exclamation ts
+unfolding excludes meets same_kind
+no_loop ts rest r h = begins_never wants.RuleName exclamation IsRuleDrawing Anything refl (made_begins wants.RuleName _ _ (then_begins wants.RuleName _ _ (token_begins wants.RuleName))) ts rest r h tt
+
+main_again : Again main IsMain (No exclamation)
+unfolding main
+main_again = at_again exclamation _ _ _ _ (No exclamation)
+    (made_again _ _ _ _ (before_less _ _ _ (token_again exclamation))) (absent_again mains.Call _)
+    (made_begins exclamation _ _ (token_begins exclamation)) (absent_never exclamation mains.Call)
+
 pub program_again : Again program IsProgramDrawing Anything
 unfolding program
-program_again = made_again _ _ _ Anything (then_again _ _ _ _ Anything (token_again _) (then_again _ _ _ _ Anything (token_again _) (then_again _ _ _ _ Anything (token_again _) rule_again)))
+program_again = made_again _ _ _ Anything (then_again _ _ _ _ Anything (token_again _) (then_again _ _ _ _ Anything (token_again _) (then_again _ _ _ _ Anything (token_again _)
+    (and_again _ _ _ _ (No exclamation) Anything main_again rule_again (λ mid rest y h e. no_loop mid rest y h)))))

@@ -12,14 +12,14 @@ use Rattle.gp_syntax.specs.Rule.{Rule, RightNode, IsKept}
 use Rattle.gp_syntax.specs.Run.{Program}
 use Rattle.gp_syntax.specs.Laws.{FitsDeclaration}
 use Rattle.gp_syntax.specs.Declaration.{Declaration}
-use Rattle.gp_syntax.specs.Plain.{left_edge_of, right_node_of, right_edge_of, plain_rule, IsPlain}
+use Rattle.gp_syntax.specs.Plain.{left_edge_of, right_node_of, right_edge_of, plain_rule, IsPlain, of_one_rule}
 use Rattle.gp_syntax.proofs.Declarations.{from_map, fits_declaration}
 use Rattle.gp_parse.specs.declared.program.ProgramRefusal.{ProgramRefusal}
 use Rattle.gp_parse.specs.declared.program.ProgramRefusal.TheVariants as refusals
 use Rattle.gp_parse.specs.Grammar.{ProgramDrawing, IsProgramDrawing}
 use Rattle.gp_parse.specs.Reading.{program}
 use Rattle.gp_parse.specs.Keeps.{HasOrigin, KeepsOrigins}
-use Rattle.gp_parse.specs.Program.{declaration_of, calls_once, IsProgramText, IsReadRule, IsDrawnBy, IsBuilt, ReadsProgram, ReadsDrawing}
+use Rattle.gp_parse.specs.Program.{declaration_of, IsProgramText, IsReadProgram, IsDrawnBy, IsBuilt, ReadsProgram, ReadsDrawing}
 use Rattle.gp_parse.specs.Accepted.{is_accepted}
 use Rattle.gp_parse.proofs.Laws.{program_sound, program_again}
 use Rattle.gp_parse.proofs.Accepts.{accepted, accepts}
@@ -107,11 +107,11 @@ plain_fits r d f k = record {
   kept = λ i p s. (λ h. has_origin r i ((k.kept i p s).0 h), λ h. (k.kept i p s).1 (is_origin r i h));
 }
 
-pub read_rule : (bytes : List ℕ) (d : ProgramDrawing) (r : PlainRule) → IsDrawnBy bytes d → is_accepted d ≡ true → IsBuilt d.rule r → IsReadRule bytes r
-read_rule bytes d r h a b =
+pub read_program : (bytes : List ℕ) (d : ProgramDrawing) (r : PlainRule) → IsDrawnBy bytes d → is_accepted d ≡ true → IsBuilt d.rule r → IsReadProgram bytes (record { main = d.main; rule = r })
+read_program bytes d r h a b =
     let w = accepted d a in
     record {
-      text = record { tokens = h.tokens; drawing = d; lexed = h.lexed; shape = h.shape; accepted = w; program_is = ap calls_once b.rule };
+      text = record { tokens = h.tokens; drawing = d; lexed = h.lexed; shape = h.shape; accepted = w; program_is = ap (of_one_rule d.main) b.rule };
       plain = plain_fits r (declaration_of d.rule) (subst (λ (x : Rule). FitsDeclaration (declaration_of d.rule) x) (sym b.rule) (fits_declaration (declaration_of d.rule) w.well_named)) b.kept;
     }
 

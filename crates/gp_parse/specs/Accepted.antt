@@ -27,4 +27,4 @@ abbrev pub is_fit_rule : RuleDrawing → Bool
 is_fit_rule r = is_fit r.left && (is_fit r.right && has_interface r)
 
 abbrev pub is_accepted : ProgramDrawing → Bool
-is_accepted p = pointwise nat_eq p.main (codes "Main") && (pointwise nat_eq p.call p.rule.name && is_fit_rule p.rule)
+is_accepted p = pointwise nat_eq p.name (codes "Main") && (pointwise nat_eq p.call p.rule.name && is_fit_rule p.rule)

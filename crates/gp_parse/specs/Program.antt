@@ -1,5 +1,5 @@
 -- The program texts that are accepted today, and the programs that they are.
-use Rattle.std.specs.Prelude.{◌≡◌, ℕ, ℤ, true, false, List, [], ◌∷◌, map, codes, Option, Some, None, Result, Ok, Err}
+use Rattle.std.specs.Prelude.{◌≡◌, ℕ, ℤ, true, false, List, [], map, codes, Option, Some, None, Result, Ok, Err}
 use Rattle.gp_values.specs.Names.{Name}
 use Rattle.gp_tokens.specs.declared.token.Token.{Token}
 use Rattle.gp_tokens.specs.Lexed.{tokens_of}
@@ -9,11 +9,11 @@ use Rattle.gp_grammar.specs.declared.graph.EdgeTree.{EdgeTree}
 use Rattle.gp_grammar.specs.Graph.{Drawing}
 use Rattle.gp_grammar.specs.Labels.{integer_of, has_labels}
 use Rattle.gp_syntax.specs.declared.plain.PlainRule.{PlainRule}
+use Rattle.gp_syntax.specs.declared.plain.PlainProgram.{PlainProgram}
 use Rattle.gp_syntax.specs.Expression.{Expression, Number, Empty, Holds}
 use Rattle.gp_syntax.specs.Declaration.{Declaration, DeclaredNode, DeclaredEdge, Side, IsWellNamed, rule_of}
-use Rattle.gp_syntax.specs.Rule.{Rule}
-use Rattle.gp_syntax.specs.Run.{Program, Call}
-use Rattle.gp_syntax.specs.Plain.{plain_rule, IsPlain}
+use Rattle.gp_syntax.specs.Run.{Program}
+use Rattle.gp_syntax.specs.Plain.{plain_rule, IsPlain, of_one_rule, plain_program}
 use Rattle.gp_parse.specs.declared.program.ProgramRefusal.{ProgramRefusal}
 use Rattle.gp_parse.specs.declared.program.ProgramRefusal.TheVariants as refusals
 use Rattle.gp_values.specs.declared.memory.NoMemory.{NoMemory}
@@ -46,13 +46,9 @@ declaration_of r = record { name = r.name; variables = []; left = side_of r.left
 
 -- ---- programs
 
--- the program whose Main calls the one rule
-abbrev pub calls_once : Rule → Program
-calls_once r = record { main = Call 0; procedures = []; sets = (0 ∷ []) ∷ []; rules = r ∷ [] }
-
 -- it is Main that calls, and calls the rule that is declared; labels are in range, and the static clauses of names and sizes hold
 pub record IsAccepted (p : ProgramDrawing) : Type 0 where
-  pub main : p.main ≡ codes "Main"
+  pub name : p.name ≡ codes "Main"
   pub called : p.call ≡ p.rule.name
   pub left_labels : has_labels p.rule.left ≡ true
   pub right_labels : has_labels p.rule.right ≡ true
@@ -65,15 +61,15 @@ pub record IsProgramText (bytes : List ℕ) (program : Program) : Type 0 where
   pub lexed : tokens_of bytes ≡ Ok tokens
   pub shape : IsProgramDrawing tokens [] drawing
   pub accepted : IsAccepted drawing
-  pub program_is : program ≡ calls_once (rule_of (declaration_of drawing.rule))
+  pub program_is : program ≡ of_one_rule drawing.main (rule_of (declaration_of drawing.rule))
 
--- the text is the program that calls the rule that was read
-pub record IsReadRule (bytes : List ℕ) (r : PlainRule) : Type 0 where
-  pub text : IsProgramText bytes (calls_once (plain_rule r))
-  pub plain : IsPlain r
+-- the text is the program that was read
+pub record IsReadProgram (bytes : List ℕ) (p : PlainProgram) : Type 0 where
+  pub text : IsProgramText bytes (plain_program p)
+  pub plain : IsPlain p.rule
 
-abbrev pub ReadsProgram : List ℕ → Result PlainRule ProgramRefusal → Type 0
-ReadsProgram bytes (Ok r) = IsReadRule bytes r
+abbrev pub ReadsProgram : List ℕ → Result PlainProgram ProgramRefusal → Type 0
+ReadsProgram bytes (Ok p) = IsReadProgram bytes p
 ReadsProgram bytes (Err refusals.NotYet) = (p : Program) → IsProgramText bytes p → ⊥
 ReadsProgram bytes (Err refusals.NoMemory) = Unit {0}
 

@@ -9,7 +9,9 @@ use Rattle.gp_grammar.specs.Reading.{Reader, token, ◌and◌, made, at, absent,
 use Rattle.gp_grammar.specs.Shape.{second_of}
 use Rattle.gp_grammar.specs.Graph.{comma}
 use Rattle.gp_grammar.specs.GraphReading.{drawing}
-use Rattle.gp_parse.specs.Grammar.{open_brace, close_brace, equal, texts, RuleDrawing, rule_drawing, ProgramDrawing, program_drawing}
+use Rattle.gp_syntax.specs.declared.plain.PlainMain.{PlainMain}
+use Rattle.gp_syntax.specs.declared.plain.PlainMain.TheVariants as mains
+use Rattle.gp_parse.specs.Grammar.{open_brace, close_brace, equal, exclamation, texts, RuleDrawing, rule_drawing, ProgramDrawing, program_drawing}
 
 -- a comma and an item
 unfoldable pub next_item : Reader Token
@@ -28,5 +30,8 @@ unfoldable pub rule : Reader RuleDrawing
 rule = made rule_drawing (token wants.RuleName and token (wants.Kind kinds.OpenParenthesis) and token (wants.Kind kinds.CloseParenthesis) and drawing
     and token (wants.Kind kinds.Arrow) and drawing and token (wants.Keyword keywords.Interface) and token equal and token open_brace and interface and token close_brace)
 
+unfoldable pub main : Reader PlainMain
+main = at exclamation (made (λ _. mains.Loop) (token exclamation)) (absent mains.Call)
+
 unfoldable pub program : Reader ProgramDrawing
-program = made program_drawing (token wants.ProcedureName and token equal and token wants.RuleName and rule)
+program = made program_drawing (token wants.ProcedureName and token equal and token wants.RuleName and main and rule)

@@ -12,4 +12,4 @@ abbrev pub rule_seen : RuleTree → RuleDrawing
 rule_seen r = record { name = r.name; left = graph_seen r.left; right = graph_seen r.right; interface = r.interface.items }
 
 abbrev pub program_seen : ProgramTree → ProgramDrawing
-program_seen p = record { main = p.main; call = p.call; rule = rule_seen p.rule }
+program_seen p = record { name = p.name; call = p.call; main = p.main; rule = rule_seen p.rule }

@@ -108,7 +108,7 @@ fn is_fit_rule(rule: &RuleTree) -> bool
 pub(crate) fn is_accepted(tree: &ProgramTree) -> bool
     ensures { result ≡ spec.is_accepted (program_seen tree.now) }
 {
-    tree.main.as_bytes() == b"Main".as_slice()
+    tree.name.as_bytes() == b"Main".as_slice()
         && tree.call.as_bytes() == tree.rule.name.as_bytes()
         && is_fit_rule(&tree.rule)
 }

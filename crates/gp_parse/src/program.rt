@@ -9,7 +9,7 @@ use crate::accept::is_accepted;
 use crate::build::{left_edges, left_nodes, right_edges, right_nodes};
 use crate::reading::{ProgramTree, RuleTree, read_tree};
 use gp_grammar::ReadError;
-use gp_syntax::PlainRule;
+use gp_syntax::{PlainProgram, PlainRule};
 use gp_tokens::{LexFault, lex};
 use gp_values::NoMemory;
 use std::alloc::Global;
@@ -56,8 +56,8 @@ fn build(alloc: Global, rule: &RuleTree) -> Result<PlainRule, NoMemory>
     })
 }
 
-/// The rule of a program that calls one rule once.
-pub fn read_program(alloc: Global, text: &[u8]) -> Result<PlainRule, ProgramRefusal>
+/// The program of a text whose Main calls one rule, once or in a loop.
+pub fn read_program(alloc: Global, text: &[u8]) -> Result<PlainProgram, ProgramRefusal>
     ensures { ReadsProgram text.now result }
 {
     let tree = read_drawing(alloc, text)?;
@@ -65,7 +65,10 @@ pub fn read_program(alloc: Global, text: &[u8]) -> Result<PlainRule, ProgramRefu
         return Err(ProgramRefusal::NotYet);
     }
     match build(alloc, &tree.rule) {
-        Ok(rule) => Ok(rule),
+        Ok(rule) => Ok(PlainProgram {
+            main: tree.main,
+            rule,
+        }),
         Err(NoMemory) => Err(ProgramRefusal::NoMemory),
     }
 }

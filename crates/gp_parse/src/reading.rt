@@ -6,10 +6,13 @@ ghost use Rattle.gp_parse.specs.Reading as spec;
 ghost use Rattle.gp_parse.specs.Seen.{rule_seen, program_seen};
 
 use gp_grammar::{GraphTree, ReadError, Want, begins, read_graph, token};
+use gp_syntax::PlainMain;
 use gp_tokens::{Keyword, Kind, Text, Token};
 use std::alloc::Global;
 
 const COMMA: Want = Want::Kind(Kind::Comma);
+
+const EXCLAMATION: Want = Want::Kind(Kind::Exclamation);
 
 /// A rule as it is drawn, with the names of its interface.
 #[derive(Drop)]
@@ -20,11 +23,12 @@ pub(crate) struct RuleTree {
     pub interface: Vec<Text>,
 }
 
-/// The name that is declared to call a rule, the name that it calls, and the rule.
+/// The name that is declared to call a rule, the name that it calls, whether in a loop, and the rule.
 #[derive(Drop)]
 pub(crate) struct ProgramTree {
-    pub main: Text,
+    pub name: Text,
     pub call: Text,
+    pub main: PlainMain,
     pub rule: RuleTree,
 }
 
@@ -92,6 +96,18 @@ fn read_rule(alloc: Global, tokens: &[Token]) -> Result<(RuleTree, &[Token]), Re
     ))
 }
 
+// A loop where a sign of one comes next.
+#[tactic(auto, unfolding(crate::specs::Reading::main))]
+fn read_main(tokens: &[Token]) -> Result<(PlainMain, &[Token]), ReadError>
+    ensures { Gives (λ x. (x.0, x.1.now)) result (spec.main tokens.now) }
+{
+    if begins(tokens, EXCLAMATION) {
+        let (_, rest) = token(tokens, EXCLAMATION)?;
+        return Ok((PlainMain::Loop, rest));
+    }
+    Ok((PlainMain::Call, tokens))
+}
+
 /// The program at the front of the tokens, and the tokens behind it.
 #[tactic(auto, unfolding(crate::specs::Reading::program))]
 pub(crate) fn read_tree(
@@ -100,11 +116,20 @@ pub(crate) fn read_tree(
 ) -> Result<(ProgramTree, &[Token]), ReadError>
     ensures gives { Gives (λ x. (program_seen x.0, x.1.now)) result (spec.program tokens.now) }
 {
-    let (main, rest) = token(tokens, Want::ProcedureName)?;
+    let (name, rest) = token(tokens, Want::ProcedureName)?;
     let (_, rest) = token(rest, Want::Kind(Kind::Equal))?;
     let (call, rest) = token(rest, Want::RuleName)?;
+    let (main, rest) = read_main(rest)?;
     let (rule, rest) = read_rule(alloc, rest)?;
-    let main = main.text.copy(alloc)?;
+    let name = name.text.copy(alloc)?;
     let call = call.text.copy(alloc)?;
-    Ok((ProgramTree { main, call, rule }, rest))
+    Ok((
+        ProgramTree {
+            name,
+            call,
+            main,
+            rule,
+        },
+        rest,
+    ))
 }

@@ -1,5 +1,5 @@
--- The rule that a rule with constant labels stands for.
-use Rattle.std.specs.Prelude.{◌≡◌, ◌↔◌, ℕ, ◌<◌, Bool, true, false, List, [], ◌∷◌, map, length, slice_get, IfSome, Some}
+-- The rule that a rule with constant labels stands for, and the program of one such rule.
+use Rattle.std.specs.Prelude.{◌≡◌, ◌↔◌, ℕ, ◌<◌, true, false, List, [], ◌∷◌, map, length, slice_get, Some}
 use Rattle.gp_values.specs.declared.atom.Atom.{Atom}
 use Rattle.gp_values.specs.declared.atom.Atom.TheVariants.{Int, Str}
 use Rattle.gp_values.specs.declared.marks.NodeMark.TheVariants as node_marks
@@ -9,8 +9,12 @@ use Rattle.gp_syntax.specs.declared.plain.PlainLeftEdge.{PlainLeftEdge}
 use Rattle.gp_syntax.specs.declared.plain.PlainRightNode.{PlainRightNode}
 use Rattle.gp_syntax.specs.declared.plain.PlainRightEdge.{PlainRightEdge}
 use Rattle.gp_syntax.specs.declared.plain.PlainRule.{PlainRule}
+use Rattle.gp_syntax.specs.declared.plain.PlainMain.{PlainMain}
+use Rattle.gp_syntax.specs.declared.plain.PlainMain.TheVariants as mains
+use Rattle.gp_syntax.specs.declared.plain.PlainProgram.{PlainProgram}
 use Rattle.gp_syntax.specs.Expression.{Expression, Number, Text, Empty, Join, Holds, Marked}
 use Rattle.gp_syntax.specs.Rule.{Rule, LeftNode, LeftEdge, RightNode, RightEdge, IsKept}
+use Rattle.gp_syntax.specs.Run.{Command, Call, Loop, Program}
 
 abbrev pub atom_expression : Atom → Expression ℕ
 atom_expression (Int z) = Number z
@@ -60,3 +64,16 @@ pub record IsPlain (r : PlainRule) : Type 0 where
   pub origins : (j i : ℕ) (q : PlainRightNode) → slice_get r.right_nodes.items j ≡ Some q → q.origin ≡ Some i → i < length r.left_nodes.items
   pub origins_apart : (j k i : ℕ) (p q : PlainRightNode) → slice_get r.right_nodes.items j ≡ Some p → slice_get r.right_nodes.items k ≡ Some q → p.origin ≡ Some i → q.origin ≡ Some i → j ≡ k
   pub kept : (i : ℕ) (p : PlainLeftNode) → slice_get r.left_nodes.items i ≡ Some p → (p.kept ≡ true) ↔ IsKept (plain_rule r) i
+
+-- ---- programs of one rule
+
+abbrev pub main_of : PlainMain → Command
+main_of mains.Call = Call 0
+main_of mains.Loop = Loop (Call 0)
+
+-- the program of this rule alone, with this Main
+abbrev pub of_one_rule : PlainMain → Rule → Program
+of_one_rule main r = record { main = main_of main; procedures = []; sets = (0 ∷ []) ∷ []; rules = r ∷ [] }
+
+abbrev pub plain_program : PlainProgram → Program
+plain_program p = of_one_rule p.main (plain_rule p.rule)

@@ -134,6 +134,14 @@ pub record CallsTo (rules : List Rule) (set : List ℕ) (g : Graph) (m : Found) 
   pub is_rule : slice_get rules m.rule ≡ Some rule
   pub step : Step rule g m h
 
+-- some rule of the set has a match that applies
+pub record HasApplying (rules : List Rule) (set : List ℕ) (g : Graph) : Type 0 where
+  pub found : Found
+  pub in_set : Contains set found.rule
+  pub rule : Rule
+  pub is_rule : slice_get rules found.rule ≡ Some rule
+  pub applies : Applies rule g found
+
 -- no rule of the set has a match that applies or is faulty
 pub record Blocked (rules : List Rule) (set : List ℕ) (g : Graph) : Type 0 where
   pub none_applies : (i : ℕ) (r : Rule) (m : Found) → Contains set i → slice_get rules i ≡ Some r → Applies r g m → ⊥

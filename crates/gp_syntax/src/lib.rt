@@ -7,4 +7,6 @@ pub mod laws;
 mod plain;
 
 pub use kinds::{Comparison, NumberKind, VariableType};
-pub use plain::{PlainLeftEdge, PlainLeftNode, PlainRightEdge, PlainRightNode, PlainRule};
+pub use plain::{
+    PlainLeftEdge, PlainLeftNode, PlainMain, PlainProgram, PlainRightEdge, PlainRightNode, PlainRule,
+};

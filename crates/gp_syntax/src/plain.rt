@@ -1,4 +1,5 @@
-//! Rules whose labels are constants, and that have no variables, marks, roots, bidirectional edges or condition.
+//! Rules whose labels are constants, and that have no variables, marks, roots, bidirectional edges or condition, and
+//! programs of one such rule.
 
 use gp_values::List;
 
@@ -42,4 +43,20 @@ pub struct PlainRule {
     pub left_edges: Vec<PlainLeftEdge>,
     pub right_nodes: Vec<PlainRightNode>,
     pub right_edges: Vec<PlainRightEdge>,
+}
+
+/// What Main is: a call of the rule, or a loop over that call.
+#[derive(Clone, Copy, Debug, PartialEq, Eq)]
+pub enum PlainMain {
+    /// `r`: one step, or fail.
+    Call,
+    /// `r!`: as many steps as there are.
+    Loop,
+}
+
+/// A program of one rule with constant labels. What it means is the `Program` that it stands for.
+#[derive(Drop)]
+pub struct PlainProgram {
+    pub main: PlainMain,
+    pub rule: PlainRule,
 }
