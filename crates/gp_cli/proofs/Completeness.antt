@@ -1,13 +1,13 @@
 -- Where all is told and nothing fails, an answer is a graph, fail, or want of memory.
-use Rattle.std.proofs.Common.{◌≡◌, ◌≢◌, ℕ, List, length, refl, sym, ap, subst, ◌∙◌, arith, inl, inr}
-use Rattle.std.specs.Prelude.{◌⊎◌, Option, Some, None}
+use Rattle.std.proofs.Common.{◌≡◌, ℕ, List, length, refl, sym, ap, subst, arith, inl, inr}
+use Rattle.std.specs.Prelude.{◌⊎◌, Option, Some}
 use Rattle.std.specs.FinMap as map
-use Rattle.gp_io.specs.Outside.{Content, Rose, HasFile, LacksFile}
+use Rattle.gp_io.specs.Outside.{Content, HasFile}
 use Rattle.gp_values.specs.Names.{Name}
 use Rattle.gp_values.specs.Graph.{Graph}
 use Rattle.gp_syntax.specs.Run.{Program}
 use Rattle.gp_cli.specs.CommandLine.{Command, command_of}
-use Rattle.gp_cli.specs.Answer.{Count, HasRisen, HasProgram, HasHost, HasLongFile, HasOtherProgram, HasOtherHost, CannotRead, risen, lacking, Replies, gives, fails, bad_words, long_program, other_program, long_host, other_host, no_program, no_host, Answer, replied, no_memory, write_fault, Completes}
+use Rattle.gp_cli.specs.Answer.{Count, HasRisen, HasProgram, HasHost, HasLongFile, HasOtherProgram, HasOtherHost, CannotRead, risen, lacking, Replies, gives, fails, bound_at_turn, bound_at_call, bad_words, long_program, other_program, long_host, other_host, no_program, no_host, Answer, replied, no_memory, out_fault, err_fault, Completes}
 
 same_bytes : (content : Content) (name : Name) (a b : List ℕ) → map.get content name ≡ Some a → map.get content name ≡ Some b → a ≡ b
 same_bytes content name a b h k = cc
@@ -33,14 +33,16 @@ can_read content name files bytes n h (risen r) = n r
 can_read content name files bytes n h (lacking l) = absurd cc
 
 abbrev Good : ℕ → Type 0
-Good s = (s ≡ 0) ⊎ (s ≡ 1) ⊎ (s ≡ 7)
+Good s = (s ≡ 0) ⊎ (s ≡ 1) ⊎ (s ≡ 5) ⊎ (s ≡ 7)
 
 -- the same program or host, by the name that the words give
 module _ {content : Content} {files : Count} {p : Program} {g : Graph} where
   replies_well : {words : List Name} {s : ℕ} {o e : List ℕ} (k : Command) → command_of words ≡ Some k → HasProgram (Some content) k.program p → HasHost (Some content) k.host g →
       (HasRisen files → ⊥) → Replies words (Some content) files s o e → Good s
-  replies_well k w hp hh n (gives v _ _ _ _) = inl refl
-  replies_well k w hp hh n (fails v _ _ _) = inr (inl refl)
+  replies_well k w hp hh n (gives v _ _ _ _ _) = inl refl
+  replies_well k w hp hh n (fails v _ _ _ _) = inr (inl refl)
+  replies_well k w hp hh n (bound_at_turn v _ _ _ _) = inr (inr (inl refl))
+  replies_well k w hp hh n (bound_at_call v _ _ _ _ _) = inr (inr (inl refl))
   replies_well k w hp hh n (bad_words v) = absurd cc
   replies_well {words} k w hp hh n (long_program {k = l} v f) = absurd (not_long_program (subst (λ (c : Command). HasProgram (Some content) c.program p) (same_command words k l w v) hp) f)
   replies_well {words} k w hp hh n (other_program {k = l} v f) = absurd (not_other_program (subst (λ (c : Command). HasProgram (Some content) c.program p) (same_command words k l w v) hp) f)
@@ -52,9 +54,9 @@ module _ {content : Content} {files : Count} {p : Program} {g : Graph} where
   answers_well : {words : List Name} {out err : Count} {s : ℕ} {o e : List ℕ} (k : Command) → command_of words ≡ Some k → HasProgram (Some content) k.program p → HasHost (Some content) k.host g →
       (HasRisen files → ⊥) → (HasRisen out → ⊥) → (HasRisen err → ⊥) → Answer words (Some content) files out err s o e → Good s
   answers_well k w hp hh n not_out not_err (replied r) = replies_well k w hp hh n r
-  answers_well k w hp hh n not_out not_err no_memory = inr (inr refl)
-  answers_well k w hp hh n not_out not_err (write_fault _ _ r (inl c)) = absurd (not_out c.1)
-  answers_well k w hp hh n not_out not_err (write_fault _ _ r (inr c)) = absurd (not_err c.1)
+  answers_well k w hp hh n not_out not_err no_memory = inr (inr (inr refl))
+  answers_well k w hp hh n not_out not_err (out_fault _ r c d) = absurd (not_out d)
+  answers_well k w hp hh n not_out not_err (err_fault _ r c d) = absurd (not_err d)
 
 pub completes : {words : List Name} {told : Option Content} {files out err : Count} {s : ℕ} {o e : List ℕ} → Answer words told files out err s o e → Completes words told files out err s
 completes {words} {told} {files} {out} {err} {s} {o} {e} a content k p g told_is w hp hh n not_out not_err =

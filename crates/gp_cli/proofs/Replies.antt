@@ -1,21 +1,20 @@
 -- From what the parts answer to what the top call answers.
-use Rattle.std.proofs.Common.{◌≡◌, ◌≢◌, ℕ, ◌+◌, ◌-◌, ◌^◌, ◌≤◌, min, List, [], ◌∷◌, ◌++◌, length, take, refl, sym, ap, subst, ◌∙◌, arith, append-nil, inl, inr}
-use Rattle.std.proofs.Math.Seq.{take-length}
-use Rattle.std.specs.Prelude.{◌⊎◌, Option, Some, None, Result, Ok, Err}
-use Rattle.gp_io.specs.Outside.{Content, Rose, HasFile, LacksFile, Gains}
+use Rattle.std.proofs.Common.{◌≡◌, ℕ, ◌≤◌, List, [], take, refl, sym, ap, subst, arith, append-nil, inl, inr}
+use Rattle.std.specs.Prelude.{◌⊎◌, Option, Some, None, Err}
+use Rattle.gp_io.specs.Outside.{Content, Rose, LacksFile, Gains}
 use Rattle.gp_values.specs.Names.{Name}
 use Rattle.gp_values.specs.Graph.{Graph as HostGraph}
-use Rattle.gp_syntax.specs.Rule.{Rule, Found}
-use Rattle.gp_syntax.specs.Step.{CallsTo, Blocked}
-use Rattle.gp_syntax.specs.Run.{Call, Stepped, Gives, Fails, Run, call_steps, call_fails}
+use Rattle.gp_syntax.specs.Run.{Program}
 use Rattle.gp_hostfile.specs.GraphText.{IsGraphText, WritesGraph}
-use Rattle.gp_parse.specs.Program.{calls_once}
-use Rattle.gp_cli.specs.declared.reply.Reply.{Reply}
 use Rattle.gp_cli.specs.declared.reply.Stop.{Stop}
 use Rattle.gp_cli.specs.declared.reply.Stop.TheVariants as stops
 use Rattle.gp_cli.specs.CommandLine.{Command, command_of}
-use Rattle.gp_cli.specs.Answer.{Count, HasRisen, HasProgram, HasHost, CannotRead, risen, lacking, Replies, gives, fails, bad_words, long_program, other_program, long_host, other_host, no_program, no_host, Answer, replied, no_memory, write_fault, Answered, program_too_long, host_too_long}
-use Rattle.gp_cli.specs.Parts.{StopsAtFile, too_long, unread, ReadsFile, LoadsProgram, StopsAtProgram, program_file, other_text, LoadsHost, StopsAtHost, host_file, other_host_text, Shows, graph, fail, RunsFilesTo, shown, at_program, at_host, RunsFiles, Delivers, whole, cut}
+use Rattle.gp_cli.specs.Answer.{Count, HasProgram, HasHost, CannotRead, risen, lacking, Replies, gives, fails, bound_at_turn, bound_at_call, long_program, other_program, long_host, other_host, no_program, no_host, replied, no_memory, out_fault, err_fault, Answered, program_too_long, host_too_long, bound_text}
+use Rattle.gp_cli.specs.Parts.{StopsAtFile, too_long, unread, ReadsFile, LoadsProgram, StopsAtProgram, program_file, other_text, LoadsHost, StopsAtHost, host_file, other_host_text, Shows, graph, fail, at_turn, at_call, RunsFilesTo, shown, at_program, at_host, RunsFiles, Delivers, whole, out_cut, err_cut}
+use Rattle.gp_cli.specs.Outcomes.{RunsTo, Executes, ShowsOutcome, gave, failed_there, before_turn, before_call}
+use Rattle.gp_cli.specs.Statuses.{status_code}
+use Rattle.gp_cli.specs.declared.run.Outcome.{Outcome}
+use Rattle.gp_cli.specs.declared.run.End.TheVariants as ends
 
 pub read_cause : (told : Option Content) (name : Name) (before now : ℕ) → Rose before now ⊎ (LacksFile told name × (now ≡ before)) → CannotRead told (record { before = before; now = now }) name
 read_cause told name before now (inl r) = risen r
@@ -63,15 +62,15 @@ host_since : {told : Option Content} {name : Name} {s : ℕ} {o e : List ℕ} (a
 host_since a b c h (host_file f) = host_file (file_since a b c h f)
 host_since a b c h (other_host_text n) = other_host_text n
 
-pub program_stops_all : (told : Option Content) (files : Count) (program host : Name) (e : Stop) → LoadsProgram told files program (Err e) → RunsFiles told files program host (Err e)
-program_stops_all told files program host (stops.Answered r) h = at_program h
-program_stops_all told files program host stops.NoMemory h = tt
+pub program_stops_all : (told : Option Content) (files : Count) (k : Command) (e : Stop) → LoadsProgram told files k.program (Err e) → RunsFiles told files k (Err e)
+program_stops_all told files k (stops.Answered r) h = at_program h
+program_stops_all told files k stops.NoMemory h = tt
 
-pub host_stops_all : (told now_told : Option Content) (program host : Name) (r : Rule) (a b c : ℕ) (e : Stop) → now_told ≡ told → a ≤ b → HasProgram told program (calls_once r) →
-    LoadsHost now_told (record { before = b; now = c }) host (Err e) → RunsFiles told (record { before = a; now = c }) program host (Err e)
-host_stops_all told now_told program host r a b c (stops.Answered x) s h p l =
-    at_host p (host_since a b c h (subst (λ (t : Option Content). StopsAtHost t (record { before = b; now = c }) host x.status x.out.items x.err.items) s l))
-host_stops_all told now_told program host r a b c stops.NoMemory s h p l = tt
+pub host_stops_all : (told now_told : Option Content) (k : Command) (p : Program) (a b c : ℕ) (e : Stop) → now_told ≡ told → a ≤ b → HasProgram told k.program p →
+    LoadsHost now_told (record { before = b; now = c }) k.host (Err e) → RunsFiles told (record { before = a; now = c }) k (Err e)
+host_stops_all told now_told k p a b c (stops.Answered x) s h has l =
+    at_host has (host_since a b c h (subst (λ (t : Option Content). StopsAtHost t (record { before = b; now = c }) k.host (status_code x.status) x.out.items x.err.items) s l))
+host_stops_all told now_told k p a b c stops.NoMemory s h has l = tt
 
 module _ {words : List Name} {told : Option Content} {files : Count} {k : Command} where
   replies_program : {s : ℕ} {o e : List ℕ} → command_of words ≡ Some k → StopsAtProgram told files k.program s o e → Replies words told files s o e
@@ -79,16 +78,18 @@ module _ {words : List Name} {told : Option Content} {files : Count} {k : Comman
   replies_program w (program_file (unread u)) = no_program w u
   replies_program w (other_text n) = other_program w n
 
-  replies_host : {r : Rule} {s : ℕ} {o e : List ℕ} → command_of words ≡ Some k → HasProgram told k.program (calls_once r) → StopsAtHost told files k.host s o e → Replies words told files s o e
+  replies_host : {p : Program} {s : ℕ} {o e : List ℕ} → command_of words ≡ Some k → HasProgram told k.program p → StopsAtHost told files k.host s o e → Replies words told files s o e
   replies_host w p (host_file (too_long f)) = long_host w p f
   replies_host w p (host_file (unread u)) = no_host w p u
   replies_host w p (other_host_text n) = other_host w p n
 
-  replies_shown : {r : Rule} {g : HostGraph} {s : ℕ} {o e : List ℕ} → command_of words ≡ Some k → HasProgram told k.program (calls_once r) → HasHost told k.host g → Shows r g s o e → Replies words told files s o e
-  replies_shown w p h (graph run text) = gives w p h run text
-  replies_shown w p h (fail run) = fails w p h run
+  replies_shown : {p : Program} {g : HostGraph} {s : ℕ} {o e : List ℕ} → command_of words ≡ Some k → HasProgram told k.program p → HasHost told k.host g → Shows p k.bound g s o e → Replies words told files s o e
+  replies_shown w p h (graph run count text) = gives w p h run count text
+  replies_shown w p h (fail run count) = fails w p h run count
+  replies_shown w p h (at_turn run count) = bound_at_turn w p h run count
+  replies_shown w p h (at_call run can count) = bound_at_call w p h run can count
 
-  pub replies : {s : ℕ} {o e : List ℕ} → command_of words ≡ Some k → RunsFilesTo told files k.program k.host s o e → Replies words told files s o e
+  pub replies : {s : ℕ} {o e : List ℕ} → command_of words ≡ Some k → RunsFilesTo told files k s o e → Replies words told files s o e
   replies w (shown p h s) = replies_shown w p h s
   replies w (at_program p) = replies_program w p
   replies w (at_host p h) = replies_host w p h
@@ -102,21 +103,24 @@ gains_nothing (Some w) = ap (λ (v : List ℕ). Some v) (sym (append-nil w))
 pub delivered : {words : List Name} {told : Option Content} {files out err : Count} {s : ℕ} {o e : List ℕ} {out_old out_new err_old err_new : Option (List ℕ)} {status : ℕ} →
     Replies words told files s o e → Delivers s o e out err out_old out_new err_old err_new status → Answered words told files out err out_old out_new err_old err_new status
 delivered {o = o} {e = e} r (whole a b) = record { on_out = o; on_err = e; gains_out = a; gains_err = b; answer = replied r }
-delivered {o = o} {e = e} r (cut n m a b c) = record { on_out = take n o; on_err = take m e; gains_out = a; gains_err = b; answer = write_fault n m r c }
+delivered {o = o} {e = e} r (out_cut n a b c d) = record { on_out = take n o; on_err = []; gains_out = a; gains_err = b; answer = out_fault n r c d }
+delivered {o = o} {e = e} r (err_cut n a b c d) = record { on_out = o; on_err = take n e; gains_out = a; gains_err = b; answer = err_fault n r c d }
 
 pub silent : {words : List Name} {told : Option Content} {files out err : Count} (o e : Option (List ℕ)) → Answered words told files out err o o e e 7
 silent o e = record { on_out = []; on_err = []; gains_out = gains_nothing o; gains_err = gains_nothing e; answer = no_memory }
 
-pub gains_whole : (old new : Option (List ℕ)) (piece : List ℕ) → Gains old new piece → Gains old new (take (length piece) piece)
-gains_whole old new piece h = rw (take-length piece) h
-
 -- ---- the run
 
-pub run_gives : {r : Rule} {g h : HostGraph} {m : Found} → CallsTo (r ∷ []) (0 ∷ []) g m h → Run (calls_once r) (Call 0) g [] (Stepped m ∷ []) (Gives h)
-run_gives s = call_steps refl s
+-- a run that stands where no item is left
+pub stands : (bound : ℕ) (o : Outcome) → (o.end ≡ ends.BeforeTurn) ⊎ (o.end ≡ ends.BeforeCall) → ShowsOutcome bound o 5 [] (bound_text bound)
+stands bound o (inl e) = before_turn e
+stands bound o (inr e) = before_call e
 
-pub run_fails : {r : Rule} {g : HostGraph} → Blocked (r ∷ []) (0 ∷ []) g → Run (calls_once r) (Call 0) g [] [] (Fails g)
-run_fails b = call_fails refl b
+pub shows : (p : Program) (bound : ℕ) (g : HostGraph) (o : Outcome) {s : ℕ} {out err : List ℕ} → Executes p bound g o → ShowsOutcome bound o s out err → Shows p bound g s out err
+shows p bound g o x (gave e text) = let y = subst (RunsTo p bound g o.items.items o.graph.graph) e x in graph y.run y.within text
+shows p bound g o x (failed_there e) = let y = subst (RunsTo p bound g o.items.items o.graph.graph) e x in fail y.run y.within
+shows p bound g o x (before_turn e) = let y = subst (RunsTo p bound g o.items.items o.graph.graph) e x in at_turn y.run y.within
+shows p bound g o x (before_call e) = let y = subst (RunsTo p bound g o.items.items o.graph.graph) e x in at_call y.run y.within.0 y.within.1
 
 -- what a text is behind nothing
 pub text_from_nothing : (g : HostGraph) (old new : List ℕ) → old ≡ [] → WritesGraph g old new → IsGraphText g new

@@ -1,9 +1,11 @@
 -- What the top call may answer, and why.
-use Rattle.std.specs.Prelude.{◌≡◌, ◌≢◌, ◌⊎◌, ℕ, ◌^◌, ◌≤◌, ◌<◌, Bool, List, [], ◌∷◌, ◌++◌, length, take, Option, Some, None, codes}
+use Rattle.std.specs.Prelude.{◌≡◌, ◌≢◌, ◌⊎◌, ℕ, ◌^◌, ◌≤◌, ◌<◌, Bool, List, [], ◌∷◌, ◌++◌, length, take, slice_get, Option, Some, None, codes}
+use Rattle.std.specs.Fmt.{decimal}
 use Rattle.gp_io.specs.Outside.{Content, Rose, HasFile, LacksFile, Gains}
 use Rattle.gp_values.specs.Names.{Name}
 use Rattle.gp_values.specs.Graph.{Graph}
-use Rattle.gp_syntax.specs.Run.{Program, Item, Ending, Gives, Fails, Run}
+use Rattle.gp_syntax.specs.Step.{HasApplying}
+use Rattle.gp_syntax.specs.Run.{Program, Item, Gives, Fails, At, AtTurn, Run, counted}
 use Rattle.gp_parse.specs.Program.{IsProgramText}
 use Rattle.gp_hostfile.specs.Host.{IsHostText}
 use Rattle.gp_hostfile.specs.GraphText.{IsGraphText}
@@ -14,10 +16,13 @@ abbrev pub limit : ℕ
 limit = 2 ^ 28
 
 abbrev pub usage : List ℕ
-usage = codes "usage: gp2 run PROGRAM HOST" ++ 10 ∷ []
+usage = codes "usage: gp2 run PROGRAM HOST [--bound N]" ++ 10 ∷ []
 
 abbrev pub fail_text : List ℕ
 fail_text = codes "fail" ++ 10 ∷ []
+
+abbrev pub bound_text : ℕ → List ℕ
+bound_text bound = codes "bound " ++ decimal bound ++ 10 ∷ []
 
 abbrev pub program_too_long : List ℕ
 program_too_long = codes "program: TooLong" ++ 10 ∷ []
@@ -80,17 +85,31 @@ pub data CannotRead (told : Option Content) (files : Count) (name : Name) : Type
   risen : HasRisen files → CannotRead told files name
   lacking : LacksFile told name → CannotRead told files name
 
+-- some rule of the set that the call names has a match that applies
+pub record CanStep (p : Program) (call : ℕ) (h : Graph) : Type 0 where
+  pub set : List ℕ
+  pub is_set : slice_get p.sets call ≡ Some set
+  pub applying : HasApplying p.rules set h
+
 -- What is answered where no write fails: a status, the bytes on out, and the bytes on err. The order is: words, program
 -- read, program, host read, host, run.
 pub data Replies (words : List Name) (told : Option Content) (files : Count) : ℕ → List ℕ → List ℕ → Type 0 where
-  -- GP 2's rules give this graph to that program on that host
+  -- GP 2's rules give this graph to that program on that host, with no more items counted than may be
   gives : {k : Command} {p : Program} {g h : Graph} {picks : List Bool} {t : List Item} {text : List ℕ} →
       command_of words ≡ Some k → HasProgram told k.program p → HasHost told k.host g →
-      Run p p.main g picks t (Gives h) → IsGraphText h text → Replies words told files 0 text []
+      Run p p.main g picks t (Gives h) → counted t ≤ k.bound → IsGraphText h text → Replies words told files 0 text []
   -- they give fail
   fails : {k : Command} {p : Program} {g h : Graph} {picks : List Bool} {t : List Item} →
       command_of words ≡ Some k → HasProgram told k.program p → HasHost told k.host g →
-      Run p p.main g picks t (Fails h) → Replies words told files 1 fail_text []
+      Run p p.main g picks t (Fails h) → counted t ≤ k.bound → Replies words told files 1 fail_text []
+  -- all items that may be counted are, and the run stands before a turn of a loop
+  bound_at_turn : {k : Command} {p : Program} {g h : Graph} {picks : List Bool} {t : List Item} →
+      command_of words ≡ Some k → HasProgram told k.program p → HasHost told k.host g →
+      Run p p.main g picks t (AtTurn h) → counted t ≡ k.bound → Replies words told files 5 [] (bound_text k.bound)
+  -- or before a call that can make a step
+  bound_at_call : {k : Command} {p : Program} {g h : Graph} {picks : List Bool} {t : List Item} {call : ℕ} →
+      command_of words ≡ Some k → HasProgram told k.program p → HasHost told k.host g →
+      Run p p.main g picks t (At call h) → CanStep p call h → counted t ≡ k.bound → Replies words told files 5 [] (bound_text k.bound)
   bad_words : command_of words ≡ None → Replies words told files 2 [] usage
   long_program : {k : Command} → command_of words ≡ Some k → HasLongFile told k.program → Replies words told files 3 [] program_too_long
   other_program : {k : Command} → command_of words ≡ Some k → HasOtherProgram told k.program → Replies words told files 3 [] program_not_yet
@@ -100,12 +119,13 @@ pub data Replies (words : List Name) (told : Option Content) (files : Count) : �
   no_host : {k : Command} {p : Program} → command_of words ≡ Some k → HasProgram told k.program p → CannotRead told files k.host → Replies words told files 8 [] (read_text k.host)
 
 -- What the top call answers: a reply, whole; want of memory, and then nothing; or, where the count of a sink rose on
--- which the reply has bytes, a beginning of each of its two texts.
+-- which the reply has bytes, what went out before that write failed and a beginning of its text. Out is written before
+-- err, and nothing is written after a failed write.
 pub data Answer (words : List Name) (told : Option Content) (files out err : Count) : ℕ → List ℕ → List ℕ → Type 0 where
   replied : {status : ℕ} {o e : List ℕ} → Replies words told files status o e → Answer words told files out err status o e
   no_memory : Answer words told files out err 7 [] []
-  write_fault : {status : ℕ} {o e : List ℕ} (n m : ℕ) → Replies words told files status o e →
-      ((o ≢ []) × HasRisen out) ⊎ ((e ≢ []) × HasRisen err) → Answer words told files out err 9 (take n o) (take m e)
+  out_fault : {status : ℕ} {o e : List ℕ} (n : ℕ) → Replies words told files status o e → o ≢ [] → HasRisen out → Answer words told files out err 9 (take n o) []
+  err_fault : {status : ℕ} {o e : List ℕ} (n : ℕ) → Replies words told files status o e → e ≢ [] → HasRisen err → Answer words told files out err 9 o (take n e)
 
 -- what went out on both sinks behind what was there, where they tell it, is an answer of that status
 pub record Answered (words : List Name) (told : Option Content) (files out err : Count) (out_old out_new err_old err_new : Option (List ℕ)) (status : ℕ) : Type 0 where
@@ -115,9 +135,10 @@ pub record Answered (words : List Name) (told : Option Content) (files out err :
   pub gains_err : Gains err_old err_new on_err
   pub answer : Answer words told files out err status on_out on_err
 
--- Valid words, a program and a host, all told, with no fault of a device, give a graph or fail, or want of memory.
+-- Valid words, a program and a host, all told, with no fault of a device, give a graph, fail or the spent bound, or want
+-- of memory.
 abbrev pub Completes : List Name → Option Content → Count → Count → Count → ℕ → Type 0
 Completes words told files out err status =
     (content : Content) (k : Command) (p : Program) (g : Graph) → told ≡ Some content → command_of words ≡ Some k →
     HasProgram told k.program p → HasHost told k.host g →
-    (HasRisen files → ⊥) → (HasRisen out → ⊥) → (HasRisen err → ⊥) → (status ≡ 0) ⊎ (status ≡ 1) ⊎ (status ≡ 7)
+    (HasRisen files → ⊥) → (HasRisen out → ⊥) → (HasRisen err → ⊥) → (status ≡ 0) ⊎ (status ≡ 1) ⊎ (status ≡ 5) ⊎ (status ≡ 7)

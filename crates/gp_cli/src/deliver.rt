@@ -2,8 +2,10 @@
 
 ghost use Rattle.std.specs.Prelude.{◌≡◌, ◌≤◌};
 ghost use Rattle.gp_cli.specs.Parts.{Delivers, WritesPiece};
+ghost use Rattle.gp_cli.specs.Statuses.{status_code};
 
 use crate::reply::Reply;
+use crate::status::Status;
 use gp_io::{Failed, Sink};
 
 // Writes the piece, unless it is empty.
@@ -18,16 +20,16 @@ fn write_piece<S: Sink>(sink: &mut S, piece: &[u8]) -> Result<(), Failed>
 
 /// Writes both pieces of the answer, and answers its status, or 9 where a write fails; then nothing more is written.
 pub(crate) fn deliver<O: Sink, E: Sink>(reply: &Reply, out: &mut O, err: &mut E) -> u8
-    ensures { Delivers reply.now.status reply.now.out.items reply.now.err.items
+    ensures { Delivers (status_code reply.now.status) reply.now.out.items reply.now.err.items
         (record { before = O.faults out.old; now = O.faults out.new })
         (record { before = E.faults err.old; now = E.faults err.new })
         (O.written out.old) (O.written out.new) (E.written err.old) (E.written err.new) result }
 {
     match write_piece(out, &reply.out) {
-        Err(Failed) => 9,
+        Err(Failed) => Status::Write.code(),
         Ok(()) => match write_piece(err, &reply.err) {
-            Err(Failed) => 9,
-            Ok(()) => reply.status,
+            Err(Failed) => Status::Write.code(),
+            Ok(()) => reply.status.code(),
         },
     }
 }

@@ -6,6 +6,8 @@ mod load;
 mod matching;
 mod reply;
 mod run;
+mod show;
+mod status;
 mod step;
 #[cfg(test)]
 mod tests;

@@ -2,14 +2,16 @@
 
 ghost use Rattle.std.specs.Prelude.{◌≡◌, ◌≤◌, ◌++◌, ◌∷◌, [], IfOk};
 ghost use Rattle.gp_cli.specs.Answer.{read_text};
+ghost use Rattle.gp_cli.specs.Statuses.{status_code};
 ghost use Rattle.gp_cli.specs.Parts.{ReadsFile, LoadsProgram, LoadsHost};
 
 use crate::reply::{Stop, on_err};
+use crate::status::Status;
 use gp_graph::Graph;
 use gp_hostfile::{HostRefusal, read_host};
 use gp_io::{Files, ReadRefusal};
 use gp_parse::{ProgramRefusal, read_program};
-use gp_syntax::PlainRule;
+use gp_syntax::PlainProgram;
 use std::alloc::{AllocError, Global};
 
 /// The greatest number of bytes of a file.
@@ -30,10 +32,10 @@ fn read_file<F: Files>(
     alloc: Global,
     files: &mut F,
     name: &str,
-    refused: u8,
+    refused: Status,
     long: &[u8],
 ) -> Result<Vec<u8>, Stop>
-    ensures reads { ReadsFile (F.content files.old) (record { before = F.faults files.old; now = F.faults files.new }) name.now refused long.now result }
+    ensures reads { ReadsFile (F.content files.old) (record { before = F.faults files.old; now = F.faults files.new }) name.now (status_code refused) long.now result }
     ensures later { F.faults files.old ≤ F.faults files.new }
     ensures same { F.content files.new ≡ F.content files.old }
 {
@@ -42,26 +44,29 @@ fn read_file<F: Files>(
         Err(ReadRefusal::TooLong) => Err(Stop::Answered(on_err(alloc, refused, long)?)),
         Err(ReadRefusal::Failed) => {
             let text = read_text(alloc, name)?;
-            Err(Stop::Answered(on_err(alloc, 8, &text)?))
+            Err(Stop::Answered(on_err(alloc, Status::Read, &text)?))
         }
         Err(ReadRefusal::NoMemory) => Err(Stop::NoMemory),
     }
 }
 
-/// The rule of the program's file.
+/// The program of the file.
 pub(crate) fn load_program<F: Files>(
     alloc: Global,
     files: &mut F,
     name: &str,
-) -> Result<PlainRule, Stop>
+) -> Result<PlainProgram, Stop>
     ensures loads { LoadsProgram (F.content files.old) (record { before = F.faults files.old; now = F.faults files.new }) name.now result }
     ensures later { F.faults files.old ≤ F.faults files.new }
     ensures same { F.content files.new ≡ F.content files.old }
 {
-    let text = read_file(alloc, files, name, 3, b"program: TooLong\n")?;
+    let text = read_file(alloc, files, name, Status::Program, b"program: TooLong\n")?;
     match read_program(alloc, &text) {
-        Ok(rule) => Ok(rule),
-        Err(ProgramRefusal::NotYet) => Err(Stop::Answered(on_err(alloc, 3, b"program: NotYet\n")?)),
+        Ok(program) => Ok(program),
+        Err(ProgramRefusal::NotYet) => {
+            let reply = on_err(alloc, Status::Program, b"program: NotYet\n")?;
+            Err(Stop::Answered(reply))
+        }
         Err(ProgramRefusal::NoMemory) => Err(Stop::NoMemory),
     }
 }
@@ -72,10 +77,13 @@ pub(crate) fn load_host<F: Files>(alloc: Global, files: &mut F, name: &str) -> R
     ensures later { F.faults files.old ≤ F.faults files.new }
     ensures same { F.content files.new ≡ F.content files.old }
 {
-    let text = read_file(alloc, files, name, 4, b"host: TooLong\n")?;
+    let text = read_file(alloc, files, name, Status::Host, b"host: TooLong\n")?;
     match read_host(alloc, &text) {
         Ok(graph) => Ok(graph),
-        Err(HostRefusal::NotYet) => Err(Stop::Answered(on_err(alloc, 4, b"host: NotYet\n")?)),
+        Err(HostRefusal::NotYet) => {
+            let reply = on_err(alloc, Status::Host, b"host: NotYet\n")?;
+            Err(Stop::Answered(reply))
+        }
         Err(HostRefusal::NoMemory) => Err(Stop::NoMemory),
     }
 }

@@ -3,13 +3,14 @@
 ghost use Rattle.std.specs.Prelude.{◌≡◌, [], IfOk};
 ghost use Rattle.gp_cli.specs.declared.reply.Stop.TheVariants.{NoMemory as no_memory};
 
+use crate::status::Status;
 use gp_values::NoMemory;
 use std::alloc::{AllocError, AllocFailed, Global};
 
 /// The status, and the bytes for standard output and standard error.
 #[derive(Drop)]
 pub(crate) struct Reply {
-    pub status: u8,
+    pub status: Status,
     pub out: Vec<u8>,
     pub err: Vec<u8>,
 }
@@ -38,7 +39,7 @@ impl From<NoMemory> for Stop {
 }
 
 /// An answer with this text on standard error, and nothing on standard output.
-pub(crate) fn on_err(alloc: Global, status: u8, text: &[u8]) -> Result<Reply, AllocError>
+pub(crate) fn on_err(alloc: Global, status: Status, text: &[u8]) -> Result<Reply, AllocError>
     ensures status { IfOk result (λ r. r.status ≡ status) }
     ensures out { IfOk result (λ r. r.out.items ≡ []) }
     ensures err { IfOk result (λ r. r.err.items ≡ text.now) }
@@ -52,7 +53,7 @@ pub(crate) fn on_err(alloc: Global, status: u8, text: &[u8]) -> Result<Reply, Al
 }
 
 /// An answer with this text on standard output, and nothing on standard error.
-pub(crate) fn on_out(alloc: Global, status: u8, out: Vec<u8>) -> Reply
+pub(crate) fn on_out(alloc: Global, status: Status, out: Vec<u8>) -> Reply
     ensures status { result.status ≡ status }
     ensures out { result.out.items ≡ out.items }
     ensures err { result.err.items ≡ [] }

@@ -3,12 +3,12 @@
 ghost use Rattle.std.specs.Prelude.{◌≡◌, ◌<◌, [], ◌∷◌, length, false, Some, None, IsSome, slice_index, IfOk, IfSome, IfNone, OnOk};
 ghost use Rattle.gp_values.specs.Graph.{IsGraph, HasNoEdges, node_at, without_node};
 ghost use Rattle.gp_syntax.specs.Match.{AreApart};
-ghost use Rattle.gp_syntax.specs.Step.{Applies, Step, CallsTo, Blocked};
+ghost use Rattle.gp_syntax.specs.Step.{Applies, Step};
 ghost use Rattle.gp_syntax.specs.Plain.{plain_rule, IsPlain};
 ghost use Rattle.gp_cli.specs.Found.{found_of};
 ghost use Rattle.gp_cli.specs.Making.{AllNodes, AllEdges, EdgesRemoved, NodesRemoved, AreLoose, root_of, placed_node, HaveOrigins, KeptAreThere, NodesPlaced, HaveImages, placed_edge, EdgesPlaced, lands, placing};
 
-use crate::matching::{PlainFound, find_match};
+use crate::matching::PlainFound;
 use gp_graph::Graph;
 use gp_syntax::{PlainLeftNode, PlainRightEdge, PlainRightNode, PlainRule};
 use gp_values::{EdgeMark, NoMemory, NodeMark};
@@ -143,25 +143,4 @@ pub(crate) fn apply(
     let images = place_nodes(alloc, graph, &rule.right_nodes, &found.nodes)?;
     place_edges(alloc, graph, &rule.right_edges, &images)?;
     Ok(())
-}
-
-/// Finds a match and makes its step. The answer is the match, or none where the rule has no match: the graph is then
-/// as before. After a refusal of memory the step may be made in part.
-pub(crate) fn call(
-    alloc: Global,
-    rule: &PlainRule,
-    graph: &mut Graph,
-) -> Result<Option<PlainFound>, NoMemory>
-    requires { IsPlain rule.now }
-    ensures step { IfOk result (λ o. IfSome o (λ f. CallsTo (plain_rule rule.now ∷ []) (0 ∷ []) graph.old.graph (found_of f) graph.new.graph)) }
-    ensures blocked { IfOk result (λ o. IfNone o (Blocked (plain_rule rule.now ∷ []) (0 ∷ []) graph.old.graph)) }
-    ensures same { IfOk result (λ o. IfNone o (graph.new.graph ≡ graph.old.graph)) }
-{
-    match find_match(alloc, rule, graph)? {
-        Some(found) => {
-            apply(alloc, rule, graph, &found)?;
-            Ok(Some(found))
-        }
-        None => Ok(None),
-    }
 }

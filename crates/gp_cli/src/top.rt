@@ -3,35 +3,40 @@
 ghost use Rattle.std.specs.Prelude.{◌≡◌, ◌≤◌, map, string_bytes, IfOk};
 ghost use Rattle.gp_cli.specs.Answer.{Replies, Answered, Completes};
 ghost use Rattle.gp_cli.specs.Parts.{RunsFiles};
+ghost use Rattle.gp_cli.specs.Statuses.{status_code};
 
 use crate::deliver::deliver;
 use crate::load::{load_host, load_program};
 use crate::reply::{Reply, Stop, on_err};
-use crate::run::run;
-use crate::words::command_of;
+use crate::show::run;
+use crate::status::Status;
+use crate::words::{Command, command_of};
 use gp_io::{Files, Sink};
 use gp_values::NoMemory;
 use std::alloc::{AllocGlobal, Global};
 
+const USAGE: &[u8] = b"usage: gp2 run PROGRAM HOST [--bound N]\n";
+
 fn run_files<F: Files>(
     alloc: Global,
-    program: &str,
-    host: &str,
+    command: Command<'_>,
     files: &mut F,
 ) -> Result<Reply, Stop>
-    ensures { RunsFiles (F.content files.old) (record { before = F.faults files.old; now = F.faults files.new }) program.now host.now result }
+    ensures { RunsFiles (F.content files.old) (record { before = F.faults files.old; now = F.faults files.new })
+        (record { program = command.entry.program.now; host = command.entry.host.now; bound = command.entry.bound }) result }
 {
-    let rule = load_program(alloc, files, program)?;
-    let graph = load_host(alloc, files, host)?;
-    Ok(run(alloc, &rule, graph)?)
+    let program = load_program(alloc, files, command.program)?;
+    let graph = load_host(alloc, files, command.host)?;
+    Ok(run(alloc, &program, graph, command.bound)?)
 }
 
 fn reply_to<F: Files>(alloc: Global, words: &[String], files: &mut F) -> Result<Reply, NoMemory>
-    ensures { IfOk result (λ r. Replies (map string_bytes words.now) (F.content files.old) (record { before = F.faults files.old; now = F.faults files.new }) r.status r.out.items r.err.items) }
+    ensures { IfOk result (λ r. Replies (map string_bytes words.now) (F.content files.old) (record { before = F.faults files.old; now = F.faults files.new })
+        (status_code r.status) r.out.items r.err.items) }
 {
     match command_of(words) {
-        None => Ok(on_err(alloc, 2, b"usage: gp2 run PROGRAM HOST\n")?),
-        Some((program, host)) => match run_files(alloc, program, host, files) {
+        None => Ok(on_err(alloc, Status::Words, USAGE)?),
+        Some(command) => match run_files(alloc, command, files) {
             Ok(reply) => Ok(reply),
             Err(Stop::Answered(reply)) => Ok(reply),
             Err(Stop::NoMemory) => Err(NoMemory),
@@ -60,6 +65,6 @@ pub fn gp2_main<R: AllocGlobal, F: Files, O: Sink, E: Sink>(
 {
     match reply_to(rt.alloc(), words, files) {
         Ok(reply) => deliver(&reply, out, err),
-        Err(NoMemory) => 7,
+        Err(NoMemory) => Status::NoMemory.code(),
     }
 }

@@ -11,6 +11,6 @@ returns-in_err-text-clause-loads g c =
 pub returns-in-Err-NotYet-clause-loads : goal.returns-in-Err-NotYet-clause-loads
 returns-in-Err-NotYet-clause-loads g c =
     let a = rw c.in-Err-NotYet.field-0-is at c.in-Err-NotYet.ensures in
-    let r = c.in_ok-on_err-in-Err-NotYet.ensures in
+    let r = c.in_ok-reply-in-Err-NotYet.ensures in
     let f = c.in_ok-text.ensures.reads in
     rw (r.status, r.out, r.err) (other_text (record { bytes = c.in_ok-text.text.items; file = f.0; short = f.1; no_text = rw c.deref.ensures.value at a }))

@@ -9,4 +9,4 @@ pub returns-in-Ok-clause-complete : goal.returns-in-Ok-clause-complete
 returns-in-Ok-clause-complete g c = completes (delivered c.in-Ok.ensures c.deliver.ensures).answer
 
 pub returns-in-Err-clause-answered : goal.returns-in-Err-clause-answered
-returns-in-Err-clause-answered g c = silent _ _
+returns-in-Err-clause-answered g c = rw c.code.ensures (silent _ _)

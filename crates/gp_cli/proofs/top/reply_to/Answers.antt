@@ -1,4 +1,3 @@
-use Rattle.std.proofs.Common.{sym}
 use Rattle.gp_cli.specs.Answer.{bad_words}
 use Rattle.gp_cli.proofs.Replies.{replies}
 use Rattle.gp_cli.proofs.top.reply_to.Goals as goal

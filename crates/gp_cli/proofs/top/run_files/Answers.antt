@@ -3,17 +3,17 @@ use Rattle.gp_cli.specs.Parts.{shown}
 use Rattle.gp_cli.proofs.Replies.{program_stops_all, host_stops_all}
 use Rattle.gp_cli.proofs.top.run_files.Goals as goal
 
-pub returns-in_err-rule : goal.returns-in_err-rule
-returns-in_err-rule g c =
+pub returns-in_err-program : goal.returns-in_err-program
+returns-in_err-program g c =
     let p = err_from_is_err_and c.from_residual.result c.from_residual.ensures.1 in
-    rw (p.1, p.2) (program_stops_all _ _ _ _ _ c.in_err-rule.ensures.loads)
+    rw (p.1, p.2) (program_stops_all _ _ _ _ c.in_err-program.ensures.loads)
 
 pub returns-in_err-graph : goal.returns-in_err-graph
 returns-in_err-graph g c =
     let p = err_from_is_err_and c.from_residual-in_err-graph.result c.from_residual-in_err-graph.ensures.1 in
-    rw (p.1, p.2) (host_stops_all _ _ _ _ _ _ _ _ _ c.in_ok-rule.ensures.same c.in_ok-rule.ensures.later c.in_ok-rule.ensures.loads.program c.in_err-graph.ensures.loads)
+    rw (p.1, p.2) (host_stops_all _ _ _ _ _ _ _ _ c.in_ok-program.ensures.same c.in_ok-program.ensures.later c.in_ok-program.ensures.loads.program c.in_err-graph.ensures.loads)
 
 pub returns : goal.returns
 returns g c =
-    let h = rw c.in_ok-rule.ensures.same at c.in_ok-graph.ensures.loads in
-    shown c.in_ok-rule.ensures.loads.program h c.in_ok-run.ensures
+    let h = rw c.in_ok-program.ensures.same at c.in_ok-graph.ensures.loads in
+    shown c.in_ok-program.ensures.loads.program h c.in_ok-run.ensures

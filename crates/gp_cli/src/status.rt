@@ -1,0 +1,46 @@
+//! What the status of the process says.
+
+ghost use Rattle.std.specs.Prelude.{◌≡◌};
+ghost use Rattle.gp_cli.specs.Statuses.{status_code};
+
+/// How the program ended.
+#[derive(Clone, Copy, Debug, PartialEq, Eq)]
+pub(crate) enum Status {
+    /// The run gave a graph.
+    Graph,
+    /// The run gave fail.
+    Fail,
+    /// The words are no command.
+    Words,
+    /// The program is refused.
+    Program,
+    /// The host is refused.
+    Host,
+    /// As many items were counted as may be, and the run goes on.
+    Bound,
+    /// Memory was refused.
+    NoMemory,
+    /// A file cannot be read.
+    Read,
+    /// A text cannot be written.
+    Write,
+}
+
+impl Status {
+    /// The number that the process ends with.
+    pub(crate) fn code(self) -> u8
+        ensures { result ≡ status_code self }
+    {
+        match self {
+            Status::Graph => 0,
+            Status::Fail => 1,
+            Status::Words => 2,
+            Status::Program => 3,
+            Status::Host => 4,
+            Status::Bound => 5,
+            Status::NoMemory => 7,
+            Status::Read => 8,
+            Status::Write => 9,
+        }
+    }
+}
