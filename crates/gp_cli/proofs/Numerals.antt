@@ -25,6 +25,7 @@ too_great most ds f n = by_digits (is_numeral ds) refl
         let l = leb-true (digits_value 10 ds) most e in
         absurd (n (subst (λ (t : Name). IsNumeral 10 t × (digits_value 10 t < 2 ^ 64)) (sym p.0) (p.1, omega arith)))
     by_size false h e = rw (h, e) refl
+
     by_digits : (b : Bool) → is_numeral ds ≡ b → number_within most ds ≡ None
     by_digits true h = by_size (nat_le (digits_value 10 ds) most) h refl
     by_digits false h = rw h refl

@@ -17,11 +17,7 @@ use std::alloc::{AllocGlobal, Global};
 
 const USAGE: &[u8] = b"usage: gp2 run PROGRAM HOST [--bound N]\n";
 
-fn run_files<F: Files>(
-    alloc: Global,
-    command: Command<'_>,
-    files: &mut F,
-) -> Result<Reply, Stop>
+fn run_files<F: Files>(alloc: Global, command: Command<'_>, files: &mut F) -> Result<Reply, Stop>
     ensures { RunsFiles (F.content files.old) (record { before = F.faults files.old; now = F.faults files.new })
         (record { program = command.entry.program.now; host = command.entry.host.now; bound = command.entry.bound }) result }
 {
