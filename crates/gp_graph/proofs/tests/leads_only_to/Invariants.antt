@@ -1,0 +1,10 @@
+use Rattle.std.proofs.Common.{ℕ}
+use Rattle.std.specs.Prelude.{◌⊎◌, Contains}
+use Rattle.gp_graph.specs.Walks.{EndsAt}
+use Rattle.gp_graph.proofs.tests.leads_only_to.Given as goal
+
+-- each edge of the walk is still to come, or ends at the target
+abbrev pub invariant-loop-e : goal.invariant-loop-e
+invariant-loop-e l =
+    (goal.iterator-loop-e).can_next l.e-iterator × (goal.iterator-loop-e).is_finite l.e-iterator
+    × ((k : ℕ) → Contains l.initial.e-iterator k → Contains l.e-iterator k ⊎ EndsAt l.graph.graph l.target k)
