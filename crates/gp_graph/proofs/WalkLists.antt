@@ -6,10 +6,10 @@ use Rattle.gp_graph.specs.Slots.{slot_in}
 use Rattle.gp_graph.specs.Places.{places}
 use Rattle.gp_graph.specs.Walks.{AreApart, Walks}
 
-pub here : (y : ℕ) (ys : List ℕ) (k : ℕ) → y ≡ k → Contains (y ∷ ys) k
+here : (y : ℕ) (ys : List ℕ) (k : ℕ) → y ≡ k → Contains (y ∷ ys) k
 here y ys k e = (0, omega arith, e)
 
-later : (y : ℕ) (ys : List ℕ) (k : ℕ) → Contains ys k → Contains (y ∷ ys) k
+pub later : (y : ℕ) (ys : List ℕ) (k : ℕ) → Contains ys k → Contains (y ∷ ys) k
 later y ys k h = (suc h.0, (let b = h.1 in omega arith), h.2)
 
 first_or_later-at : (y : ℕ) (ys : List ℕ) (k i : ℕ) → i < length (y ∷ ys) → get_or (y ∷ ys) i k ≡ k → (y ≡ k) ⊎ Contains ys k

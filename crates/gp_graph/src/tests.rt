@@ -60,7 +60,8 @@ fn leads_only_to(graph: &Graph, n: u64, target: u64) -> bool
     for e in graph.out_edges(n) {
         match graph.edge(e) {
             Some((_, end, _, _)) if end == target => {}
-            _ => return false,
+            Some(_) => return false,
+            None => unreachable!(),
         }
     }
     true
