@@ -218,8 +218,8 @@ impl Graph {
         requires { IsSome (node_at self.now.graph n) }
         ensures { result ≡ (in_degree self.now.graph n, out_degree self.now.graph n) }
     {
-        let ending = over_edges(&self.edges, Ends::To(n)).count();
-        let beginning = over_edges(&self.edges, Ends::From(n)).count();
+        let ending = self.in_edges(n).count();
+        let beginning = self.out_edges(n).count();
         (ending as u64, beginning as u64)
     }
 
