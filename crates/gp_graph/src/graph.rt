@@ -1,9 +1,11 @@
 //! Graphs, in two vectors of slots.
 
-ghost use Rattle.std.specs.Prelude.{◌≡◌, ◌<◌, ◌≤◌, ◌+◌, IsOk, IfOk, OnOk, OnErr, IsSome, Some, None, MatchOption, IfSome};
-ghost use Rattle.gp_values.specs.Graph.{IsGraph, HasNoEdges, empty_graph, with_node, with_edge, without_node, without_edge, relabeled, node_at, edge_at};
+ghost use Rattle.std.specs.Prelude.{◌≡◌, ◌<◌, ◌≤◌, ◌+◌, ◌^◌, length, IsOk, IfOk, OnOk, OnErr, IsSome, Some, None, MatchOption, IfSome};
+ghost use Rattle.gp_values.specs.Graph.{IsGraph, HasNoEdges, empty_graph, with_node, with_edge, without_node, without_edge, relabeled, node_at, edge_at, in_degree, out_degree};
+ghost use Rattle.gp_graph.specs.Walks.{Walks, IsRoot, BeginsAt, EndsAt, GoesBetween};
 
-use crate::slots::{EdgeSlot, NodeSlot, append, look, put};
+use crate::slots::{EdgeSlot, NodeSlot, append, copy_of, look, put};
+use crate::walk::{Ends, Walk, over_edges, over_roots};
 use gp_values::{EdgeMark, List, NoMemory, NodeMark};
 use std::alloc::Global;
 use std::marker::Model;
@@ -173,5 +175,61 @@ impl Graph {
         ensures sound { IsGraph self.now.graph }
     {
         (self.nodes.len() as u64, self.edges.len() as u64)
+    }
+
+    /// The numbers of the roots.
+    pub fn roots(&self) -> Walk<'_>
+        ensures walks { Walks result (IsRoot self.now.graph) }
+        ensures fits { length result < 2 ^ 64 }
+    {
+        over_roots(&self.nodes)
+    }
+
+    /// The numbers of the edges that begin at a node. A loop is among them.
+    pub fn out_edges(&self, n: u64) -> Walk<'_>
+        requires { IsSome (node_at self.now.graph n) }
+        ensures walks { Walks result (BeginsAt self.now.graph n) }
+        ensures fits { length result < 2 ^ 64 }
+    {
+        over_edges(&self.edges, Ends::From(n))
+    }
+
+    /// The numbers of the edges that end at a node. A loop is among them.
+    pub fn in_edges(&self, n: u64) -> Walk<'_>
+        requires { IsSome (node_at self.now.graph n) }
+        ensures walks { Walks result (EndsAt self.now.graph n) }
+        ensures fits { length result < 2 ^ 64 }
+    {
+        over_edges(&self.edges, Ends::To(n))
+    }
+
+    /// The numbers of the edges that go from the node `source` to the node `target`.
+    pub fn edges_between(&self, source: u64, target: u64) -> Walk<'_>
+        requires source { IsSome (node_at self.now.graph source) }
+        requires target { IsSome (node_at self.now.graph target) }
+        ensures walks { Walks result (GoesBetween self.now.graph source target) }
+        ensures fits { length result < 2 ^ 64 }
+    {
+        over_edges(&self.edges, Ends::Between(source, target))
+    }
+
+    /// How many edges end and how many begin at a node. A loop counts once in each.
+    pub fn degrees(&self, n: u64) -> (u64, u64)
+        requires { IsSome (node_at self.now.graph n) }
+        ensures { result ≡ (in_degree self.now.graph n, out_degree self.now.graph n) }
+    {
+        let ending = self.in_edges(n).count();
+        let beginning = self.out_edges(n).count();
+        (ending as u64, beginning as u64)
+    }
+
+    /// The same graph in memory of its own.
+    pub fn copy(&self, alloc: Global) -> Result<Graph, NoMemory>
+        ensures { IfOk result (λ copied. copied.graph ≡ self.now.graph) }
+    {
+        Ok(Graph {
+            nodes: copy_of(&self.nodes, alloc)?,
+            edges: copy_of(&self.edges, alloc)?,
+        })
     }
 }

@@ -5,5 +5,7 @@ mod graph;
 mod slots;
 #[cfg(test)]
 mod tests;
+mod walk;
 
 pub use graph::Graph;
+pub use walk::Walk;

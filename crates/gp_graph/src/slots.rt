@@ -1,12 +1,20 @@
 //! Vectors of optional slots, each at the place of its number.
 
-ghost use Rattle.std.specs.Prelude.{◌≡◌, ◌<◌, ◌≤◌, ◌+◌, ◌-◌, [], ◌∷◌, ◌++◌, IsOk, OnOk, OnErr, Some, slice_get, slice_set, vec_capacity, vec_len};
+ghost use Rattle.std.specs.Prelude.{◌≡◌, ◌<◌, ◌≤◌, ◌+◌, ◌-◌, [], ◌∷◌, ◌++◌, IsOk, IfOk, OnOk, OnErr, Some, slice_get, slice_set, vec_capacity, vec_len};
 ghost use Rattle.std.specs.Option.{option_copied};
 ghost use Rattle.gp_values.specs.Atoms.{AreAtoms};
 ghost use Rattle.gp_graph.specs.Slots.{slot_in};
 
 use gp_values::{EdgeMark, List, NoMemory, NodeMark};
+use std::alloc::Global;
 use std::mem;
+
+/// What a slot has, which can be copied.
+pub(crate) trait Content: Sized + Drop {
+    /// A copy of its own memory.
+    fn copy(&self, alloc: Global) -> Result<Self, NoMemory>
+        ensures { IfOk result (λ x. x ≡ self.now) };
+}
 
 /// What a node carries.
 #[derive(Drop)]
@@ -23,6 +31,16 @@ impl NodeSlot {
     {
         let _atoms = label.atoms();
         NodeSlot { label, mark, root }
+    }
+}
+
+impl Content for NodeSlot {
+    fn copy(&self, alloc: Global) -> Result<NodeSlot, NoMemory> {
+        Ok(NodeSlot {
+            label: self.label.copy(alloc)?,
+            mark: self.mark,
+            root: self.root,
+        })
     }
 }
 
@@ -48,6 +66,35 @@ impl EdgeSlot {
             mark,
         }
     }
+}
+
+impl Content for EdgeSlot {
+    fn copy(&self, alloc: Global) -> Result<EdgeSlot, NoMemory> {
+        Ok(EdgeSlot {
+            source: self.source,
+            target: self.target,
+            label: self.label.copy(alloc)?,
+            mark: self.mark,
+        })
+    }
+}
+
+// The same slots in memory of their own.
+pub(crate) fn copy_of<T: Content>(
+    slots: &[Option<T>],
+    alloc: Global,
+) -> Result<Vec<Option<T>>, NoMemory>
+    ensures { IfOk result (λ v. v.items ≡ slots.now) }
+{
+    let mut copies = Vec::with_capacity(alloc, slots.len())?;
+    for slot in slots {
+        let copied = match slot {
+            Some(content) => Some(content.copy(alloc)?),
+            None => None,
+        };
+        copies.push(copied)?;
+    }
+    Ok(copies)
 }
 
 // Adds a slot at the end.

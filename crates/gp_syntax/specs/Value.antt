@@ -1,9 +1,8 @@
 -- The value of an expression (Plump 2012, section 2: labels and their evaluation).
-use Rattle.std.specs.Prelude.{ℕ, zero, ℤ, pos, negsuc, neg_ℤ, ◌+ℤ◌, ◌-ℤ◌, ◌*ℤ◌, int_div, int_lt, int_le, ◌^◌, ◌-◌, ◌==◌, ◌&&◌, Bool, true, false, if◌then◌else◌, List, [], ◌∷◌, ◌++◌, length, count_by, slice_index, slice_index_or}
-use Rattle.std.specs.FinMap.{entries}
+use Rattle.std.specs.Prelude.{ℕ, zero, ℤ, pos, negsuc, neg_ℤ, ◌+ℤ◌, ◌-ℤ◌, ◌*ℤ◌, int_div, int_lt, int_le, ◌^◌, ◌-◌, ◌&&◌, Bool, true, false, if◌then◌else◌, List, [], ◌∷◌, ◌++◌, length, slice_index, slice_index_or}
 use Rattle.gp_values.specs.declared.atom.Atom.{Atom}
 use Rattle.gp_values.specs.declared.atom.Atom.TheVariants.{Int, Str}
-use Rattle.gp_values.specs.Graph.{Graph, Edge}
+use Rattle.gp_values.specs.Graph.{Graph, in_degree, out_degree}
 use Rattle.gp_syntax.specs.declared.kinds.NumberKind.{NumberKind}
 use Rattle.gp_syntax.specs.declared.kinds.NumberKind.TheVariants.{PastBits, ZeroDivisor}
 use Rattle.gp_syntax.specs.declared.kinds.VariableType.{VariableType}
@@ -72,13 +71,6 @@ ranged z = if int_le (negsuc (2 ^ 127 - 1)) z && int_lt z (pos (2 ^ 127)) then V
 abbrev pub quotient : ℤ → ℤ → Valued (List Atom)
 quotient x (pos zero) = NoValue ZeroDivisor
 quotient x y = ranged (int_div x y)
-
--- how many edges end and how many begin at a node; a loop counts once in each
-abbrev pub in_degree : Graph → ℕ → ℕ
-in_degree g n = count_by (λ (e : ℕ × Edge). e.1.target == n) (entries g.edges)
-
-abbrev pub out_degree : Graph → ℕ → ℕ
-out_degree g n = count_by (λ (e : ℕ × Edge). e.1.source == n) (entries g.edges)
 
 -- the length of a variable's value, by its declared type: of a list its atoms, of a string or char its characters, of
 -- an atom the characters of a string, and 1 for an integer

@@ -1,6 +1,6 @@
 -- A host graph, as every contract sees it: two finite maps from numbers, and the two next numbers (Plump 2012,
 -- section 2: graphs over labels; Bak 2015: root nodes and marks).
-use Rattle.std.specs.Prelude.{◌≡◌, ℕ, ◌+◌, ◌<◌, Bool, List, refl, Option, IsSome, Some}
+use Rattle.std.specs.Prelude.{◌≡◌, ℕ, ◌+◌, ◌<◌, ◌==◌, Bool, List, count_by, refl, Option, IsSome, Some}
 use Rattle.std.specs.Coded.{Coded, code_by, coded×, coded_ℕ, coded_bool, coded_list}
 use Rattle.std.specs.Ordering.{nat_cmp}
 use Rattle.std.specs.FinMap as map
@@ -39,6 +39,13 @@ node_at g n = map.get g.nodes n
 
 abbrev pub edge_at : Graph → ℕ → Option Edge
 edge_at g e = map.get g.edges e
+
+-- how many edges end and how many begin at a node; a loop counts once in each
+abbrev pub in_degree : Graph → ℕ → ℕ
+in_degree g n = count_by (λ (e : ℕ × Edge). e.1.target == n) (map.entries g.edges)
+
+abbrev pub out_degree : Graph → ℕ → ℕ
+out_degree g n = count_by (λ (e : ℕ × Edge). e.1.source == n) (map.entries g.edges)
 
 -- Used numbers are below the next ones, the ends of edges are nodes, and labels are lists of atoms in their ranges.
 pub record IsGraph (g : Graph) : Type 0 where
