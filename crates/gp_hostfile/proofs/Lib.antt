@@ -1,3 +1,5 @@
 pub mod Tables
+pub mod Shapes
+pub mod Spelled
 pub mod Sorted
 pub mod Lines
