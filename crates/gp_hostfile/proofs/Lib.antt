@@ -1,4 +1,5 @@
 pub mod Tables
+pub mod Faults
 pub mod Shapes
 pub mod Spelled
 pub mod Sorted

@@ -1,6 +1,7 @@
 //! Host texts into graphs, and graphs into texts.
 #![tactic(auto)]
 
+mod check;
 mod fault;
 mod grammar;
 pub mod laws;
