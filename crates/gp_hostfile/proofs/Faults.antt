@@ -52,6 +52,10 @@ told_alike : {A B : Type 0} (f g : A → Option B) → ((x : A) → f x ≡ g x)
 told_alike f g e [] = refl
 told_alike f g e (x ∷ xs) = λ i. option_or (e x i) (told_alike f g e xs i)
 
+pub neither : {A : Type 0} (a b : Option A) → option_or a b ≡ None → (a ≡ None) × (b ≡ None)
+neither None b h = (refl, h)
+neither (Some x) b h = absurd cc
+
 -- ---- places
 
 some_position : (t : Name → Bool) (i : ℕ) (names : List Name) → is_some (position_from t i names) ≡ list_any t names
@@ -135,3 +139,11 @@ module _ (t : HostTree) where
 
   pub none_stops : number_checks t ≡ None → two_nodes ≡ None → two_edges ≡ None → no_end ≡ None → mark_checks t ≡ None → first_fault t ≡ None
   none_stops a b c d e = in_turn ∙ rw (a, b, c, d) e
+
+  pub clear : first_fault t ≡ None → (number_checks t ≡ None) × (no_end ≡ None) × (mark_checks t ≡ None)
+  clear h =
+      let a = neither (number_checks t) _ (sym in_turn ∙ h) in
+      let b = neither two_nodes _ a.1 in
+      let c = neither two_edges _ b.1 in
+      let d = neither no_end (mark_checks t) c.1 in
+      (a.0, d.0, d.1)

@@ -2,6 +2,7 @@
 #![tactic(auto)]
 
 mod check;
+mod draw;
 mod fault;
 mod grammar;
 pub mod laws;

@@ -6,7 +6,7 @@ use Rattle.gp_hostfile.proofs.check.check.Goals as goal
 pub returns-in_err-check_numbers-clause-fault : goal.returns-in_err-check_numbers-clause-fault
 returns-in_err-check_numbers-clause-fault c =
     let p = err_from_is_err_and c.from_residual.result c.from_residual.ensures.1 in
-    rw (p.1, p.2) (number_stops (tree_in c.args.tree.now) c.in_err-check_numbers.field-0.0  c.in_err-check_numbers.ensures)
+    rw (p.1, p.2) (number_stops (tree_in c.args.tree.now) c.in_err-check_numbers.field-0.0 c.in_err-check_numbers.ensures)
 
 pub returns-in_err-nodes-clause-fault : goal.returns-in_err-nodes-clause-fault
 returns-in_err-nodes-clause-fault c =
