@@ -1,32 +1,28 @@
 -- What was made is what was drawn.
-use Rattle.std.proofs.Common.{◌≡◌, ℕ, zero, suc, ◌+◌, ◌<◌, ◌≢◌, Bool, true, false, cond, ◌&&◌, ◌||◌, List, [], ◌∷◌, ◌++◌, length, map, Option, Some, None, refl, sym, ap, subst, ◌∙◌, append_assoc, arith}
-use Rattle.std.proofs.lemmas.List.{append-nil}
-use Rattle.std.specs.Prelude.{if◌then◌else◌, slice_get, IsSome, is_some, flat_map}
-use Rattle.std.specs.List.{list_all, list_any, position_from}
-use Rattle.gp_grammar.specs.declared.graph.NodeTree.{NodeTree}
-use Rattle.gp_grammar.specs.declared.graph.EdgeTree.{EdgeTree}
+use Rattle.std.proofs.Common.{◌≡◌, ℕ, zero, suc, ◌+◌, ◌<◌, ◌≢◌, Bool, true, false, cond, List, [], ◌∷◌, length, map, Option, Some, None, refl, sym, ap, subst, ◌∙◌, arith}
+use Rattle.std.specs.Prelude.{slice_get, IsSome, option_map}
+use Rattle.std.specs.List.{position_from}
 use Rattle.gp_grammar.specs.Reading.{◌>>=◌}
-use Rattle.gp_grammar.specs.Labels.{label_of}
+use Rattle.gp_grammar.specs.Labels.{integer_of}
 use Rattle.gp_grammar.proofs.Shapes.{bind_some, some_is}
 use Rattle.gp_values.specs.declared.atom.Atom.{Atom}
-use Rattle.gp_values.specs.Names.{Name, same_name, has_name, place_of, first_doubled_behind, first_unknown}
-use Rattle.gp_values.specs.Graph.{Graph, node_at, edge_at, with_node, with_edge, empty_graph}
+use Rattle.gp_values.specs.declared.atom.Atom.TheVariants.{Int, Str}
+use Rattle.gp_values.specs.declared.marks.NodeMark.{NodeMark}
+use Rattle.gp_values.specs.declared.marks.EdgeMark.{EdgeMark}
+use Rattle.gp_values.specs.Names.{Name, same_name, place_of}
+use Rattle.gp_values.specs.Graph.{Graph, Node, Edge, node_at, edge_at, with_node, with_edge, empty_graph}
 use Rattle.gp_values.proofs.Graphs.{get-insert_here, get-insert_apart}
-use Rattle.gp_hostfile.specs.Host.{IsDrawnNode, IsDrawnEdge}
-use Rattle.gp_hostfile.specs.Drawn.{SoFar, one_name_more, plain_node, plain_edge, one_node_more, nodes_made, one_edge_more, edges_made, AreNodes}
+use Rattle.gp_hostfile.specs.declared.tree.AtomTree.{AtomTree}
+use Rattle.gp_hostfile.specs.declared.tree.AtomTree.TheVariants as atoms
+use Rattle.gp_hostfile.specs.declared.tree.NodeTree.{NodeTree}
+use Rattle.gp_hostfile.specs.declared.tree.EdgeTree.{EdgeTree}
+use Rattle.gp_hostfile.specs.declared.fault.HostFault.{HostFault}
+use Rattle.gp_hostfile.specs.declared.fault.HostFault.TheVariants as faults
+use Rattle.gp_hostfile.specs.Host.{IsDrawnNode, IsDrawnEdge, atom_of, atoms_of, node_mark, edge_mark, first_told, unless}
+use Rattle.gp_hostfile.proofs.Faults.{neither}
+use Rattle.gp_hostfile.specs.Drawn.{one_node_more, nodes_made, one_edge_more, edges_made, AreNodes, atom_fault, label_fault, end_fault, ends_fault, node_mark_fault, edge_mark_fault}
 
 -- ---- places
-
-some_position : (t : Name → Bool) (i : ℕ) (names : List Name) → is_some (position_from t i names) ≡ list_any t names
-some_position t i [] = refl
-some_position t i (n ∷ names) = go (t n) (some_position t (i + 1) names)
-  where
-    go : (b : Bool) → is_some (position_from t (i + 1) names) ≡ list_any t names → is_some (cond b (Some i) (position_from t (i + 1) names)) ≡ (b || list_any t names)
-    go true h = refl
-    go false h = h
-
-pub has_place : (names : List Name) (n : Name) → is_some (place_of names n) ≡ has_name names n
-has_place names n = some_position (same_name n) 0 names
 
 position_below : (t : Name → Bool) (i : ℕ) (names : List Name) (s : ℕ) → position_from t i names ≡ Some s → s < i + length names
 position_below t i [] s h = absurd cc
@@ -36,61 +32,45 @@ position_below t i (n ∷ names) s h = go (t n) h (position_below t (i + 1) name
     go true h below = let e : i ≡ s = some_is i s h in omega arith
     go false h below = let lt : s < (i + 1) + length names = below h in omega arith
 
-pub place_below : (names : List Name) (n : Name) (s : ℕ) → place_of names n ≡ Some s → s < length names
-place_below names n s h = omega (arith, position_below (same_name n) 0 names s h)
-
 pub is_node : (names : List Name) (g : Graph) (n : Name) (s : ℕ) → AreNodes names g → place_of names n ≡ Some s → IsSome (node_at g s)
-is_node names g n s nodes h = nodes s (place_below names n s h)
+is_node names g n s nodes h = nodes s (omega (arith, position_below (same_name n) 0 names s h))
 
 -- ---- nodes
 
-pub record AreDrawnNodes (ns : List NodeTree) (old new : SoFar) : Type 0 where
-  pub names : new.0 ≡ old.0 ++ map (λ (n : NodeTree). n.name) ns
-  pub fresh : first_doubled_behind old.0 (map (λ (n : NodeTree). n.name) ns) ≡ None
-  pub labels : list_all (λ l. is_some (label_of l)) (map (λ (n : NodeTree). n.label) ns) ≡ true
-  pub next_node : new.1.next_node ≡ old.1.next_node + length ns
-  pub edges : new.1.edges ≡ old.1.edges
-  pub next_edge : new.1.next_edge ≡ old.1.next_edge
-  pub before : (k : ℕ) → k < old.1.next_node → node_at new.1 k ≡ node_at old.1 k
-  pub here : (i : ℕ) (n : NodeTree) → slice_get ns i ≡ Some n → IsDrawnNode n (node_at new.1 (old.1.next_node + i))
+abbrev drawn_node : NodeTree → NodeMark → List Atom → Node
+drawn_node n m v = record { label = v; mark = m; root = n.root }
 
-name_added : (names : List Name) (n : Name) (after : List Name) → one_name_more names n ≡ Some after → (has_name names n ≡ false) × (after ≡ names ++ n ∷ [])
-name_added names n after h = go (has_name names n) refl h
-  where
-    go : (b : Bool) → has_name names n ≡ b → (if b then None else Some (names ++ n ∷ [])) ≡ Some after → (has_name names n ≡ false) × (after ≡ names ++ n ∷ [])
-    go true e h = absurd cc
-    go false e h = (e, sym (some_is _ _ h))
+pub record AreDrawnNodes (ns : List NodeTree) (old new : Graph) : Type 0 where
+  pub next_node : new.next_node ≡ old.next_node + length ns
+  pub edges : new.edges ≡ old.edges
+  pub next_edge : new.next_edge ≡ old.next_edge
+  pub before : (k : ℕ) → k < old.next_node → node_at new k ≡ node_at old k
+  pub here : (i : ℕ) (n : NodeTree) → slice_get ns i ≡ Some n → IsDrawnNode n (node_at new (old.next_node + i))
 
-first_node : (n : NodeTree) (ns : List NodeTree) (old new : SoFar) (v : List Atom) → has_name old.0 n.name ≡ false → label_of n.label ≡ Some v
-    → AreDrawnNodes ns (old.0 ++ n.name ∷ [], with_node old.1 (plain_node v)) new → AreDrawnNodes (n ∷ ns) old new
-first_node n ns old new v free means rest = record {
-  names = rest.names ∙ append_assoc old.0 (n.name ∷ []) (map (λ (n : NodeTree). n.name) ns);
-  fresh = rw free rest.fresh;
-  labels = rw means rest.labels;
+first_node : (n : NodeTree) (ns : List NodeTree) (old new : Graph) (m : NodeMark) (v : List Atom) → node_mark n.mark ≡ Some m → atoms_of n.label ≡ Some v
+    → AreDrawnNodes ns (with_node old (drawn_node n m v)) new → AreDrawnNodes (n ∷ ns) old new
+first_node n ns old new m v marked means rest = record {
   next_node = omega (arith, rest.next_node);
   edges = rest.edges;
   next_edge = rest.next_edge;
-  before = λ k lt. let ne : k ≢ old.1.next_node = omega arith in rest.before k (omega arith) ∙ get-insert_apart old.1.nodes old.1.next_node k (plain_node v) ne;
+  before = λ k lt. let ne : k ≢ old.next_node = omega arith in rest.before k (omega arith) ∙ get-insert_apart old.nodes old.next_node k (drawn_node n m v) ne;
   here = here;
 }
   where
-    here : (i : ℕ) (m : NodeTree) → slice_get (n ∷ ns) i ≡ Some m → IsDrawnNode m (node_at new.1 (old.1.next_node + i))
-    here zero m h =
-        let e : n ≡ m = some_is n m h in
-        let k : old.1.next_node + 0 ≡ old.1.next_node = omega arith in
-        subst (λ (x : NodeTree). IsDrawnNode x (node_at new.1 (old.1.next_node + 0))) e
-        (record { label = v; means = means; is = rw k (rest.before old.1.next_node (omega arith) ∙ get-insert_here old.1.nodes old.1.next_node (plain_node v)) })
-    here (suc i) m h =
-        let k : (old.1.next_node + 1) + i ≡ old.1.next_node + suc i = omega arith in
-        subst (λ j. IsDrawnNode m (node_at new.1 j)) k (rest.here i m h)
+    here : (i : ℕ) (x : NodeTree) → slice_get (n ∷ ns) i ≡ Some x → IsDrawnNode x (node_at new (old.next_node + i))
+    here zero x h =
+        let e : n ≡ x = some_is n x h in
+        let k : old.next_node + 0 ≡ old.next_node = omega arith in
+        subst (λ (x : NodeTree). IsDrawnNode x (node_at new (old.next_node + 0))) e
+        (record { label = v; mark = m; label_is = means; mark_is = marked; is = rw k (rest.before old.next_node (omega arith) ∙ get-insert_here old.nodes old.next_node (drawn_node n m v)) })
+    here (suc i) x h =
+        let k : (old.next_node + 1) + i ≡ old.next_node + suc i = omega arith in
+        subst (λ j. IsDrawnNode x (node_at new j)) k (rest.here i x h)
 
-pub nodes_sound : (ns : List NodeTree) (old new : SoFar) → nodes_made ns old ≡ Some new → AreDrawnNodes ns old new
+pub nodes_sound : (ns : List NodeTree) (old new : Graph) → nodes_made ns old ≡ Some new → AreDrawnNodes ns old new
 unfolding nodes_made
 nodes_sound [] old new h =
     subst (AreDrawnNodes [] old) (some_is old new h) (record {
-      names = sym (append-nil old.0);
-      fresh = refl;
-      labels = refl;
       next_node = omega arith;
       edges = refl;
       next_edge = refl;
@@ -99,82 +79,70 @@ nodes_sound [] old new h =
     })
 nodes_sound (n ∷ ns) old new h =
     let a = bind_some (one_node_more n old) (nodes_made ns) new h in
-    let b = bind_some (one_name_more old.0 n.name) (λ names. label_of n.label >>= λ v. Some (names, with_node old.1 (plain_node v))) a.0 a.1 in
-    let d = bind_some (label_of n.label) (λ v. Some (b.0, with_node old.1 (plain_node v))) a.0 b.2 in
-    let f = name_added old.0 n.name b.0 b.1 in
-    let e : a.0 ≡ (old.0 ++ n.name ∷ [], with_node old.1 (plain_node d.0)) = sym (some_is (b.0, with_node old.1 (plain_node d.0)) a.0 d.2) ∙ ap (λ (x : List Name). (x, with_node old.1 (plain_node d.0))) f.1 in
-    first_node n ns old new d.0 f.0 d.1 (subst (λ (s : SoFar). AreDrawnNodes ns s new) e (nodes_sound ns a.0 new a.2))
+    let m = bind_some (node_mark n.mark) (λ m. atoms_of n.label >>= λ v. Some (with_node old (drawn_node n m v))) a.0 a.1 in
+    let v = bind_some (atoms_of n.label) (λ v. Some (with_node old (drawn_node n m.0 v))) a.0 m.2 in
+    let e : a.0 ≡ with_node old (drawn_node n m.0 v.0) = sym (some_is (with_node old (drawn_node n m.0 v.0)) a.0 v.2) in
+    first_node n ns old new m.0 v.0 m.1 v.1 (subst (λ (g : Graph). AreDrawnNodes ns g new) e (nodes_sound ns a.0 new a.2))
 
 slice_get_some : {A : Type 0} (xs : List A) (k : ℕ) → k < length xs → (x : A) × (slice_get xs k ≡ Some x)
 slice_get_some [] k lt = absurd (omega arith)
 slice_get_some (x ∷ xs) zero lt = (x, refl)
 slice_get_some (x ∷ xs) (suc k) lt = slice_get_some xs k (omega arith)
 
-pub length_mapped : {A B : Type 0} (f : A → B) (xs : List A) → length (map f xs) ≡ length xs
-length_mapped f [] = refl
-length_mapped f (x ∷ xs) = ap suc (length_mapped f xs)
-
-pub are_nodes : (ns : List NodeTree) (new : SoFar) → nodes_made ns ([], empty_graph) ≡ Some new → AreNodes new.0 new.1
-are_nodes ns new h k lt =
-    let d = nodes_sound ns ([], empty_graph) new h in
-    let e : length new.0 ≡ length ns = ap length d.names ∙ length_mapped _ ns in
+pub are_nodes : (ns : List NodeTree) (names : List Name) (g : Graph) → length names ≡ length ns → nodes_made ns empty_graph ≡ Some g → AreNodes names g
+are_nodes ns names g count h k lt =
+    let d = nodes_sound ns empty_graph g h in
     let x = slice_get_some ns k (omega arith) in
-    let j : 0 + k ≡ k = omega arith in
-    ap is_some (subst (λ j. IsDrawnNode x.0 (node_at new.1 j)) j (d.here k x.0 x.1)).is
+    let z : 0 + k ≡ k = omega arith in
+    let p : IsDrawnNode x.0 (node_at g k) = subst (λ j. IsDrawnNode x.0 (node_at g j)) z (d.here k x.0 x.1) in
+    rw p.is refl
 
 -- ---- edges
 
-pub record AreDrawnEdges (nodes : List Name) (es : List EdgeTree) (old new : SoFar) : Type 0 where
-  pub fresh : first_doubled_behind old.0 (map (λ (e : EdgeTree). e.name) es) ≡ None
-  pub labels : list_all (λ l. is_some (label_of l)) (map (λ (e : EdgeTree). e.label) es) ≡ true
-  pub ends : first_unknown nodes (flat_map (λ (e : EdgeTree). e.source ∷ e.target ∷ []) es) ≡ None
-  pub all_nodes : new.1.nodes ≡ old.1.nodes
-  pub next_node : new.1.next_node ≡ old.1.next_node
-  pub next_edge : new.1.next_edge ≡ old.1.next_edge + length es
-  pub before : (k : ℕ) → k < old.1.next_edge → edge_at new.1 k ≡ edge_at old.1 k
-  pub here : (i : ℕ) (e : EdgeTree) → slice_get es i ≡ Some e → IsDrawnEdge nodes e (edge_at new.1 (old.1.next_edge + i))
+abbrev drawn_edge : ℕ → ℕ → EdgeMark → List Atom → Edge
+drawn_edge s t m v = record { source = s; target = t; label = v; mark = m }
 
-known : (names : List Name) (n : Name) (s : ℕ) → place_of names n ≡ Some s → has_name names n ≡ true
-known names n s h = sym (has_place names n) ∙ ap is_some h
+pub record AreDrawnEdges (nodes : List Name) (es : List EdgeTree) (old new : Graph) : Type 0 where
+  pub all_nodes : new.nodes ≡ old.nodes
+  pub next_node : new.next_node ≡ old.next_node
+  pub next_edge : new.next_edge ≡ old.next_edge + length es
+  pub before : (k : ℕ) → k < old.next_edge → edge_at new k ≡ edge_at old k
+  pub here : (i : ℕ) (e : EdgeTree) → slice_get es i ≡ Some e → IsDrawnEdge nodes e (edge_at new (old.next_edge + i))
 
-first_edge : (nodes : List Name) (e : EdgeTree) (es : List EdgeTree) (old new : SoFar) (s t : ℕ) (v : List Atom) → has_name old.0 e.name ≡ false
-    → place_of nodes e.source ≡ Some s → place_of nodes e.target ≡ Some t → label_of e.label ≡ Some v
-    → AreDrawnEdges nodes es (old.0 ++ e.name ∷ [], with_edge old.1 (plain_edge s t v)) new → AreDrawnEdges nodes (e ∷ es) old new
-first_edge nodes e es old new s t v free begins ends means rest = record {
-  fresh = rw free rest.fresh;
-  labels = rw means rest.labels;
-  ends = rw (known nodes e.source s begins, known nodes e.target t ends) rest.ends;
+first_edge : (nodes : List Name) (e : EdgeTree) (es : List EdgeTree) (old new : Graph) (s t : ℕ) (m : EdgeMark) (v : List Atom)
+    → place_of nodes e.source ≡ Some s → place_of nodes e.target ≡ Some t → edge_mark e.mark ≡ Some m → atoms_of e.label ≡ Some v
+    → AreDrawnEdges nodes es (with_edge old (drawn_edge s t m v)) new → AreDrawnEdges nodes (e ∷ es) old new
+first_edge nodes e es old new s t m v begins ends marked means rest = record {
   all_nodes = rest.all_nodes;
   next_node = rest.next_node;
   next_edge = omega (arith, rest.next_edge);
-  before = λ k lt. let ne : k ≢ old.1.next_edge = omega arith in rest.before k (omega arith) ∙ get-insert_apart old.1.edges old.1.next_edge k (plain_edge s t v) ne;
+  before = λ k lt. let ne : k ≢ old.next_edge = omega arith in rest.before k (omega arith) ∙ get-insert_apart old.edges old.next_edge k (drawn_edge s t m v) ne;
   here = here;
 }
   where
-    here : (i : ℕ) (m : EdgeTree) → slice_get (e ∷ es) i ≡ Some m → IsDrawnEdge nodes m (edge_at new.1 (old.1.next_edge + i))
-    here zero m h =
-        let k : old.1.next_edge + 0 ≡ old.1.next_edge = omega arith in
-        subst (λ (x : EdgeTree). IsDrawnEdge nodes x (edge_at new.1 (old.1.next_edge + 0))) (some_is e m h)
+    here : (i : ℕ) (x : EdgeTree) → slice_get (e ∷ es) i ≡ Some x → IsDrawnEdge nodes x (edge_at new (old.next_edge + i))
+    here zero x h =
+        let k : old.next_edge + 0 ≡ old.next_edge = omega arith in
+        subst (λ (x : EdgeTree). IsDrawnEdge nodes x (edge_at new (old.next_edge + 0))) (some_is e x h)
         (record {
           source = s;
           target = t;
           label = v;
+          mark = m;
           begins = begins;
           ends = ends;
-          means = means;
-          is = rw k (rest.before old.1.next_edge (omega arith) ∙ get-insert_here old.1.edges old.1.next_edge (plain_edge s t v));
+          label_is = means;
+          mark_is = marked;
+          is = rw k (rest.before old.next_edge (omega arith) ∙ get-insert_here old.edges old.next_edge (drawn_edge s t m v));
         })
-    here (suc i) m h =
-        let k : (old.1.next_edge + 1) + i ≡ old.1.next_edge + suc i = omega arith in
-        subst (λ j. IsDrawnEdge nodes m (edge_at new.1 j)) k (rest.here i m h)
+    here (suc i) x h =
+        let k : (old.next_edge + 1) + i ≡ old.next_edge + suc i = omega arith in
+        subst (λ j. IsDrawnEdge nodes x (edge_at new j)) k (rest.here i x h)
 
-pub edges_sound : (nodes : List Name) (es : List EdgeTree) (old new : SoFar) → edges_made nodes es old ≡ Some new → AreDrawnEdges nodes es old new
+pub edges_sound : (nodes : List Name) (es : List EdgeTree) (old new : Graph) → edges_made nodes es old ≡ Some new → AreDrawnEdges nodes es old new
 unfolding edges_made
 edges_sound nodes [] old new h =
     subst (AreDrawnEdges nodes [] old) (some_is old new h) (record {
-      fresh = refl;
-      labels = refl;
-      ends = refl;
       all_nodes = refl;
       next_node = refl;
       next_edge = omega arith;
@@ -183,60 +151,63 @@ edges_sound nodes [] old new h =
     })
 edges_sound nodes (e ∷ es) old new h =
     let a = bind_some (one_edge_more nodes e old) (edges_made nodes es) new h in
-    let b =
-    bind_some (one_name_more old.0 e.name)
-    (λ names. place_of nodes e.source >>= λ s. place_of nodes e.target >>= λ t. label_of e.label >>= λ v. Some (names, with_edge old.1 (plain_edge s t v))) a.0 a.1
-    in
-    let s = bind_some (place_of nodes e.source) (λ s. place_of nodes e.target >>= λ t. label_of e.label >>= λ v. Some (b.0, with_edge old.1 (plain_edge s t v))) a.0 b.2 in
-    let t = bind_some (place_of nodes e.target) (λ t. label_of e.label >>= λ v. Some (b.0, with_edge old.1 (plain_edge s.0 t v))) a.0 s.2 in
-    let d = bind_some (label_of e.label) (λ v. Some (b.0, with_edge old.1 (plain_edge s.0 t.0 v))) a.0 t.2 in
-    let f = name_added old.0 e.name b.0 b.1 in
-    let same : a.0 ≡ (old.0 ++ e.name ∷ [], with_edge old.1 (plain_edge s.0 t.0 d.0)) = sym (some_is (b.0, with_edge old.1 (plain_edge s.0 t.0 d.0)) a.0 d.2) ∙ ap (λ (x : List Name). (x, with_edge old.1 (plain_edge s.0 t.0 d.0))) f.1 in
-    first_edge nodes e es old new s.0 t.0 d.0 f.0 s.1 t.1 d.1 (subst (λ (z : SoFar). AreDrawnEdges nodes es z new) same (edges_sound nodes es a.0 new a.2))
+    let s = bind_some (place_of nodes e.source) (λ s. place_of nodes e.target >>= λ t. edge_mark e.mark >>= λ m. atoms_of e.label >>= λ v. Some (with_edge old (drawn_edge s t m v))) a.0 a.1 in
+    let t = bind_some (place_of nodes e.target) (λ t. edge_mark e.mark >>= λ m. atoms_of e.label >>= λ v. Some (with_edge old (drawn_edge s.0 t m v))) a.0 s.2 in
+    let m = bind_some (edge_mark e.mark) (λ m. atoms_of e.label >>= λ v. Some (with_edge old (drawn_edge s.0 t.0 m v))) a.0 t.2 in
+    let v = bind_some (atoms_of e.label) (λ v. Some (with_edge old (drawn_edge s.0 t.0 m.0 v))) a.0 m.2 in
+    let same : a.0 ≡ with_edge old (drawn_edge s.0 t.0 m.0 v.0) = sym (some_is (with_edge old (drawn_edge s.0 t.0 m.0 v.0)) a.0 v.2) in
+    first_edge nodes e es old new s.0 t.0 m.0 v.0 s.1 t.1 m.1 v.1 (subst (λ (z : Graph). AreDrawnEdges nodes es z new) same (edges_sound nodes es a.0 new a.2))
 
--- ---- what may be drawn is made
+-- ---- what has no fault is made
 
-named : (names : List Name) (n : Name) (rest : List Name) → first_doubled_behind names (n ∷ rest) ≡ None → (has_name names n ≡ false) × (first_doubled_behind (names ++ n ∷ []) rest ≡ None)
-named names n rest h = go (has_name names n) refl h
+there : {A B : Type 0} (y : B) (o : Option A) → unless y o ≡ None → (x : A) × (o ≡ Some x)
+there y None h = absurd cc
+there y (Some x) h = (x, refl)
+
+valued : (a : AtomTree) → atom_fault a ≡ None → (x : Atom) × (atom_of a ≡ Some x)
+valued (atoms.Number n start) h = by (integer_of n) refl h
   where
-    go : (b : Bool) → has_name names n ≡ b → (if b then Some n else first_doubled_behind (names ++ n ∷ []) rest) ≡ None → (has_name names n ≡ false) × (first_doubled_behind (names ++ n ∷ []) rest ≡ None)
-    go true e h = absurd cc
-    go false e h = (e, h)
+    by : (o : Option _) → integer_of n ≡ o → option_map faults.NumberRange (unless start o) ≡ None → (x : Atom) × (option_map Int (integer_of n) ≡ Some x)
+    by None e h = absurd cc
+    by (Some z) e h = (Int z, rw e refl)
+valued (atoms.String s) h = (Str s, refl)
 
-both_true : (a b : Bool) → (a && b) ≡ true → (a ≡ true) × (b ≡ true)
-both_true true b h = (refl, h)
-both_true false b h = absurd cc
+all_valued : (label : List AtomTree) → label_fault label ≡ None → (v : List Atom) × (atoms_of label ≡ Some v)
+all_valued [] h = ([], refl)
+all_valued (a ∷ label) h =
+    let p = neither (atom_fault a) (label_fault label) h in
+    let x = valued a p.0 in
+    let v = all_valued label p.1 in
+    (x.0 ∷ v.0, rw (x.1, v.1) refl)
 
-there : {A : Type 0} (o : Option A) → is_some o ≡ true → (x : A) × (o ≡ Some x)
-there None h = absurd cc
-there (Some x) h = (x, refl)
-
-pub nodes_complete : (ns : List NodeTree) (old : SoFar) → first_doubled_behind old.0 (map (λ (n : NodeTree). n.name) ns) ≡ None
-    → list_all (λ l. is_some (label_of l)) (map (λ (n : NodeTree). n.label) ns) ≡ true → nodes_made ns old ≡ None → ⊥
+pub nodes_complete : (ns : List NodeTree) (g : Graph) → first_told (λ (n : NodeTree). label_fault n.label) ns ≡ None → first_told node_mark_fault ns ≡ None → nodes_made ns g ≡ None → ⊥
 unfolding nodes_made
-nodes_complete [] old f l h = cc
-nodes_complete (n ∷ ns) old f l h =
-    let a = named old.0 n.name (map (λ (n : NodeTree). n.name) ns) f in
-    let b = both_true (is_some (label_of n.label)) _ l in
-    let v = there (label_of n.label) b.0 in
-    nodes_complete ns (old.0 ++ n.name ∷ [], with_node old.1 (plain_node v.0)) a.1 b.1 (rw (a.0, v.1) at h)
+nodes_complete [] g l k h = cc
+nodes_complete (n ∷ ns) g l k h =
+    let a = neither (label_fault n.label) _ l in
+    let b = neither (node_mark_fault n) _ k in
+    let v = all_valued n.label a.0 in
+    let m = there (faults.WrongMark n.name) (node_mark n.mark) b.0 in
+    nodes_complete ns (with_node g (drawn_node n m.0 v.0)) a.1 b.1 (rw (m.1, v.1) at h)
 
-ended : (nodes : List Name) (n : Name) (rest : List Name) → first_unknown nodes (n ∷ rest) ≡ None → (s : ℕ) × (place_of nodes n ≡ Some s) × (first_unknown nodes rest ≡ None)
-ended nodes n rest h = go (has_name nodes n) refl h
-  where
-    go : (b : Bool) → has_name nodes n ≡ b → (if b then first_unknown nodes rest else Some n) ≡ None → (s : ℕ) × (place_of nodes n ≡ Some s) × (first_unknown nodes rest ≡ None)
-    go true e h = let s = there (place_of nodes n) (has_place nodes n ∙ e) in (s.0, s.1, h)
-    go false e h = absurd cc
-
-pub edges_complete : (nodes : List Name) (es : List EdgeTree) (old : SoFar) → first_doubled_behind old.0 (map (λ (e : EdgeTree). e.name) es) ≡ None
-    → list_all (λ l. is_some (label_of l)) (map (λ (e : EdgeTree). e.label) es) ≡ true
-    → first_unknown nodes (flat_map (λ (e : EdgeTree). e.source ∷ e.target ∷ []) es) ≡ None → edges_made nodes es old ≡ None → ⊥
+edge_made : (nodes : List Name) (e : EdgeTree) (es : List EdgeTree) (g : Graph) (s t : ℕ) (m : EdgeMark) (v : List Atom)
+    → place_of nodes e.source ≡ Some s → place_of nodes e.target ≡ Some t → edge_mark e.mark ≡ Some m → atoms_of e.label ≡ Some v
+    → edges_made nodes (e ∷ es) g ≡ edges_made nodes es (with_edge g (drawn_edge s t m v))
 unfolding edges_made
-edges_complete nodes [] old f l u h = cc
-edges_complete nodes (e ∷ es) old f l u h =
-    let a = named old.0 e.name (map (λ (e : EdgeTree). e.name) es) f in
-    let b = both_true (is_some (label_of e.label)) _ l in
-    let v = there (label_of e.label) b.0 in
-    let s = ended nodes e.source (e.target ∷ flat_map (λ (e : EdgeTree). e.source ∷ e.target ∷ []) es) u in
-    let t = ended nodes e.target (flat_map (λ (e : EdgeTree). e.source ∷ e.target ∷ []) es) s.2 in
-    edges_complete nodes es (old.0 ++ e.name ∷ [], with_edge old.1 (plain_edge s.0 t.0 v.0)) a.1 b.1 t.2 (rw (a.0, s.1, t.1, v.1) at h)
+edge_made nodes e es g s t m v begins ends marked means = rw (begins, ends, marked, means) refl
+
+pub edges_complete : (nodes : List Name) (es : List EdgeTree) (g : Graph) → first_told (λ (e : EdgeTree). label_fault e.label) es ≡ None → first_told (ends_fault nodes) es ≡ None
+    → first_told edge_mark_fault es ≡ None → edges_made nodes es g ≡ None → ⊥
+unfolding edges_made
+edges_complete nodes [] g l u k h = cc
+edges_complete nodes (e ∷ es) g l u k h =
+    let a = neither (label_fault e.label) _ l in
+    let b = neither (edge_mark_fault e) _ k in
+    let c = neither (ends_fault nodes e) _ u in
+    let s' = neither (end_fault nodes e.source) _ c.0 in
+    let t' = neither (end_fault nodes e.target) None s'.1 in
+    let v = all_valued e.label a.0 in
+    let m = there (faults.WrongMark e.name) (edge_mark e.mark) b.0 in
+    let s = there (faults.NoSuchEnd e.source) (place_of nodes e.source) s'.0 in
+    let t = there (faults.NoSuchEnd e.target) (place_of nodes e.target) t'.0 in
+    edges_complete nodes es (with_edge g (drawn_edge s.0 t.0 m.0 v.0)) a.1 c.1 b.1 (sym (edge_made nodes e es g s.0 t.0 m.0 v.0 s.1 t.1 m.1 v.1) ∙ h)

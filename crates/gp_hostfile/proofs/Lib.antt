@@ -1,6 +1,9 @@
 pub mod Tables
+pub mod Faults
 pub mod Turns
 pub mod Drawn
 pub mod Hosts
+pub mod Shapes
+pub mod Spelled
 pub mod Sorted
 pub mod Lines

@@ -1,86 +1,132 @@
--- Making the graph of a drawing, node by node and edge by edge, as the reader does.
-use Rattle.std.specs.Prelude.{◌≡◌, ℕ, ◌<◌, false, if◌then◌else◌, List, [], ◌∷◌, ◌++◌, length, Option, Some, None, IsSome, Result, Ok, Err}
-use Rattle.gp_grammar.specs.declared.graph.NodeTree.{NodeTree}
-use Rattle.gp_grammar.specs.declared.graph.EdgeTree.{EdgeTree}
-use Rattle.std.specs.Result.{result_ok}
+-- Reading a host in turns: its tree, the checks, and its graph node by node and edge by edge.
+use Rattle.std.specs.Prelude.{◌≡◌, ℕ, ◌<◌, ◌≤◌, List, [], ◌∷◌, length, Option, Some, None, option_map, IsSome, Result, Ok, Err}
 use Rattle.gp_tokens.specs.declared.token.Token.{Token}
 use Rattle.gp_tokens.specs.declared.fault.LexFault.{LexFault}
-use Rattle.gp_tokens.specs.declared.fault.LexFault.TheVariants as faults
-use Rattle.gp_tokens.specs.Lexed.{tokens_of}
-use Rattle.gp_grammar.specs.declared.error.ReadError.{ReadError}
-use Rattle.gp_grammar.specs.declared.error.ReadError.TheVariants as errors
-use Rattle.gp_grammar.specs.GraphReading.{drawing}
+use Rattle.gp_tokens.specs.declared.fault.LexFault.TheVariants as lex_faults
 use Rattle.gp_grammar.specs.Reading.{◌>>=◌}
-use Rattle.gp_grammar.specs.Graph.{Drawing}
-use Rattle.gp_grammar.specs.Labels.{label_of}
 use Rattle.gp_values.specs.declared.atom.Atom.{Atom}
-use Rattle.gp_values.specs.declared.marks.NodeMark.TheVariants as node_marks
-use Rattle.gp_values.specs.declared.marks.EdgeMark.TheVariants as edge_marks
-use Rattle.gp_values.specs.Names.{Name, has_name, place_of}
+use Rattle.gp_values.specs.Names.{Name, place_of}
 use Rattle.gp_values.specs.Graph.{Node, Edge, Graph, node_at, empty_graph, with_node, with_edge}
-use Rattle.gp_hostfile.specs.declared.read.HostRefusal.{HostRefusal}
-use Rattle.gp_hostfile.specs.declared.read.HostRefusal.TheVariants as refusals
+use Rattle.gp_hostfile.specs.declared.tree.AtomTree.{AtomTree}
+use Rattle.gp_hostfile.specs.declared.tree.AtomTree.TheVariants as atoms
+use Rattle.gp_hostfile.specs.declared.tree.NodeTree.{NodeTree}
+use Rattle.gp_hostfile.specs.declared.tree.EdgeTree.{EdgeTree}
+use Rattle.gp_hostfile.specs.declared.tree.HostTree.{HostTree as HeldTree}
+use Rattle.gp_hostfile.specs.declared.fault.HostFault.{HostFault}
+use Rattle.gp_hostfile.specs.declared.fault.HostFault.TheVariants as faults
+use Rattle.gp_hostfile.specs.Grammar.{HostTree}
+use Rattle.gp_hostfile.specs.Host.{atoms_of, node_mark, edge_mark, unless, first_told, out_of_range, wrong_node, wrong_edge}
+use Rattle.gp_hostfile.specs.Reading.{host}
 
--- the names so far, and the graph so far
-abbrev pub SoFar : Type 0
-SoFar = List Name × Graph
+-- ---- answers
 
--- what a function of the code answers, by what there is to make
-abbrev pub Refuses : {Y : Type 0} → HostRefusal → Option Y → Type 0
-Refuses refusals.NotYet made = made ≡ None
-Refuses refusals.NoMemory made = Unit {0}
+-- this is the fault; want of memory may come at any text
+abbrev pub Refuses : HostFault → Option HostFault → Type 0
+Refuses faults.NoMemory fault = Unit {0}
+Refuses (faults.Lex e) fault = fault ≡ Some (faults.Lex e)
+Refuses (faults.Syntax k) fault = fault ≡ Some (faults.Syntax k)
+Refuses (faults.NumberRange at) fault = fault ≡ Some (faults.NumberRange at)
+Refuses (faults.TwoNodes n) fault = fault ≡ Some (faults.TwoNodes n)
+Refuses (faults.TwoEdges n) fault = fault ≡ Some (faults.TwoEdges n)
+Refuses (faults.NoSuchEnd n) fault = fault ≡ Some (faults.NoSuchEnd n)
+Refuses (faults.WrongMark n) fault = fault ≡ Some (faults.WrongMark n)
 
-abbrev pub Gives : {X Y : Type 0} → (X → Y) → Result X HostRefusal → Option Y → Type 0
-Gives view (Ok x) made = made ≡ Some (view x)
-Gives view (Err e) made = Refuses e made
+-- the answer is whether there is a fault, and which
+abbrev pub Checks : {X : Type 0} → Result X HostFault → Option HostFault → Type 0
+Checks (Ok x) fault = fault ≡ None
+Checks (Err e) fault = Refuses e fault
 
--- the name behind the others, where it is new
-abbrev pub one_name_more : List Name → Name → Option (List Name)
-one_name_more names n = if has_name names n then None else Some (names ++ n ∷ [])
+-- the answer is what is found, or the fault that it is not
+abbrev pub Finds : {X : Type 0} → Result X HostFault → Option X → HostFault → Type 0
+Finds (Ok x) found fault = found ≡ Some x
+Finds (Err e) found fault = Refuses e (unless fault found)
 
-abbrev pub plain_node : List Atom → Node
-plain_node v = record { label = v; mark = node_marks.None; root = false }
+-- nothing is made, but for want of memory
+abbrev pub Fails : {Y : Type 0} → HostFault → Option Y → Type 0
+Fails faults.NoMemory made = Unit {0}
+Fails (faults.Lex e) made = made ≡ None
+Fails (faults.Syntax k) made = made ≡ None
+Fails (faults.NumberRange at) made = made ≡ None
+Fails (faults.TwoNodes n) made = made ≡ None
+Fails (faults.TwoEdges n) made = made ≡ None
+Fails (faults.NoSuchEnd n) made = made ≡ None
+Fails (faults.WrongMark n) made = made ≡ None
 
-abbrev pub plain_edge : ℕ → ℕ → List Atom → Edge
-plain_edge s t v = record { source = s; target = t; label = v; mark = edge_marks.None }
+-- the answer is what there is to make
+abbrev pub Makes : {X Y : Type 0} → (X → Y) → Result X HostFault → Option Y → Type 0
+Makes view (Ok x) made = made ≡ Some (view x)
+Makes view (Err e) made = Fails e made
 
-abbrev pub one_node_more : NodeTree → SoFar → Option SoFar
-one_node_more n so_far = one_name_more so_far.0 n.name >>= λ names. label_of n.label >>= λ v. Some (names, with_node so_far.1 (plain_node v))
+-- ---- the tree
 
-unfoldable pub nodes_made : List NodeTree → SoFar → Option SoFar
-nodes_made [] so_far = Some so_far
-nodes_made (n ∷ ns) so_far = one_node_more n so_far >>= nodes_made ns
-
-abbrev pub one_edge_more : List Name → EdgeTree → SoFar → Option SoFar
-one_edge_more nodes e so_far =
-    one_name_more so_far.0 e.name >>= λ names. place_of nodes e.source >>= λ s. place_of nodes e.target >>= λ t. label_of e.label >>= λ v. Some (names, with_edge so_far.1 (plain_edge s t v))
-
-unfoldable pub edges_made : List Name → List EdgeTree → SoFar → Option SoFar
-edges_made nodes [] so_far = Some so_far
-edges_made nodes (e ∷ es) so_far = one_edge_more nodes e so_far >>= edges_made nodes es
-
-unfoldable pub graph_made : Drawing → Option Graph
-graph_made d = nodes_made d.0 ([], empty_graph) >>= λ n. edges_made n.0 d.1 ([], n.1) >>= λ e. Some e.1
+abbrev pub tree_in : HeldTree → HostTree
+tree_in t = (t.nodes.items, t.edges.items)
 
 -- what was read, where nothing is left behind it
-abbrev pub all_read : Option (Drawing × List Token) → Option Drawing
-all_read (Some (d, [])) = Some d
-all_read (Some (d, t ∷ ts)) = None
+abbrev pub all_read : Option (HostTree × List Token) → Option HostTree
+all_read (Some (t, [])) = Some t
+all_read (Some (t, u ∷ us)) = None
 all_read None = None
 
-unfoldable pub host_made : List ℕ → Option Graph
-host_made bytes = result_ok (tokens_of bytes) >>= λ ts. all_read (drawing ts) >>= graph_made
+-- the answer is the tree of all tokens, or a place where there is none
+abbrev pub ReadsTree : List Token → Result HeldTree HostFault → Type 0
+ReadsTree tokens (Ok t) = all_read (host tokens) ≡ Some (tree_in t)
+ReadsTree tokens (Err faults.NoMemory) = Unit {0}
+ReadsTree tokens (Err (faults.Lex e)) = ⊥
+ReadsTree tokens (Err (faults.Syntax k)) = (all_read (host tokens) ≡ None) × (k ≤ length tokens)
+ReadsTree tokens (Err (faults.NumberRange at)) = ⊥
+ReadsTree tokens (Err (faults.TwoNodes n)) = ⊥
+ReadsTree tokens (Err (faults.TwoEdges n)) = ⊥
+ReadsTree tokens (Err (faults.NoSuchEnd n)) = ⊥
+ReadsTree tokens (Err (faults.WrongMark n)) = ⊥
 
-abbrev pub refusal_of_fault : LexFault → HostRefusal
-refusal_of_fault faults.NoMemory = refusals.NoMemory
-refusal_of_fault (faults.BadByte at) = refusals.NotYet
-refusal_of_fault (faults.OpenString at) = refusals.NotYet
-refusal_of_fault (faults.OpenComment at) = refusals.NotYet
-refusal_of_fault (faults.NumberTooLong at) = refusals.NotYet
+-- how a fault of the lexer is handed on
+abbrev pub lex_fault : LexFault → HostFault
+lex_fault lex_faults.NoMemory = faults.NoMemory
+lex_fault (lex_faults.BadByte at) = faults.Lex (lex_faults.BadByte at)
+lex_fault (lex_faults.OpenString at) = faults.Lex (lex_faults.OpenString at)
+lex_fault (lex_faults.OpenComment at) = faults.Lex (lex_faults.OpenComment at)
+lex_fault (lex_faults.NumberTooLong at) = faults.Lex (lex_faults.NumberTooLong at)
 
-abbrev pub refusal_of_error : ReadError → HostRefusal
-refusal_of_error errors.NoMemory = refusals.NoMemory
-refusal_of_error (errors.Syntax k) = refusals.NotYet
+-- ---- the checks, item by item
+
+abbrev pub atom_fault : AtomTree → Option HostFault
+atom_fault a = option_map faults.NumberRange (out_of_range a)
+
+abbrev pub label_fault : List AtomTree → Option HostFault
+label_fault label = first_told atom_fault label
+
+abbrev pub end_fault : List Name → Name → Option HostFault
+end_fault nodes n = unless (faults.NoSuchEnd n) (place_of nodes n)
+
+abbrev pub ends_fault : List Name → EdgeTree → Option HostFault
+ends_fault nodes e = first_told (end_fault nodes) (e.source ∷ e.target ∷ [])
+
+abbrev pub node_mark_fault : NodeTree → Option HostFault
+node_mark_fault n = unless (faults.WrongMark n.name) (node_mark n.mark)
+
+abbrev pub edge_mark_fault : EdgeTree → Option HostFault
+edge_mark_fault e = unless (faults.WrongMark e.name) (edge_mark e.mark)
+
+-- ---- the graph
+
+abbrev pub one_node_more : NodeTree → Graph → Option Graph
+one_node_more n g = node_mark n.mark >>= λ m. atoms_of n.label >>= λ v. Some (with_node g (record { label = v; mark = m; root = n.root }))
+
+unfoldable pub nodes_made : List NodeTree → Graph → Option Graph
+nodes_made [] g = Some g
+nodes_made (n ∷ ns) g = one_node_more n g >>= nodes_made ns
+
+abbrev pub one_edge_more : List Name → EdgeTree → Graph → Option Graph
+one_edge_more nodes e g =
+    place_of nodes e.source >>= λ s. place_of nodes e.target >>= λ t. edge_mark e.mark >>= λ m. atoms_of e.label >>= λ v. Some (with_edge g (record { source = s; target = t; label = v; mark = m }))
+
+unfoldable pub edges_made : List Name → List EdgeTree → Graph → Option Graph
+edges_made nodes [] g = Some g
+edges_made nodes (e ∷ es) g = one_edge_more nodes e g >>= edges_made nodes es
+
+unfoldable pub graph_made : List Name → HostTree → Option Graph
+graph_made nodes t = nodes_made t.0 empty_graph >>= edges_made nodes t.1
 
 -- the names are those of nodes
 abbrev pub AreNodes : List Name → Graph → Type 0

@@ -1,4 +1,6 @@
+pub mod Grammar
 pub mod Host
+pub mod Reading
 pub mod Drawn
 pub mod GraphText
 pub mod Lines

@@ -1,6 +1,6 @@
 use Rattle.std.proofs.lemmas.Result.{err_from_is_err_and}
 use Rattle.gp_hostfile.proofs.Turns.{nodes_go_on, nodes_stop, nodes_end}
-use Rattle.gp_hostfile.proofs.read.draw_nodes.Goals as goal
+use Rattle.gp_hostfile.proofs.draw.draw_nodes.Goals as goal
 
 pub returns-in_err-draw_node : goal.returns-in_err-draw_node
 returns-in_err-draw_node c =

@@ -1,6 +1,6 @@
 use Rattle.std.proofs.lemmas.Result.{err_from_is_err_and}
 use Rattle.gp_hostfile.proofs.Turns.{edges_go_on, edges_stop, edges_end}
-use Rattle.gp_hostfile.proofs.read.draw_edges.Goals as goal
+use Rattle.gp_hostfile.proofs.draw.draw_edges.Goals as goal
 
 pub returns-in_err-draw_edge : goal.returns-in_err-draw_edge
 returns-in_err-draw_edge c =
