@@ -6,8 +6,9 @@ use Rattle.gp_io.specs.Outside.{Content, HasFile}
 use Rattle.gp_values.specs.Names.{Name}
 use Rattle.gp_values.specs.Graph.{Graph}
 use Rattle.gp_syntax.specs.Run.{Program}
+use Rattle.gp_hostfile.proofs.Hosts.{no_fault}
 use Rattle.gp_cli.specs.CommandLine.{Command, command_of}
-use Rattle.gp_cli.specs.Answer.{Count, HasRisen, HasProgram, HasHost, HasLongFile, HasOtherProgram, HasOtherHost, CannotRead, risen, lacking, Replies, gives, fails, bound_at_turn, bound_at_call, bad_words, long_program, other_program, long_host, other_host, no_program, no_host, Answer, replied, no_memory, out_fault, err_fault, Completes}
+use Rattle.gp_cli.specs.Answer.{Count, HasRisen, HasProgram, HasHost, HasLongFile, HasOtherProgram, HasHostFault, CannotRead, risen, lacking, Replies, gives, fails, bound_at_turn, bound_at_call, bad_words, long_program, other_program, long_host, bad_host, no_program, no_host, Answer, replied, no_memory, out_fault, err_fault, Completes}
 
 same_bytes : (content : Content) (name : Name) (a b : List ℕ) → map.get content name ≡ Some a → map.get content name ≡ Some b → a ≡ b
 same_bytes content name a b h k = cc
@@ -25,8 +26,8 @@ module _ {content : Content} {name : Name} where
   not_long_host : {g : Graph} → HasHost (Some content) name g → HasLongFile (Some content) name → ⊥
   not_long_host p l = let e = ap length (same_bytes content name p.bytes l.bytes p.file l.file) in let a = p.short in let b = l.long in omega arith
 
-  not_other_host : {g : Graph} → HasHost (Some content) name g → HasOtherHost (Some content) name → ⊥
-  not_other_host {g} h o = o.no_text g (rw (sym (same_bytes content name h.bytes o.bytes h.file o.file)) h.text)
+  not_bad_host : {g : Graph} {line : List ℕ} → HasHost (Some content) name g → HasHostFault (Some content) name line → ⊥
+  not_bad_host {g} h o = no_fault o.bytes g o.fault (rw (sym (same_bytes content name h.bytes o.bytes h.file o.file)) h.text) o.is_fault
 
 can_read : (content : Content) (name : Name) (files : Count) (bytes : List ℕ) → (HasRisen files → ⊥) → HasFile (Some content) name bytes → CannotRead (Some content) files name → ⊥
 can_read content name files bytes n h (risen r) = n r
@@ -47,7 +48,7 @@ module _ {content : Content} {files : Count} {p : Program} {g : Graph} where
   replies_well {words} k w hp hh n (long_program {k = l} v f) = absurd (not_long_program (subst (λ (c : Command). HasProgram (Some content) c.program p) (same_command words k l w v) hp) f)
   replies_well {words} k w hp hh n (other_program {k = l} v f) = absurd (not_other_program (subst (λ (c : Command). HasProgram (Some content) c.program p) (same_command words k l w v) hp) f)
   replies_well {words} k w hp hh n (long_host {k = l} v _ f) = absurd (not_long_host (subst (λ (c : Command). HasHost (Some content) c.host g) (same_command words k l w v) hh) f)
-  replies_well {words} k w hp hh n (other_host {k = l} v _ f) = absurd (not_other_host (subst (λ (c : Command). HasHost (Some content) c.host g) (same_command words k l w v) hh) f)
+  replies_well {words} k w hp hh n (bad_host {k = l} v _ f) = absurd (not_bad_host (subst (λ (c : Command). HasHost (Some content) c.host g) (same_command words k l w v) hh) f)
   replies_well {words} k w hp hh n (no_program {k = l} v u) = let q = subst (λ (c : Command). HasProgram (Some content) c.program p) (same_command words k l w v) hp in absurd (can_read content l.program files q.bytes n q.file u)
   replies_well {words} k w hp hh n (no_host {k = l} v _ u) = let q = subst (λ (c : Command). HasHost (Some content) c.host g) (same_command words k l w v) hh in absurd (can_read content l.host files q.bytes n q.file u)
 

@@ -9,10 +9,14 @@ use Rattle.gp_hostfile.specs.GraphText.{IsGraphText, WritesGraph}
 use Rattle.gp_cli.specs.declared.reply.Stop.{Stop}
 use Rattle.gp_cli.specs.declared.reply.Stop.TheVariants as stops
 use Rattle.gp_cli.specs.CommandLine.{Command, command_of}
-use Rattle.gp_cli.specs.Answer.{Count, HasProgram, HasHost, CannotRead, risen, lacking, Replies, gives, fails, bound_at_turn, bound_at_call, long_program, other_program, long_host, other_host, no_program, no_host, replied, no_memory, out_fault, err_fault, Answered, program_too_long, host_too_long, bound_text}
-use Rattle.gp_cli.specs.Parts.{StopsAtFile, too_long, unread, ReadsFile, LoadsProgram, StopsAtProgram, program_file, other_text, LoadsHost, StopsAtHost, host_file, other_host_text, Shows, graph, fail, at_turn, at_call, RunsFilesTo, shown, at_program, at_host, RunsFiles, Delivers, whole, out_cut, err_cut}
+use Rattle.gp_cli.specs.Answer.{Count, HasProgram, HasHost, CannotRead, risen, lacking, Replies, gives, fails, bound_at_turn, bound_at_call, long_program, other_program, long_host, bad_host, no_program, no_host, replied, no_memory, out_fault, err_fault, Answered, program_too_long, host_too_long, bound_text}
+use Rattle.gp_cli.specs.Parts.{StopsAtFile, too_long, unread, ReadsFile, LoadsProgram, StopsAtProgram, program_file, other_text, LoadsHost, StopsAtHost, host_file, host_fault, Shows, graph, fail, at_turn, at_call, RunsFilesTo, shown, at_program, at_host, RunsFiles, Delivers, whole, out_cut, err_cut}
 use Rattle.gp_cli.specs.Outcomes.{RunsTo, Executes, ShowsOutcome, gave, failed_there, before_turn, before_call}
 use Rattle.gp_cli.specs.Statuses.{status_code}
+use Rattle.gp_cli.specs.FaultLines.{IsFaultText, IsHostLine}
+use Rattle.gp_hostfile.specs.declared.fault.HostFault.{HostFault}
+use Rattle.gp_hostfile.specs.declared.fault.HostFault.TheVariants as faults
+use Rattle.gp_hostfile.specs.Host.{IsHostFault, IsRefusal}
 use Rattle.gp_cli.specs.declared.run.Outcome.{Outcome}
 use Rattle.gp_cli.specs.declared.run.End.TheVariants as ends
 
@@ -60,7 +64,7 @@ file_until a b c h (unread u) = unread (cannot_until a b c h u)
 host_since : {told : Option Content} {name : Name} {s : ℕ} {o e : List ℕ} (a b c : ℕ) → a ≤ b →
     StopsAtHost told (record { before = b; now = c }) name s o e → StopsAtHost told (record { before = a; now = c }) name s o e
 host_since a b c h (host_file f) = host_file (file_since a b c h f)
-host_since a b c h (other_host_text n) = other_host_text n
+host_since a b c h (host_fault n) = host_fault n
 
 pub program_stops_all : (told : Option Content) (files : Count) (k : Command) (e : Stop) → LoadsProgram told files k.program (Err e) → RunsFiles told files k (Err e)
 program_stops_all told files k (stops.Answered r) h = at_program h
@@ -81,7 +85,7 @@ module _ {words : List Name} {told : Option Content} {files : Count} {k : Comman
   replies_host : {p : Program} {s : ℕ} {o e : List ℕ} → command_of words ≡ Some k → HasProgram told k.program p → StopsAtHost told files k.host s o e → Replies words told files s o e
   replies_host w p (host_file (too_long f)) = long_host w p f
   replies_host w p (host_file (unread u)) = no_host w p u
-  replies_host w p (other_host_text n) = other_host w p n
+  replies_host w p (host_fault n) = bad_host w p n
 
   replies_shown : {p : Program} {g : HostGraph} {s : ℕ} {o e : List ℕ} → command_of words ≡ Some k → HasProgram told k.program p → HasHost told k.host g → Shows p k.bound g s o e → Replies words told files s o e
   replies_shown w p h (graph run count text) = gives w p h run count text
@@ -93,6 +97,22 @@ module _ {words : List Name} {told : Option Content} {files : Count} {k : Comman
   replies w (shown p h s) = replies_shown w p h s
   replies w (at_program p) = replies_program w p
   replies w (at_host p h) = replies_host w p h
+
+-- ---- a host that is refused
+
+-- what has a text is no want of memory
+pub fault_stands : (bytes : List ℕ) (e : HostFault) (line : List ℕ) → IsRefusal bytes e → IsHostLine bytes e line → IsHostFault bytes e
+fault_stands bytes (faults.Lex x) line h i = h
+fault_stands bytes (faults.Syntax k) line h i = h
+fault_stands bytes (faults.NumberRange k) line h i = h
+fault_stands bytes (faults.TwoNodes n) line h i = h
+fault_stands bytes (faults.TwoEdges n) line h i = h
+fault_stands bytes (faults.NoSuchEnd n) line h i = h
+fault_stands bytes (faults.WrongMark n) line h i = h
+fault_stands bytes faults.NoMemory line h i = no_text line i.text i.fault_text
+  where
+    no_text : (line text : List ℕ) → IsFaultText bytes faults.NoMemory text → IsHostFault bytes faults.NoMemory
+    no_text line text ()
 
 -- ---- what goes out
 

@@ -7,9 +7,11 @@ use Rattle.gp_values.specs.Graph.{Graph}
 use Rattle.gp_syntax.specs.Step.{HasApplying}
 use Rattle.gp_syntax.specs.Run.{Program, Item, Gives, Fails, At, AtTurn, Run, counted}
 use Rattle.gp_parse.specs.Program.{IsProgramText}
-use Rattle.gp_hostfile.specs.Host.{IsHostText}
+use Rattle.gp_hostfile.specs.declared.fault.HostFault.{HostFault}
+use Rattle.gp_hostfile.specs.Host.{IsHostText, IsHostFault}
 use Rattle.gp_hostfile.specs.GraphText.{IsGraphText}
 use Rattle.gp_cli.specs.CommandLine.{Command, command_of}
+use Rattle.gp_cli.specs.FaultLines.{IsHostLine}
 
 -- the greatest number of bytes of a file
 abbrev pub limit : ℕ
@@ -32,9 +34,6 @@ program_not_yet = codes "program: NotYet" ++ 10 ∷ []
 
 abbrev pub host_too_long : List ℕ
 host_too_long = codes "host: TooLong" ++ 10 ∷ []
-
-abbrev pub host_not_yet : List ℕ
-host_not_yet = codes "host: NotYet" ++ 10 ∷ []
 
 abbrev pub read_text : Name → List ℕ
 read_text name = codes "read: " ++ name ++ 10 ∷ []
@@ -74,11 +73,14 @@ pub record HasOtherProgram (told : Option Content) (name : Name) : Type 0 where
   pub short : length bytes ≤ limit
   pub no_text : (p : Program) → IsProgramText bytes p → ⊥
 
-pub record HasOtherHost (told : Option Content) (name : Name) : Type 0 where
+-- the file has at most the limit of bytes, they are no host, and this line names their first fault
+pub record HasHostFault (told : Option Content) (name : Name) (line : List ℕ) : Type 0 where
   pub bytes : List ℕ
   pub file : HasFile told name bytes
   pub short : length bytes ≤ limit
-  pub no_text : (g : Graph) → IsHostText bytes g → ⊥
+  pub fault : HostFault
+  pub is_fault : IsHostFault bytes fault
+  pub is_line : IsHostLine bytes fault line
 
 -- the file cannot be read: the count of the files' faults rose, or the told files do not have the name
 pub data CannotRead (told : Option Content) (files : Count) (name : Name) : Type 0 where
@@ -114,7 +116,7 @@ pub data Replies (words : List Name) (told : Option Content) (files : Count) : �
   long_program : {k : Command} → command_of words ≡ Some k → HasLongFile told k.program → Replies words told files 3 [] program_too_long
   other_program : {k : Command} → command_of words ≡ Some k → HasOtherProgram told k.program → Replies words told files 3 [] program_not_yet
   long_host : {k : Command} {p : Program} → command_of words ≡ Some k → HasProgram told k.program p → HasLongFile told k.host → Replies words told files 4 [] host_too_long
-  other_host : {k : Command} {p : Program} → command_of words ≡ Some k → HasProgram told k.program p → HasOtherHost told k.host → Replies words told files 4 [] host_not_yet
+  bad_host : {k : Command} {p : Program} {line : List ℕ} → command_of words ≡ Some k → HasProgram told k.program p → HasHostFault told k.host line → Replies words told files 4 [] line
   no_program : {k : Command} → command_of words ≡ Some k → CannotRead told files k.program → Replies words told files 8 [] (read_text k.program)
   no_host : {k : Command} {p : Program} → command_of words ≡ Some k → HasProgram told k.program p → CannotRead told files k.host → Replies words told files 8 [] (read_text k.host)
 

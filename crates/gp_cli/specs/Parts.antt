@@ -16,7 +16,7 @@ use Rattle.gp_cli.specs.declared.reply.Stop.{Stop}
 use Rattle.gp_cli.specs.declared.reply.Stop.TheVariants as stops
 use Rattle.gp_cli.specs.Statuses.{status_code}
 use Rattle.gp_cli.specs.CommandLine.{Command}
-use Rattle.gp_cli.specs.Answer.{Count, HasRisen, HasProgram, HasHost, HasLongFile, HasOtherProgram, HasOtherHost, CannotRead, CanStep, limit, read_text, fail_text, bound_text, program_too_long, program_not_yet, host_too_long, host_not_yet}
+use Rattle.gp_cli.specs.Answer.{Count, HasRisen, HasProgram, HasHost, HasLongFile, HasOtherProgram, HasHostFault, CannotRead, CanStep, limit, read_text, fail_text, bound_text, program_too_long, program_not_yet, host_too_long}
 
 -- ---- files
 
@@ -46,7 +46,7 @@ LoadsProgram told files name (Err stops.NoMemory) = Unit {0}
 
 pub data StopsAtHost (told : Option Content) (files : Count) (name : Name) : ℕ → List ℕ → List ℕ → Type 0 where
   host_file : {status : ℕ} {o e : List ℕ} → StopsAtFile told files name 4 host_too_long status o e → StopsAtHost told files name status o e
-  other_host_text : HasOtherHost told name → StopsAtHost told files name 4 [] host_not_yet
+  host_fault : {line : List ℕ} → HasHostFault told name line → StopsAtHost told files name 4 [] line
 
 abbrev pub LoadsHost : Option Content → Count → Name → Result Graph Stop → Type 0
 LoadsHost told files name (Ok g) = HasHost told name g.graph

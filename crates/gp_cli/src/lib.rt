@@ -2,6 +2,7 @@
 #![tactic(auto)]
 
 mod deliver;
+mod fault_line;
 mod load;
 mod matching;
 mod reply;

@@ -5,10 +5,11 @@ ghost use Rattle.gp_cli.specs.Answer.{read_text};
 ghost use Rattle.gp_cli.specs.Statuses.{status_code};
 ghost use Rattle.gp_cli.specs.Parts.{ReadsFile, LoadsProgram, LoadsHost};
 
+use crate::fault_line::host_line;
 use crate::reply::{Stop, on_err};
 use crate::status::Status;
 use gp_graph::Graph;
-use gp_hostfile::{HostRefusal, read_host};
+use gp_hostfile::read_host;
 use gp_io::{Files, ReadRefusal};
 use gp_parse::{ProgramRefusal, read_program};
 use gp_syntax::PlainProgram;
@@ -80,10 +81,10 @@ pub(crate) fn load_host<F: Files>(alloc: Global, files: &mut F, name: &str) -> R
     let text = read_file(alloc, files, name, Status::Host, b"host: TooLong\n")?;
     match read_host(alloc, &text) {
         Ok(graph) => Ok(graph),
-        Err(HostRefusal::NotYet) => {
-            let reply = on_err(alloc, Status::Host, b"host: NotYet\n")?;
+        Err(fault) => {
+            let line = host_line(alloc, &text, &fault)?;
+            let reply = on_err(alloc, Status::Host, &line)?;
             Err(Stop::Answered(reply))
         }
-        Err(HostRefusal::NoMemory) => Err(Stop::NoMemory),
     }
 }
