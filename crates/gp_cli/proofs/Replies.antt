@@ -1,6 +1,6 @@
 -- From what the parts answer to what the top call answers.
 use Rattle.std.proofs.Common.{◌≡◌, ℕ, ◌≤◌, List, [], take, refl, sym, ap, subst, arith, append-nil, inl, inr}
-use Rattle.std.specs.Prelude.{◌⊎◌, Option, Some, None, Err}
+use Rattle.std.specs.Prelude.{◌⊎◌, ◌++◌, Option, Some, None, Ok, Err, codes}
 use Rattle.gp_io.specs.Outside.{Content, Rose, LacksFile, Gains}
 use Rattle.gp_values.specs.Names.{Name}
 use Rattle.gp_values.specs.Graph.{Graph as HostGraph}
@@ -13,7 +13,10 @@ use Rattle.gp_cli.specs.Answer.{Count, HasProgram, HasHost, CannotRead, risen, l
 use Rattle.gp_cli.specs.Parts.{StopsAtFile, too_long, unread, ReadsFile, LoadsProgram, StopsAtProgram, program_file, other_text, LoadsHost, StopsAtHost, host_file, host_fault, Shows, graph, fail, at_turn, at_call, RunsFilesTo, shown, at_program, at_host, RunsFiles, Delivers, whole, out_cut, err_cut}
 use Rattle.gp_cli.specs.Outcomes.{RunsTo, Executes, ShowsOutcome, gave, failed_there, before_turn, before_call}
 use Rattle.gp_cli.specs.Statuses.{status_code}
-use Rattle.gp_cli.specs.FaultLines.{IsFaultText, IsHostLine}
+use Rattle.gp_cli.specs.FaultLines.{IsFaultText, syntax, IsHostLine}
+use Rattle.gp_tokens.specs.Lexed.{Outcome as Cut, tokens_of}
+use Rattle.gp_tokens.specs.Lines.{GivesLine}
+use Rattle.std.specs.Fmt.{decimal}
 use Rattle.gp_hostfile.specs.declared.fault.HostFault.{HostFault}
 use Rattle.gp_hostfile.specs.declared.fault.HostFault.TheVariants as faults
 use Rattle.gp_hostfile.specs.Host.{IsHostFault, IsRefusal}
@@ -100,6 +103,14 @@ module _ {words : List Name} {told : Option Content} {files : Count} {k : Comman
 
 -- ---- a host that is refused
 
+-- the line of a token, where it was told
+pub line_told : (bytes : List ℕ) (k line : ℕ) (text : List ℕ) → GivesLine bytes k (Ok line) (tokens_of bytes) → text ≡ codes "Syntax line " ++ decimal line → IsFaultText bytes (faults.Syntax k) text
+line_told bytes k line text g e = by_outcome (tokens_of bytes) refl g
+  where
+    by_outcome : (o : Cut) → tokens_of bytes ≡ o → GivesLine bytes k (Ok line) o → IsFaultText bytes (faults.Syntax k) text
+    by_outcome (Ok tokens) is l = rw (e, l) (syntax tokens is)
+    by_outcome (Err x) is l = absurd l
+
 -- what has a text is no want of memory
 pub fault_stands : (bytes : List ℕ) (e : HostFault) (line : List ℕ) → IsRefusal bytes e → IsHostLine bytes e line → IsHostFault bytes e
 fault_stands bytes (faults.Lex x) line h i = h
@@ -112,7 +123,7 @@ fault_stands bytes (faults.WrongMark n) line h i = h
 fault_stands bytes faults.NoMemory line h i = no_text line i.text i.fault_text
   where
     no_text : (line text : List ℕ) → IsFaultText bytes faults.NoMemory text → IsHostFault bytes faults.NoMemory
-    no_text line text ()
+    no_text line text i = elim i [ ]
 
 -- ---- what goes out
 

@@ -32,10 +32,10 @@ fn lex_text(alloc: Global, fault: &LexFault) -> Result<Vec<u8>, NoMemory>
     ensures { IfOk result (λ v. IsLexText fault.now v.items) }
 {
     match fault {
-        LexFault::BadByte(at) => numbered(alloc, b"BadByte ", *at),
-        LexFault::OpenString(at) => numbered(alloc, b"OpenString ", *at),
-        LexFault::OpenComment(at) => numbered(alloc, b"OpenComment ", *at),
-        LexFault::NumberTooLong(at) => numbered(alloc, b"NumberTooLong ", *at),
+        LexFault::BadByte(at) => Ok(numbered(alloc, b"BadByte ", *at)?),
+        LexFault::OpenString(at) => Ok(numbered(alloc, b"OpenString ", *at)?),
+        LexFault::OpenComment(at) => Ok(numbered(alloc, b"OpenComment ", *at)?),
+        LexFault::NumberTooLong(at) => Ok(numbered(alloc, b"NumberTooLong ", *at)?),
         LexFault::NoMemory => Err(NoMemory),
     }
 }
@@ -44,7 +44,7 @@ fn syntax_text(alloc: Global, bytes: &[u8], place: u64) -> Result<Vec<u8>, NoMem
     ensures { IfOk result (λ v. IsFaultText bytes.now (HostFault.Syntax place) v.items) }
 {
     match line_of_token(alloc, bytes, place) {
-        Ok(line) => numbered(alloc, b"Syntax line ", line),
+        Ok(line) => Ok(numbered(alloc, b"Syntax line ", line)?),
         Err(_) => Err(NoMemory),
     }
 }
@@ -53,13 +53,13 @@ fn fault_text(alloc: Global, bytes: &[u8], fault: &HostFault) -> Result<Vec<u8>,
     ensures { IfOk result (λ v. IsFaultText bytes.now fault.now v.items) }
 {
     match fault {
-        HostFault::Lex(fault) => lex_text(alloc, fault),
-        HostFault::Syntax(place) => syntax_text(alloc, bytes, *place),
-        HostFault::NumberRange(at) => numbered(alloc, b"NumberRange ", *at),
-        HostFault::TwoNodes(name) => named(alloc, b"TwoNodes ", name),
-        HostFault::TwoEdges(name) => named(alloc, b"TwoEdges ", name),
-        HostFault::NoSuchEnd(name) => named(alloc, b"NoSuchEnd ", name),
-        HostFault::WrongMark(name) => named(alloc, b"WrongMark ", name),
+        HostFault::Lex(fault) => Ok(lex_text(alloc, fault)?),
+        HostFault::Syntax(place) => Ok(syntax_text(alloc, bytes, *place)?),
+        HostFault::NumberRange(at) => Ok(numbered(alloc, b"NumberRange ", *at)?),
+        HostFault::TwoNodes(name) => Ok(named(alloc, b"TwoNodes ", name)?),
+        HostFault::TwoEdges(name) => Ok(named(alloc, b"TwoEdges ", name)?),
+        HostFault::NoSuchEnd(name) => Ok(named(alloc, b"NoSuchEnd ", name)?),
+        HostFault::WrongMark(name) => Ok(named(alloc, b"WrongMark ", name)?),
         HostFault::NoMemory => Err(NoMemory),
     }
 }
