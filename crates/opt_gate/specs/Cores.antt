@@ -24,3 +24,6 @@ module _ {System State Found Goal Reason : Type 0} where
   -- the view of the first pass
   abbrev pub first_view : Key (Core System State Found Goal Reason) → View (Key (Core System State Found Goal Reason)) Found Reason
   first_view key = view (Some key) key.passes [] None [] 0 None false
+
+  abbrev pub goal_of : Core System State Found Goal Reason → Goal
+  goal_of c = c.goal

@@ -2,17 +2,15 @@
 #![tactic(auto)]
 
 mod ask;
-// mod gate;
+mod gate;
 mod key;
-// mod pass;
+mod pass;
 mod rule;
+mod sharing;
 mod steps;
 mod view;
 
 pub use ask::Ask;
-
+pub use gate::Gate;
 pub use key::Key;
-
-
-
-// mod tests;
+pub use pass::Pass;

@@ -1,6 +1,6 @@
 //! The rule of the gate's table, and what each step does and tells. These types are for the proofs alone.
 
-ghost use Rattle.opt_gate.specs.Cores.{entries_of, ended_of, IsOfKey, passes_of, first_view};
+ghost use Rattle.opt_gate.specs.Cores.{entries_of, ended_of, goal_of, IsOfKey, passes_of, first_view};
 ghost use Rattle.opt_gate.specs.Plays.{Drew, Watched, Passed, Told, split_left, split_right, joined, spent};
 ghost use Rattle.opt_gate.specs.Rule.{Ruled};
 
@@ -22,6 +22,15 @@ impl<S: System> TableRule<Option<Core<S>>, View<Key<Core<S>>, S::Found, S::Reaso
     ghost holds = { Ruled entries_of ended_of IsOfKey passes_of };
 
     ghost first = { first_view };
+}
+
+/// The goal of a core. A gate keeps it beside its table.
+pub trait HasGoal<C, G> {
+    ghost goal_of: { C → G };
+}
+
+impl<S: System> HasGoal<Core<S>, S::Goal> for GateRule<S> {
+    ghost goal_of = { goal_of };
 }
 
 // A ticket is drawn.
