@@ -147,3 +147,8 @@ module _ {K F R : Type 0} (id : ℕ) (v : View K F R) (idle : v.ticket ≡ None)
         stopped = λ e. rw (total_join (λ (x : View K F R). x.stops) refl refl s.views at at') (r.tally.stopped e);
         };
       }
+
+module _ {K F R C : Type 0} (entries : C → List F) (ended : C → Option (Ending R)) (Same : K → C → Type 0) (passes : K → ℕ) (key : K) where
+  pub joins_at : (id other : ℕ) (v w : View K F R) → v.ticket ≡ None → v.served ≡ false → w.ticket ≡ None → w.served ≡ false → 0 < v.room
+      → Joins (Ruled entries ended Same passes key) id v other w (joined v w) spent
+  joins_at id other v w idle calm idle' calm' some s r at ne at' = joins id v idle calm other w idle' calm' ne some entries ended Same passes key s r at ne at'

@@ -2,7 +2,7 @@
 use Rattle.std.proofs.Common.{◌≡◌, ◌≢◌, ℕ, ◌+◌, ◌%◌, ◌^◌, ◌≤◌, ◌<◌, ◌⊎◌, inl, inr, ⊎_elim, List, [], ◌∷◌, Bool, true, false, Option, Some, None, length, set, get_or, refl, sym, ◌∙◌, ap, arith, subst}
 use mathlib.Core.Option as core
 use lib.ListN.{get_elem?}
-use Rattle.atomic_table.specs.Table.{State, Me, Allows, step, keeps}
+use Rattle.atomic_table.specs.Table.{State, Me, Step, Allows, step, keeps}
 use Rattle.atomic_table.proofs.Lists.{at_set, set_else}
 use Rattle.opt_core.specs.declared.event.Ending.{Ending}
 use Rattle.opt_gate.specs.declared.view.View.{View}
@@ -63,3 +63,17 @@ module _ {K F R : Type 0} (id : ℕ) (v : View K F R) (idle : v.ticket ≡ None)
             },
           (refl, told passes key r.served r.drawn s.words r.log r.end s.views r.turns r.knowing r.tally id v at some),
         )
+
+module _ {K F R C : Type 0} (entries : C → List F) (ended : C → Option (Ending R)) (Same : K → C → Type 0) (passes : K → ℕ) (key : K) where
+  pub rests_at : (id slots : ℕ) (v : View K F R) (m : Me (Option C) (View K F R)) → m ≡ (v, []) → v.ticket ≡ None → v.served ≡ false → 0 < v.room
+      → Allows (Ruled entries ended Same passes key) slots id m 0 (λ n. n) (Told passes (step slots 0 0 0 core.none) m)
+  rests_at id slots v m e idle calm some =
+      let P : Me (Option C) (View K F R) → Type 0 = λ x. Allows (Ruled entries ended Same passes key) slots id x 0 (λ n. n) (Told passes (step slots 0 0 0 core.none) x) in
+      subst P (sym e) (rests id v idle calm entries ended Same passes key slots [] some)
+
+module _ {K F R C : Type 0} (passes : K → ℕ) where
+  pub told_me : (st : Step (Option C)) (v : View K F R) (m n : Me (Option C) (View K F R)) (r : ℕ) → m ≡ (v, []) → Told passes st m r n → n ≡ (resting v, [])
+  told_me st v m n r e t = t.0 ∙ ap (λ (x : Me (Option C) (View K F R)). (resting x.0, x.1)) e
+
+  pub told_tells : (st : Step (Option C)) (v : View K F R) (m n : Me (Option C) (View K F R)) (r : ℕ) → m ≡ (v, []) → Told passes st m r n → Tells passes v
+  told_tells st v m n r e t = subst (λ (x : Me (Option C) (View K F R)). Tells passes x.0) e t.1

@@ -84,14 +84,15 @@ module _ {System State Found Goal Reason : Type 0} (m : Meaning State Found Goal
         })
 
   module _ (n' : Me (Option (Core System State Found Goal Reason)) (View (Key (Core System State Found Goal Reason)) Found Reason)) where
-    pub acted : n' ≡ (passed entries_of ended_of IsOfKey passes_of (if stop then 1 else 0) n.0 a, []) → Tells passes_of (passed entries_of ended_of IsOfKey passes_of (if stop then 1 else 0) n.0 a) → MayCome m b e → Legal m a → Acts m v e r n'
-    acted me tells came legal = record {
+    pub acted : n' ≡ (passed entries_of ended_of IsOfKey passes_of (if stop then 1 else 0) n.0 a, []) → Tells passes_of (passed entries_of ended_of IsOfKey passes_of (if stop then 1 else 0) n.0 a) → MayCome m b e → Legal m b → Legal m a → Acts m v e r n'
+    acted me tells came legal legal_after = record {
       before = b;
       after = a;
       of_key = t.learns.same;
       may_come = came;
       answers = goes;
       legal = legal;
+      legal_after = legal_after;
       knew = t.learns.further;
       stood = t.learns.stands;
       me = me ∙ (ap (λ (k : ℕ). (passed entries_of ended_of IsOfKey passes_of k n.0 a, none_out)) count

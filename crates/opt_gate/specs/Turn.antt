@@ -55,6 +55,11 @@ module _ {Found Reason : Type 0} where
   told_after told (reply.News es task) n = n
   told_after told r n = told
 
+  -- the number that was told, and the entries of the News
+  abbrev pub told_and_handed : ℕ → Reply Found Reason → ℕ
+  told_and_handed told (reply.News es task) = told + length es
+  told_and_handed told r = told
+
 module _ {System State Found Goal Reason : Type 0} (m : Meaning State Found Goal Reason) where
   -- the condition of what a pass asks, by the entries that it was told; start is the core that the gate was started with
   abbrev pub MayAsk : Core System State Found Goal Reason → PassView (Key (Core System State Found Goal Reason)) Found Reason → Ask Found → Type 0
@@ -78,7 +83,8 @@ module _ {System State Found Goal Reason : Type 0} (m : Meaning State Found Goal
     pub of_start : SameStart start before
     pub may_come : MayCome m before (event_of p.told a)
     pub answers : Answers m before (event_of p.told a) r after
-    pub legal : Legal m after
+    pub legal : Legal m before
+    pub legal_after : Legal m after
     -- what the pass knew: the first entries, and with the ending all of them
     pub knew : StartsWith before.entries p.knows
     pub stood : (x : Ending Reason) → p.ending ≡ Some x → (before.ending ≡ Some x) × (before.entries ≡ p.knows)
@@ -98,7 +104,8 @@ module _ {System State Found Goal Reason : Type 0} (m : Meaning State Found Goal
     pub of_key : (k : Key (Core System State Found Goal Reason)) → v.key ≡ Some k → IsOfKey k before
     pub may_come : MayCome m before e
     pub answers : Answers m before e r after
-    pub legal : Legal m after
+    pub legal : Legal m before
+    pub legal_after : Legal m after
     pub knew : StartsWith before.entries v.knows
     pub stood : (x : Ending Reason) → v.ending ≡ Some x → (before.ending ≡ Some x) × (before.entries ≡ v.knows)
     pub me : n ≡ (passed entries_of ended_of IsOfKey passes_of (stops_of e) (serving entries_of ended_of IsOfKey passes_of v before) after, [])

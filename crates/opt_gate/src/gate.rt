@@ -1,14 +1,14 @@
 //! The gate.
 
-ghost use Rattle.std.specs.Prelude.{◌≡◌, ◌<◌, ℕ, [], ◌∷◌, None, Some, length, IfOk, IfErr};
+ghost use Rattle.std.specs.Prelude.{◌≡◌, ◌<◌, ◌^◌, ℕ, [], ◌∷◌, None, Some, length, IfOk, IfErr};
 ghost use Rattle.opt_core.specs.Core.{Legal, AllApply};
 ghost use Rattle.opt_core.specs.Runs.{SameStart};
 ghost use Rattle.opt_core.specs.declared.event.Ending.{Ending};
 ghost use Rattle.opt_core.specs.declared.event.Ending.TheVariants.{Stopped};
 ghost use Rattle.opt_core.specs.declared.event.Reply.TheVariants.{Closed};
-ghost use Rattle.opt_gate.specs.Lists.{StartsWith, times, once_below};
+ghost use Rattle.opt_gate.specs.Lists.{AllAt, StartsWith, times, once_below};
 ghost use Rattle.opt_gate.specs.Pass.{IsPassOf, IsWhole, OwnsRightly, first_pass};
-ghost use Rattle.opt_gate.specs.Turn.{MayAsk, IsTurn, IsTrueEnding};
+ghost use Rattle.opt_gate.specs.Turn.{MayAsk, IsTurn, IsTrueEnding, told_and_handed};
 
 use crate::ask::Ask;
 use crate::key::Key;
@@ -91,6 +91,63 @@ impl<S: System> GateOf<Core<S>, S::Found, S::Reason, GateRule<S>, S::Goal> {
             )),
             Err(Refused { slots }) => Err(only(slots)),
         }
+    }
+
+    /// One turn of the pass: it asks the core, and knows all entries then. It waits until its turn comes.
+    pub fn turn<R: Wait>(
+        &self,
+        rt: &R,
+        pass: &mut Pass<S>,
+        s: &S,
+        ask: Ask<S::Found>,
+    ) -> Reply<S::Found, S::Reason>
+        requires gate { IsPassOf self.now pass.old }
+        requires system { s.now ≡ self.now.key.core.value.system }
+        requires ask { MayAsk (S.means s.now) self.now.key.core.value pass.old ask }
+        ensures one_event { IsTurn (S.means s.now) self.now.key.core.value pass.old ask result pass.new }
+        ensures applies { AllApply (S.means s.now) self.now.key.core.value.goal self.now.key.core.value.base pass.new.knows }
+        ensures ending { (x : Ending S.Reason) → pass.new.ending ≡ Some x → IsTrueEnding (S.means s.now) self.now.key.core.value pass.new.knows x }
+        ensures closed { (x : Ending S.Reason) → result ≡ Closed x → pass.new.ending ≡ Some x }
+        ensures stays { (x : Ending S.Reason) → pass.old.ending ≡ Some x → (result ≡ Closed x) × (pass.new.ending ≡ Some x) × (pass.new.knows ≡ pass.old.knows) }
+        ensures own { OwnsRightly pass.new }
+        ensures whole { IsWhole self.now.key pass.new }
+    {
+        let event = ask.into_event(pass.told);
+        let reply = act(rt, &self.table.shared, &mut pass.seat, s, event);
+        pass.told = told_then(pass.told, &reply);
+        reply
+    }
+
+    /// A last turn, which keeps the core out. It waits until its turn comes, and takes no memory.
+    pub fn close<R: Wait>(self, rt: &R, pass: Pass<S>) -> Core<S>
+        requires { IsPassOf self pass }
+        ensures start { SameStart self.key.core.value result }
+        ensures legal { Legal (S.means self.key.core.value.system) result }
+        ensures knew { StartsWith result.entries pass.knows }
+        ensures stands { (x : Ending S.Reason) → pass.ending ≡ Some x → (result.ending ≡ Some x) × (result.entries ≡ pass.knows) }
+        ensures own { AllAt result.entries pass.own }
+        ensures each_once { pass.room ≡ self.key.passes → (place : ℕ) → times place pass.own ≡ once_below place (length result.entries) }
+        ensures stopped { pass.room ≡ self.key.passes → result.ending ≡ Some Stopped → 0 < pass.stops }
+    {
+        let GateOf { table, goal: _ } = self;
+        let PassOf {
+            mut seat,
+            number: _,
+            told: _,
+            room: _,
+        } = pass;
+        take(rt, &table.shared, &mut seat)
+    }
+}
+
+// The number of entries that were handed over, after an answer.
+fn told_then<F, R>(told: u64, reply: &Reply<F, R>) -> u64
+    requires { told_and_handed told reply.now < 2 ^ 64 }
+    ensures { result ≡ told_and_handed told reply.now }
+{
+    match reply {
+        Reply::News { entries, task: _ } => told + entries.as_slice().len() as u64,
+        _ => told,
     }
 }
 

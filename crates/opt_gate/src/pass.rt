@@ -8,6 +8,7 @@ ghost use Rattle.opt_gate.specs.Pass.{IsPassOf, IsWhole, OwnsRightly, pass_after
 use crate::gate::Gate;
 use crate::key::Key;
 use crate::rule::SplitPass;
+use crate::steps::unite;
 use crate::view::View;
 use atomic_table::Seat;
 use opt_core::Core;
@@ -77,5 +78,27 @@ impl<S: System> PassOf<Core<S>, S::Found, S::Reason> {
             told: self.told,
             room: 1,
         }
+    }
+
+    /// Takes in another pass of the gate. It takes no memory.
+    pub fn join(&mut self, gate: &Gate<S>, other: Pass<S>)
+        requires gate { IsPassOf gate.now self.old }
+        requires other { IsPassOf gate.now other }
+        ensures joined { self.new ≡ joined_pass self.old other }
+        ensures prefix { StartsWith self.new.knows self.old.knows × StartsWith self.new.knows other.knows }
+        ensures stays { (x : Ending S.Reason) → self.old.ending ≡ Some x → (self.new.ending ≡ Some x) × (self.new.knows ≡ self.old.knows) }
+        ensures other_stays { (x : Ending S.Reason) → other.ending ≡ Some x → (self.new.ending ≡ Some x) × (self.new.knows ≡ other.knows) }
+        ensures apart { (place : ℕ) → times place self.old.own + times place other.own ≤ 1 }
+        ensures own { OwnsRightly self.new }
+        ensures whole { IsWhole gate.now.key self.new }
+    {
+        let PassOf {
+            seat,
+            number: _,
+            told: _,
+            room,
+        } = other;
+        unite(&gate.table.shared, &mut self.seat, seat);
+        self.room += room;
     }
 }

@@ -1,12 +1,13 @@
 //! The steps of a turn on the table that passes share.
 ghost use Rattle.std.specs.Prelude.{◌≡◌, ◌≤◌, ◌<◌, ◌^◌, ◌%◌, ℕ, [], ◌∷◌, None, Some, true, false, if◌then◌else◌};
-ghost use Rattle.opt_gate.specs.Plays.{resting, waiting, Takes, Took, passed, Tells};
+ghost use Rattle.opt_gate.specs.Plays.{resting, waiting, Takes, Took, passed, joined, Tells};
 ghost use Rattle.opt_gate.specs.Cores.{entries_of, ended_of, IsOfKey, passes_of};
 ghost use Rattle.opt_gate.specs.Follow.{MayFollow};
+ghost use Rattle.opt_core.specs.Core.{Legal};
 ghost use Rattle.opt_gate.specs.Turn.{Acts, MayComeTo, is_stop};
 
 use crate::key::Key;
-use crate::rule::{Draw, GateRule, PassOn, PassOnStop, Watch};
+use crate::rule::{Draw, GateRule, JoinPasses, PassOn, PassOnStop, Tell, Watch};
 use crate::view::View;
 use atomic_table::{Seat, Shared};
 use opt_core::{Core, Event, Reply};
@@ -86,10 +87,14 @@ pub(crate) fn take<S: System, R: Wait>(
     requires idle { (seat.old.me ≡ (resting seat.old.me.0, [])) × (0 < seat.old.me.0.room) }
     ensures same { seat.new.table_id ≡ seat.old.table_id }
     ensures took { Took entries_of ended_of IsOfKey passes_of seat.old.me.0 result seat.new.me }
+    ensures legal { Legal (S.means result.system) result }
 {
     let ticket = draw(shared, seat);
     watch(rt, shared, seat, ticket);
-    shared.exchange(seat, 0, None).unwrap()
+    let core = shared.exchange(seat, 0, None).unwrap();
+    // Reads the core, so that what its type says is known of it.
+    let _ = core.ending();
+    core
 }
 
 // One event of the core.
@@ -112,4 +117,21 @@ pub(crate) fn act<S: System, R: Wait>(
     let reply = core.step(s, event);
     hand_on(shared, seat, core, is_stop);
     reply
+}
+
+// Joins two seats without tickets. The second load tells of the seat that comes of it.
+pub(crate) fn unite<S: System>(
+    shared: &Shared<Option<Core<S>>, View<Key<Core<S>>, S::Found, S::Reason>, Key<Core<S>>, GateRule<S>>,
+    seat: &mut Seat<Option<Core<S>>, View<Key<Core<S>>, S::Found, S::Reason>>,
+    other: Seat<Option<Core<S>>, View<Key<Core<S>>, S::Found, S::Reason>>,
+)
+    requires table { (seat.old.table_id ≡ shared.now.table_id) × (other.table_id ≡ shared.now.table_id) × (shared.now.table_id.words ≡ 2) }
+    requires idle { (seat.old.me ≡ (resting seat.old.me.0, [])) × (0 < seat.old.me.0.room) }
+    requires other { other.me ≡ (resting other.me.0, []) }
+    ensures same { seat.new.table_id ≡ seat.old.table_id }
+    ensures me { seat.new.me ≡ (resting (joined seat.old.me.0 other.me.0), []) }
+    ensures tells { Tells passes_of (joined seat.old.me.0 other.me.0) }
+{
+    shared.join_seat::<JoinPasses>(seat, other);
+    shared.load::<Tell<S>>(seat, 0);
 }
