@@ -11,3 +11,4 @@ pub mod Joins
 pub mod Rests
 mod Follows
 mod Taking
+mod Turned

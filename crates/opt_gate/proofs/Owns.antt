@@ -39,7 +39,7 @@ module _ {A : Type 0} where
         subst (λ (l : List A). AllAt l (placed_from (length seen + 1) xs)) step (subst (λ (k : ℕ). AllAt ((seen ++ x ∷ []) ++ xs) (placed_from k xs)) long (all_placed (seen ++ x ∷ []) xs)),
       )
 
-  rest_is : (log seen : List A) → (p : StartsWith log seen) → drop (length seen) log ≡ p.0
+  pub rest_is : (log seen : List A) → (p : StartsWith log seen) → drop (length seen) log ≡ p.0
   rest_is log seen p = ap (λ (l : List A). drop (length seen) l) p.1 ∙ drop-append_seam seen p.0
 
   -- the own entries and those past what was known

@@ -51,7 +51,7 @@ module _ {K F R C : Type 0} (entries : C → List F) (ended : C → Option (Endi
         learns = record { same = l.same; further = l.further; stands = l.stands; tells = let w = l.tells in record { own = w.own; once = w.once; other = w.other; other_ended = w.other_ended; narrow = w.narrow; all_own = w.all_own; all_stops = w.all_stops } };
         }
 
-abbrev none_out : {C : Type 0} → List (ℕ × Option C)
+abbrev pub none_out : {C : Type 0} → List (ℕ × Option C)
 none_out = []
 
 stop_count : {Found : Type 0} (e : Event Found) → (if is_stop e then 1 else 0) ≡ stops_of e
