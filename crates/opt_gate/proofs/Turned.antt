@@ -1,6 +1,6 @@
 -- What a turn of a seat is to its pass.
 use Rattle.std.proofs.Common.{◌≡◌, ℕ, ◌+◌, ◌≤◌, ◌<◌, ◌^◌, List, [], ◌∷◌, ◌++◌, Bool, Option, Some, None, length, take, drop, refl, sym, ◌∙◌, ap, arith, subst}
-use Rattle.std.proofs.lemmas.List.{length-append, length-drop, take-append-le}
+use Rattle.std.proofs.lemmas.List.{length-append, length-drop, take-append-le, take-append-drop, take_all, append-nil}
 use Rattle.atomic_table.specs.Table.{Me}
 use Rattle.atomic_table.specs.Seated.{TableId}
 use Rattle.opt_system.specs.Meaning.{Meaning, IsLawful, applies, faulty, Barren}
@@ -22,7 +22,7 @@ use Rattle.opt_gate.specs.Lists.{StartsWith, placed_from}
 use Rattle.opt_gate.specs.Cores.{entries_of, ended_of, IsOfKey, passes_of}
 use Rattle.opt_gate.specs.Plays.{resting, serving, passed, Tells}
 use Rattle.opt_gate.specs.Pass.{PassView, IsWhole}
-use Rattle.opt_gate.specs.Turn.{event_of, stops_of, commits_of, told_after, told_and_handed, MayAsk, IsTrueEnding, IsTurn, Acts}
+use Rattle.opt_gate.specs.Turn.{event_of, stops_of, commits_of, news_of, entries_told, pass_after, told_after, told_and_handed, MayAsk, IsTrueEnding, IsOneEvent, Acts}
 use Rattle.opt_gate.proofs.Owns.{rest_is}
 use Rattle.opt_gate.proofs.Taking.{none_out}
 
@@ -107,6 +107,34 @@ module _ {System State Found Goal Reason : Type 0} (m : Meaning State Found Goal
       → placed_from (length c.entries) (drop (length c.entries) d.entries) ≡ commits_of e r
   commits c d e r lawful legal may h = let t = turn m c d e r lawful legal may h in placed_rest d.entries c.entries (committed_by e r) t.adds ∙ placed c d e r t.says
 
+  adds : (c d : Core System State Found Goal Reason) (e : Event Found) (r : Reply Found Reason) → IsLawful m → Legal m c → MayCome m c e → Answers m c e r d → StartsWith d.entries c.entries
+  adds c d e r lawful legal may h = let t = turn m c d e r lawful legal may h in (committed_by e r, t.adds)
+
+  -- what was told then: what was told before, and the entries of the News
+  module _ (c d : Core System State Found Goal Reason) (told : ℕ) (le : told ≤ length c.entries) where
+    all_told : (o : Option (Ending Reason)) (a : Ask Found) (es : List Found) (task : ℕ) → AnswersWith m o c (event_of told a) (reply.News es task) d → take (told + length es) d.entries ≡ take told c.entries ++ es
+    all_told (Some x) a es task h = absurd (news_closed h.0)
+    all_told None (ask.Look from) es task h =
+        let a = ap (λ (l : List Found). length l) h.0 in let b = length-drop told c.entries in
+        let all : length c.entries ≤ told + length es = omega arith in
+        ap (λ (x : Core System State Found Goal Reason). take (told + length es) x.entries) h.2
+        ∙ (take_all (told + length es) c.entries all ∙ (sym (take-append-drop told c.entries) ∙ ap (λ (l : List Found). take told c.entries ++ l) (sym h.0)))
+    all_told None (ask.Offer f) es task h = absurd h
+    all_told None (ask.Fault f) es task h = absurd h
+    all_told None (ask.Quiet share) es task h = absurd h
+    all_told None ask.Stop es task h = absurd h
+
+    same_told : StartsWith d.entries c.entries → take told d.entries ≡ take told c.entries ++ []
+    same_told s = take_seen d.entries c.entries told s le ∙ sym (append-nil (take told c.entries))
+
+    told_more : (a : Ask Found) (r : Reply Found Reason) → StartsWith d.entries c.entries → Answers m c (event_of told a) r d → take (told_and_handed told r) d.entries ≡ take told c.entries ++ news_of r
+    told_more a (reply.News es task) s h = all_told c.ending a es task h
+    told_more a (reply.Committed place) s h = same_told s
+    told_more a (reply.Stale n) s h = same_told s
+    told_more a reply.Noted s h = same_told s
+    told_more a (reply.Closed x) s h = same_told s
+    told_more a reply.NoMemory s h = same_told s
+
   -- the ending of a legal core is true after its entries
   pub true_ending : (start d : Core System State Found Goal Reason) → SameStart start d → Legal m d → (x : Ending Reason) → d.ending ≡ Some x → IsTrueEnding m start d.entries x
   true_ending start d same legal x is =
@@ -175,33 +203,49 @@ module _ {System State Found Goal Reason : Type 0} (m : Meaning State Found Goal
   after_with : List (ℕ × Found) → ℕ → ℕ → PassView (Key (Core System State Found Goal Reason)) Found Reason
   after_with own told' stops = record { table = table; key = v.key; number = number; told = told'; room = room; knows = acts.after.entries; ending = acts.after.ending; own = v.own ++ own; stops = v.stops + stops }
 
-  pass_is : seen_as n.0 table number (told_and_handed told r) room ≡ after_with (commits_of (event_of told a) r) (told_after told r (length acts.after.entries)) (stops_of (event_of told a))
+  pass_is : seen_as n.0 table number (told_and_handed told r) room ≡ pass_after (seen_as v table number told room) a r acts.after.entries acts.after.ending
   unfolding after_with
   pass_is = ap (λ (w : View (Key (Core System State Found Goal Reason)) Found Reason). seen_as w table number (told_and_handed told r) room) sight
       ∙ (ap (λ (own : List (ℕ × Found)). after_with own (told_and_handed told r) (stops_of e)) (commits m acts.before acts.after e r lawful acts.legal acts.may_come acts.answers)
       ∙ (ap (λ (x : Event Found). after_with (commits_of x r) (told_and_handed told r) (stops_of x)) is
       ∙ ap (λ (t : ℕ). after_with (commits_of (event_of told a) r) t (stops_of (event_of told a))) now_told))
 
-  turned : IsTurn m key.core.value (seen_as v table number told room) a r (seen_as n.0 table number (told_and_handed told r) room)
-  unfolding after_with
-  turned = record {
-    before = acts.before;
-    after = acts.after;
-    of_start = acts.of_key key keyed;
-    may_come = may;
-    answers = answered;
-    legal = acts.legal;
-    legal_after = acts.legal_after;
-    knew = acts.knew;
-    stood = acts.stood;
-    pass = pass_is;
-    }
+  known_is : n.0.knows ≡ acts.after.entries
+  known_is = ap (λ (w : View (Key (Core System State Found Goal Reason)) Found Reason). w.knows) sight
 
-  pub turned_as : (p : PassView (Key (Core System State Found Goal Reason)) Found Reason) (table' : TableId) (told' : ℕ) → seen_as v table number told room ≡ p → table' ≡ table → told' ≡ told_and_handed told r
-      → IsTurn m key.core.value p a r (seen_as n.0 table' number told' room)
-  turned_as p table' told' is_p is_table is_told = subst (λ (p : PassView (Key (Core System State Found Goal Reason)) Found Reason). IsTurn m key.core.value p a r (seen_as n.0 table' number told' room)) is_p
-      (subst (λ (t : TableId). IsTurn m key.core.value (seen_as v table number told room) a r (seen_as n.0 t number told' room)) (sym is_table)
-      (subst (λ (t : ℕ). IsTurn m key.core.value (seen_as v table number told room) a r (seen_as n.0 table number t room)) (sym is_told) turned))
+  ended_is : n.0.ending ≡ acts.after.ending
+  ended_is = ap (λ (w : View (Key (Core System State Found Goal Reason)) Found Reason). w.ending) sight
+
+  -- the facts of a turn, over the pass p before it and whatever is equal to what is seen after it
+  module _ (p : PassView (Key (Core System State Found Goal Reason)) Found Reason) (table' : TableId) (told' : ℕ) (is_p : seen_as v table number told room ≡ p) (is_table : table' ≡ table) (is_told : told' ≡ told_and_handed told r) where
+    same_after : seen_as n.0 table' number told' room ≡ seen_as n.0 table number (told_and_handed told r) room
+    same_after = ap (λ (t : TableId). seen_as n.0 t number told' room) is_table ∙ ap (λ (t : ℕ). seen_as n.0 table number t room) is_told
+
+    pub pass_then : seen_as n.0 table' number told' room ≡ pass_after p a r n.0.knows n.0.ending
+    pass_then = same_after ∙ (pass_is ∙ (ap (λ (q : PassView (Key (Core System State Found Goal Reason)) Found Reason). pass_after q a r acts.after.entries acts.after.ending) is_p
+        ∙ (ap (λ (l : List Found). pass_after p a r l acts.after.ending) (sym known_is) ∙ ap (λ (x : Option (Ending Reason)). pass_after p a r n.0.knows x) (sym ended_is))))
+
+    pub one_event : IsOneEvent m key.core.value p a r (seen_as n.0 table' number told' room)
+    one_event = subst (λ (p : PassView (Key (Core System State Found Goal Reason)) Found Reason). IsOneEvent m key.core.value p a r (seen_as n.0 table' number told' room)) is_p record {
+      before = acts.before;
+      after = acts.after;
+      of_start = acts.of_key key keyed;
+      may_come = may;
+      answers = answered;
+      legal = acts.legal;
+      legal_after = acts.legal_after;
+      knew = acts.knew;
+      stood = acts.stood;
+      knows = known_is;
+      ending = ended_is;
+      }
+
+    pub told_then : entries_told (seen_as n.0 table' number told' room) ≡ entries_told p ++ news_of r
+    told_then =
+        let kept : take told acts.before.entries ≡ take told v.knows = take_seen acts.before.entries v.knows told acts.knew le in
+        let now : entries_told (seen_as n.0 table' number told' room) ≡ take (told_and_handed told r) acts.after.entries = ap (λ (t : ℕ). take t n.0.knows) is_told ∙ ap (λ (l : List Found). take (told_and_handed told r) l) known_is in
+        now ∙ (told_more m acts.before acts.after told told_b a r (adds m acts.before acts.after e r lawful acts.legal acts.may_come acts.answers) answered
+        ∙ (ap (λ (l : List Found). l ++ news_of r) kept ∙ ap (λ (q : PassView (Key (Core System State Found Goal Reason)) Found Reason). entries_told q ++ news_of r) is_p))
 
   -- the ending that the pass knows then is true
   pub ending_known : (x : Ending Reason) → n.0.ending ≡ Some x → IsTrueEnding m key.core.value n.0.knows x

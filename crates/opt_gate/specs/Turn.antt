@@ -44,7 +44,17 @@ module _ {Found : Type 0} where
   stops_of (event.Quiet told share) = 0
   stops_of event.Stop = 1
 
+module _ {K Found Reason : Type 0} where
+  -- the entries that were handed to a pass
+  abbrev pub entries_told : PassView K Found Reason → List Found
+  entries_told p = take p.told p.knows
+
 module _ {Found Reason : Type 0} where
+  -- the entries that an answer hands over
+  abbrev pub news_of : Reply Found Reason → List Found
+  news_of (reply.News es task) = es
+  news_of r = []
+
   -- the commit of an event and its answer, with its place: an offer that was answered Committed
   abbrev pub commits_of : Event Found → Reply Found Reason → List (ℕ × Found)
   commits_of (event.Offer told f) (reply.Committed place) = (place, f) ∷ []
@@ -55,6 +65,11 @@ module _ {Found Reason : Type 0} where
   told_after told (reply.News es task) n = n
   told_after told r n = told
 
+  -- the pass after a turn, where it knows these entries and this ending
+  abbrev pub pass_after : {K : Type 0} → PassView K Found Reason → Ask Found → Reply Found Reason → List Found → Option (Ending Reason) → PassView K Found Reason
+  pass_after p a r knows x = record { table = p.table; key = p.key; number = p.number; told = told_after p.told r (length knows); room = p.room; knows = knows; ending = x;
+      own = p.own ++ commits_of (event_of p.told a) r; stops = p.stops + stops_of (event_of p.told a) }
+
   -- the number that was told, and the entries of the News
   abbrev pub told_and_handed : ℕ → Reply Found Reason → ℕ
   told_and_handed told (reply.News es task) = told + length es
@@ -64,9 +79,9 @@ module _ {System State Found Goal Reason : Type 0} (m : Meaning State Found Goal
   -- the condition of what a pass asks, by the entries that it was told; start is the core that the gate was started with
   abbrev pub MayAsk : Core System State Found Goal Reason → PassView (Key (Core System State Found Goal Reason)) Found Reason → Ask Found → Type 0
   MayAsk start p (ask.Look from) = Unit {0}
-  MayAsk start p (ask.Offer f) = m.judged start.goal (reached m start.base (take p.told p.knows)) f ≡ applies
-  MayAsk start p (ask.Fault f) = (r : Reason) × (m.judged start.goal (reached m start.base (take p.told p.knows)) f ≡ faulty r)
-  MayAsk start p (ask.Quiet share) = (share < m.shares start.goal) × Barren m start.goal share (reached m start.base (take p.told p.knows))
+  MayAsk start p (ask.Offer f) = m.judged start.goal (reached m start.base (entries_told p)) f ≡ applies
+  MayAsk start p (ask.Fault f) = (r : Reason) × (m.judged start.goal (reached m start.base (entries_told p)) f ≡ faulty r)
+  MayAsk start p (ask.Quiet share) = (share < m.shares start.goal) × Barren m start.goal share (reached m start.base (entries_told p))
   MayAsk start p ask.Stop = Unit {0}
 
   -- the ending is true after these entries
@@ -74,7 +89,7 @@ module _ {System State Found Goal Reason : Type 0} (m : Meaning State Found Goal
   IsTrueEnding start knows x = (quiet : List Bool) × (left : ℕ) × IsEnding m start.goal (reached m start.base knows) knows quiet start.given left (Some x)
 
   -- one event of one core, of which the pass then knows all
-  pub record IsTurn (start : Core System State Found Goal Reason) (p : PassView (Key (Core System State Found Goal Reason)) Found Reason) (a : Ask Found) (r : Reply Found Reason)
+  pub record IsOneEvent (start : Core System State Found Goal Reason) (p : PassView (Key (Core System State Found Goal Reason)) Found Reason) (a : Ask Found) (r : Reply Found Reason)
       (q : PassView (Key (Core System State Found Goal Reason)) Found Reason) : Type 0 where
     -- the core in the slot, before the event and after it
     pub before : Core System State Found Goal Reason
@@ -88,9 +103,9 @@ module _ {System State Found Goal Reason : Type 0} (m : Meaning State Found Goal
     -- what the pass knew: the first entries, and with the ending all of them
     pub knew : StartsWith before.entries p.knows
     pub stood : (x : Ending Reason) → p.ending ≡ Some x → (before.ending ≡ Some x) × (before.entries ≡ p.knows)
-    -- what the pass is then
-    pub pass : q ≡ record { table = p.table; key = p.key; number = p.number; told = told_after p.told r (length after.entries); room = p.room; knows = after.entries; ending = after.ending;
-        own = p.own ++ commits_of (event_of p.told a) r; stops = p.stops + stops_of (event_of p.told a) }
+    -- what it knows then
+    pub knows : q.knows ≡ after.entries
+    pub ending : q.ending ≡ after.ending
 
   -- the event may come to any core of the gate's start that begins with what the view knows
   abbrev pub MayComeTo : View (Key (Core System State Found Goal Reason)) Found Reason → Event Found → Type 0

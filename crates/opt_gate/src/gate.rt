@@ -1,6 +1,6 @@
 //! The gate.
 
-ghost use Rattle.std.specs.Prelude.{◌≡◌, ◌<◌, ◌^◌, ℕ, [], ◌∷◌, None, Some, length, IfOk, IfErr};
+ghost use Rattle.std.specs.Prelude.{◌≡◌, ◌<◌, ◌^◌, ℕ, [], ◌∷◌, ◌++◌, None, Some, length, IfOk, IfErr};
 ghost use Rattle.opt_core.specs.Core.{Legal, AllApply};
 ghost use Rattle.opt_core.specs.Runs.{SameStart};
 ghost use Rattle.opt_core.specs.declared.event.Ending.{Ending};
@@ -8,7 +8,7 @@ ghost use Rattle.opt_core.specs.declared.event.Ending.TheVariants.{Stopped};
 ghost use Rattle.opt_core.specs.declared.event.Reply.TheVariants.{Closed};
 ghost use Rattle.opt_gate.specs.Lists.{AllAt, StartsWith, times, once_below};
 ghost use Rattle.opt_gate.specs.Pass.{IsPassOf, IsWhole, OwnsRightly, first_pass};
-ghost use Rattle.opt_gate.specs.Turn.{MayAsk, IsTurn, IsTrueEnding, told_and_handed};
+ghost use Rattle.opt_gate.specs.Turn.{MayAsk, IsOneEvent, IsTrueEnding, entries_told, news_of, pass_after, told_and_handed};
 
 use crate::ask::Ask;
 use crate::key::Key;
@@ -104,7 +104,9 @@ impl<S: System> GateOf<Core<S>, S::Found, S::Reason, GateRule<S>, S::Goal> {
         requires gate { IsPassOf self.now pass.old }
         requires system { s.now ≡ self.now.key.core.value.system }
         requires ask { MayAsk (S.means s.now) self.now.key.core.value pass.old ask }
-        ensures one_event { IsTurn (S.means s.now) self.now.key.core.value pass.old ask result pass.new }
+        ensures one_event { IsOneEvent (S.means s.now) self.now.key.core.value pass.old ask result pass.new }
+        ensures pass { pass.new ≡ pass_after pass.old ask result pass.new.knows pass.new.ending }
+        ensures told { entries_told pass.new ≡ entries_told pass.old ++ news_of result }
         ensures applies { AllApply (S.means s.now) self.now.key.core.value.goal self.now.key.core.value.base pass.new.knows }
         ensures ending { (x : Ending S.Reason) → pass.new.ending ≡ Some x → IsTrueEnding (S.means s.now) self.now.key.core.value pass.new.knows x }
         ensures closed { (x : Ending S.Reason) → result ≡ Closed x → pass.new.ending ≡ Some x }

@@ -1,6 +1,6 @@
 use Rattle.std.proofs.Common.{◌≡◌, ◌≤◌, ◌<◌, Some, length, ◌∙◌, refl, sym, ap, subst, arith}
 use Rattle.opt_gate.specs.Turn.{MayAsk, event_of}
-use Rattle.opt_gate.proofs.Turned.{asks_come, of_its_key, told_known, rests_again, room_stays, turned_as, ending_known, whole_then}
+use Rattle.opt_gate.proofs.Turned.{asks_come, of_its_key, told_known, rests_again, room_stays, one_event, pass_then, told_then, ending_known, whole_then}
 use Rattle.opt_gate.proofs.gate.GateOf+Core+S+S+Found+S+Reason+GateRule+S+S+Goal.turn.Goals as goal
 
 pub act-reply-requires-clause-system : goal.act-reply-requires-clause-system
@@ -34,7 +34,23 @@ returns-clause-one_event g c =
     let m = g.S.System.means c.args.s.now in
     let v = c.pass.inside.seat.me.0 in
     let keyed = ap (λ p. p.key) c.pass.view_is ∙ c.requires.gate.1 in
-    turned_as m (g.met.S.System.lawful c.args.s.now) c.args.self.now.key v c.pass.inside.seat.table_id c.pass.inside.number c.pass.inside.told c.pass.inside.room c.args.ask c.into_event-event.result c.act-reply.result c.act-reply.new.seat.me c.act-reply.ensures.acts
+    one_event m (g.met.S.System.lawful c.args.s.now) c.args.self.now.key v c.pass.inside.seat.table_id c.pass.inside.number c.pass.inside.told c.pass.inside.room c.args.ask c.into_event-event.result c.act-reply.result c.act-reply.new.seat.me c.act-reply.ensures.acts
+        c.into_event-event.ensures c.pass.invariant.3 keyed c.args.pass.now c.act-reply.new.seat.table_id c.told_then-pass-inside.result c.pass.view_is c.act-reply.ensures.same c.told_then-pass-inside.ensures
+
+pub returns-clause-pass : goal.returns-clause-pass
+returns-clause-pass g c =
+    let m = g.S.System.means c.args.s.now in
+    let v = c.pass.inside.seat.me.0 in
+    let keyed = ap (λ p. p.key) c.pass.view_is ∙ c.requires.gate.1 in
+    pass_then m (g.met.S.System.lawful c.args.s.now) c.args.self.now.key v c.pass.inside.seat.table_id c.pass.inside.number c.pass.inside.told c.pass.inside.room c.args.ask c.into_event-event.result c.act-reply.result c.act-reply.new.seat.me c.act-reply.ensures.acts
+        c.into_event-event.ensures c.pass.invariant.3 keyed c.args.pass.now c.act-reply.new.seat.table_id c.told_then-pass-inside.result c.pass.view_is c.act-reply.ensures.same c.told_then-pass-inside.ensures
+
+pub returns-clause-told : goal.returns-clause-told
+returns-clause-told g c =
+    let m = g.S.System.means c.args.s.now in
+    let v = c.pass.inside.seat.me.0 in
+    let keyed = ap (λ p. p.key) c.pass.view_is ∙ c.requires.gate.1 in
+    told_then m (g.met.S.System.lawful c.args.s.now) c.args.self.now.key v c.pass.inside.seat.table_id c.pass.inside.number c.pass.inside.told c.pass.inside.room c.args.ask c.into_event-event.result c.act-reply.result c.act-reply.new.seat.me c.act-reply.ensures.acts
         c.into_event-event.ensures c.pass.invariant.3 keyed c.args.pass.now c.act-reply.new.seat.table_id c.told_then-pass-inside.result c.pass.view_is c.act-reply.ensures.same c.told_then-pass-inside.ensures
 
 pub returns-clause-ending : goal.returns-clause-ending
