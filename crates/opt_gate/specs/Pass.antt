@@ -31,6 +31,11 @@ pub record PassView (K F R : Type 0) : Type 0 where
   -- how many times it asked to stop
   pub stops : ℕ
 
+module _ {System State Found Goal Reason : Type 0} where
+  -- the core that a gate was started with
+  abbrev pub start_of : GateView (Key (Core System State Found Goal Reason)) → Core System State Found Goal Reason
+  start_of gate = gate.key.core.value
+
 module _ {K F R : Type 0} where
   abbrev pub IsPassOf : GateView K → PassView K F R → Type 0
   IsPassOf gate pass = (pass.table ≡ gate.table) × (pass.key ≡ Some gate.key)

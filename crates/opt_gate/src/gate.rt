@@ -7,7 +7,7 @@ ghost use Rattle.opt_core.specs.declared.event.Ending.{Ending};
 ghost use Rattle.opt_core.specs.declared.event.Ending.TheVariants.{Stopped};
 ghost use Rattle.opt_core.specs.declared.event.Reply.TheVariants.{Closed};
 ghost use Rattle.opt_gate.specs.Lists.{AllAt, StartsWith, times, once_below};
-ghost use Rattle.opt_gate.specs.Pass.{IsPassOf, IsWhole, OwnsRightly, first_pass};
+ghost use Rattle.opt_gate.specs.Pass.{IsPassOf, IsWhole, OwnsRightly, first_pass, start_of};
 ghost use Rattle.opt_gate.specs.Turn.{MayAsk, IsOneEvent, IsTrueEnding, entries_told, news_of, pass_after, told_and_handed};
 
 use crate::ask::Ask;
@@ -57,7 +57,7 @@ pub type Gate<S: System> = GateOf<Core<S>, S::Found, S::Reason, GateRule<S>, S::
 impl<S: System> GateOf<Core<S>, S::Found, S::Reason, GateRule<S>, S::Goal> {
     /// The goal of the core that the gate was started with.
     pub fn goal(&self) -> S::Goal
-        ensures { result ≡ self.now.key.core.value.goal }
+        ensures { result ≡ (start_of self.now).goal }
     {
         self.goal
     }
@@ -67,7 +67,7 @@ impl<S: System> GateOf<Core<S>, S::Found, S::Reason, GateRule<S>, S::Goal> {
     pub fn start(alloc: Global, core: Core<S>, passes: u64) -> Result<(Gate<S>, Pass<S>), Core<S>>
         requires passes { 0 < passes }
         requires core { (core.entries ≡ []) × (core.ending ≡ None) }
-        ensures ok { IfOk result (λ r. (r.0.key.core.value ≡ core) × (r.0.key.passes ≡ passes) × (r.1 ≡ first_pass r.0 passes)) }
+        ensures ok { IfOk result (λ r. (start_of r.0 ≡ core) × (r.0.key.passes ≡ passes) × (r.1 ≡ first_pass r.0 passes)) }
         ensures err { IfErr result (λ c. c ≡ core) }
     {
         let goal = core.goal();
@@ -102,13 +102,13 @@ impl<S: System> GateOf<Core<S>, S::Found, S::Reason, GateRule<S>, S::Goal> {
         ask: Ask<S::Found>,
     ) -> Reply<S::Found, S::Reason>
         requires gate { IsPassOf self.now pass.old }
-        requires system { s.now ≡ self.now.key.core.value.system }
-        requires ask { MayAsk (S.means s.now) self.now.key.core.value pass.old ask }
-        ensures one_event { IsOneEvent (S.means s.now) self.now.key.core.value pass.old ask result pass.new }
+        requires system { s.now ≡ (start_of self.now).system }
+        requires ask { MayAsk (S.means s.now) (start_of self.now) pass.old ask }
+        ensures one_event { IsOneEvent (S.means s.now) (start_of self.now) pass.old ask result pass.new }
         ensures pass { pass.new ≡ pass_after pass.old ask result pass.new.knows pass.new.ending }
         ensures told { entries_told pass.new ≡ entries_told pass.old ++ news_of result }
-        ensures applies { AllApply (S.means s.now) self.now.key.core.value.goal self.now.key.core.value.base pass.new.knows }
-        ensures ending { (x : Ending S.Reason) → pass.new.ending ≡ Some x → IsTrueEnding (S.means s.now) self.now.key.core.value pass.new.knows x }
+        ensures applies { AllApply (S.means s.now) (start_of self.now).goal (start_of self.now).base pass.new.knows }
+        ensures ending { (x : Ending S.Reason) → pass.new.ending ≡ Some x → IsTrueEnding (S.means s.now) (start_of self.now) pass.new.knows x }
         ensures closed { (x : Ending S.Reason) → result ≡ Closed x → pass.new.ending ≡ Some x }
         ensures stays { (x : Ending S.Reason) → pass.old.ending ≡ Some x → (result ≡ Closed x) × (pass.new.ending ≡ Some x) × (pass.new.knows ≡ pass.old.knows) }
         ensures own { OwnsRightly pass.new }
@@ -123,8 +123,8 @@ impl<S: System> GateOf<Core<S>, S::Found, S::Reason, GateRule<S>, S::Goal> {
     /// A last turn, which keeps the core out. It waits until its turn comes, and takes no memory.
     pub fn close<R: Wait>(self, rt: &R, pass: Pass<S>) -> Core<S>
         requires { IsPassOf self pass }
-        ensures start { SameStart self.key.core.value result }
-        ensures legal { Legal (S.means self.key.core.value.system) result }
+        ensures start { SameStart (start_of self) result }
+        ensures legal { Legal (S.means (start_of self).system) result }
         ensures knew { StartsWith result.entries pass.knows }
         ensures stands { (x : Ending S.Reason) → pass.ending ≡ Some x → (result.ending ≡ Some x) × (result.entries ≡ pass.knows) }
         ensures own { AllAt result.entries pass.own }
