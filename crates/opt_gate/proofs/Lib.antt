@@ -12,3 +12,4 @@ pub mod Rests
 mod Follows
 mod Taking
 mod Turned
+mod Replicas

@@ -1,8 +1,11 @@
 //! Passes over Cells: answers in one thread, and two threads that commit at the same time.
 
-ghost use Rattle.std.specs.Prelude.{◌≡◌, [], None, IfOk};
+ghost use Rattle.std.specs.Prelude.{◌≡◌, [], None, IfOk, OnOk, replicate, true};
+ghost use Rattle.opt_core.specs.Core.{reached};
+ghost use Rattle.opt_gate.specs.Pass.{IsPassOf, start_of};
+ghost use Rattle.opt_gate.specs.Turn.{entries_told};
+ghost use Rattle.opt_system.specs.Cells.{cells_means};
 ghost use Rattle.opt_system.specs.Row.{row};
-ghost use Rattle.std.specs.Prelude.{replicate, true};
 
 mod worker;
 
@@ -38,36 +41,55 @@ fn core_of(alloc: Global, count: usize, items: u64) -> Result<Core<Cells>, Fail>
     }
 }
 
-fn text_of(alloc: Global, reply: Option<Reply<usize, Never>>) -> Result<String, Fail> {
+fn text_of(alloc: Global, reply: &Reply<usize, Never>) -> Result<String, Fail> {
     Ok(match reply {
-        None => String::from_str(alloc, "may not be asked")?,
-        Some(Reply::News { entries, task }) => format!(in alloc; "news {:?} {task}", entries.as_slice())?,
-        Some(Reply::Committed(place)) => format!(in alloc; "committed {place}")?,
-        Some(Reply::Stale(count)) => format!(in alloc; "stale {count}")?,
-        Some(Reply::Noted) => String::from_str(alloc, "noted")?,
-        Some(Reply::Closed(_)) => String::from_str(alloc, "closed")?,
-        Some(Reply::NoMemory) => String::from_str(alloc, "no memory")?,
+        Reply::News { entries, task } => format!(in alloc; "news {:?} {task}", entries.as_slice())?,
+        Reply::Committed(place) => format!(in alloc; "committed {place}")?,
+        Reply::Stale(count) => format!(in alloc; "stale {count}")?,
+        Reply::Noted => String::from_str(alloc, "noted")?,
+        Reply::Closed(_) => String::from_str(alloc, "closed")?,
+        Reply::NoMemory => String::from_str(alloc, "no memory")?,
     })
+}
+
+// One turn of a pass whose replica is `at`, and its answer as a text.
+fn answer<R: Wait>(
+    rt: &R,
+    alloc: Global,
+    gate: &Gate<Cells>,
+    pass: &mut Pass<Cells>,
+    at: &mut CellRow,
+    asked: Ask<usize>,
+) -> Result<String, Fail>
+    requires gate { IsPassOf gate.now pass.old }
+    requires at { at.old ≡ reached cells_means (start_of gate.now).base (entries_told pass.old) }
+    ensures gate { IsPassOf gate.now pass.new }
+    ensures at { OnOk result (at.new ≡ reached cells_means (start_of gate.now).base (entries_told pass.new)) }
+{
+    let Some(reply) = ask(rt, &Cells, gate, pass, at, asked) else {
+        return Err(Fail::from("may not be asked"));
+    };
+    text_of(alloc, &reply)
 }
 
 #[test]
 fn a_second_pass_learns_what_the_first_committed(rt: HostRuntime) -> Result<(), Fail> {
     let alloc = rt.alloc();
-    let at = true_cells(alloc, 1)?;
+    let (mut at_p, mut at_q) = (true_cells(alloc, 1)?, true_cells(alloc, 1)?);
     let Ok((gate, mut p)) = Gate::start(alloc, core_of(alloc, 1, 10)?, 2) else {
         return Err(Fail::from("no gate was made"));
     };
     assert_eq!(rt; gate.goal().shares, 2);
     let mut q = p.split(&gate, 1);
     assert_eq!(rt; (p.number(), p.room(), q.number(), q.room()), (0, 1, 1, 1));
-    let reply = ask(&rt, &Cells, &gate, &mut p, &at, Ask::Look { from: 0 });
-    assert_eq!(rt; text_of(alloc, reply)?.as_str(), "news [] 0");
-    let reply = ask(&rt, &Cells, &gate, &mut p, &at, Ask::Offer { found: 0 });
-    assert_eq!(rt; text_of(alloc, reply)?.as_str(), "committed 0");
-    let reply = ask(&rt, &Cells, &gate, &mut q, &at, Ask::Quiet { share: 1 });
-    assert_eq!(rt; text_of(alloc, reply)?.as_str(), "stale 1");
-    let reply = ask(&rt, &Cells, &gate, &mut q, &at, Ask::Look { from: 1 });
-    assert_eq!(rt; text_of(alloc, reply)?.as_str(), "news [0] 1");
+    let text = answer(&rt, alloc, &gate, &mut p, &mut at_p, Ask::Look { from: 0 })?;
+    assert_eq!(rt; text.as_str(), "news [] 0");
+    let text = answer(&rt, alloc, &gate, &mut p, &mut at_p, Ask::Offer { found: 0 })?;
+    assert_eq!(rt; text.as_str(), "committed 0");
+    let text = answer(&rt, alloc, &gate, &mut q, &mut at_q, Ask::Quiet { share: 1 })?;
+    assert_eq!(rt; text.as_str(), "stale 1");
+    let text = answer(&rt, alloc, &gate, &mut q, &mut at_q, Ask::Look { from: 1 })?;
+    assert_eq!(rt; text.as_str(), "news [0] 1");
     assert_eq!(rt; (p.told(), q.told()), (0, 1));
     p.join(&gate, q);
     assert_eq!(rt; (p.number(), p.room(), p.told()), (0, 2, 0));

@@ -47,43 +47,99 @@ fn may_ask<S: System>(
     }
 }
 
-// One turn, if the condition of what is asked holds.
+// One turn, if the condition of what is asked holds. The replica follows what it hands over.
 pub fn ask<S: System, R: Wait>(
     rt: &R,
     s: &S,
     gate: &Gate<S>,
     pass: &mut Pass<S>,
-    at: &S::State,
+    at: &mut S::State,
     ask: Ask<S::Found>,
 ) -> Option<Reply<S::Found, S::Reason>>
     requires gate { IsPassOf gate.now pass.old }
     requires system { s.now ≡ (start_of gate.now).system }
-    requires at { at.now ≡ reached (S.means s.now) (start_of gate.now).base (entries_told pass.old) }
+    requires at { at.old ≡ reached (S.means s.now) (start_of gate.now).base (entries_told pass.old) }
     ensures gate { IsPassOf gate.now pass.new }
-    ensures told { IfSome result (λ r. entries_told pass.new ≡ entries_told pass.old ++ news_of r) }
+    ensures at { IfSome result (λ _. at.new ≡ reached (S.means s.now) (start_of gate.now).base (entries_told pass.new)) }
 {
     if !may_ask(s, gate, pass, at, &ask) {
         return None;
     }
-    Some(gate.turn(rt, pass, s, ask))
+    let reply = gate.turn(rt, pass, s, ask);
+    if hear(s, gate, at, &reply) {
+        Some(reply)
+    } else {
+        None
+    }
 }
 
-// Makes the steps of the entries on the replica, unless one does not apply or memory is refused.
+// Makes the steps of the entries on the replica. Not where one does not apply or memory is refused.
 fn follow<S: System>(
     s: &S,
     gate: &Gate<S>,
     at: &mut S::State,
     entries: &[S::Found],
-) -> Option<()>
-    ensures { IfSome result (λ _. at.new ≡ reached (S.means s.now) at.old entries.now) }
+) -> bool
+    ensures { IsTrue result → at.new ≡ reached (S.means s.now) at.old entries.now }
 {
     for found in entries {
         let Verdict::Applies = s.check(gate.goal(), at, found) else {
-            return None;
+            return false;
         };
-        s.apply(at, found).ok()?;
+        let Ok(()) = s.apply(at, found) else {
+            return false;
+        };
     }
-    Some(())
+    true
+}
+
+// Makes the steps of the entries that an answer hands over.
+fn hear<S: System>(
+    s: &S,
+    gate: &Gate<S>,
+    at: &mut S::State,
+    reply: &Reply<S::Found, S::Reason>,
+) -> bool
+    ensures { IsTrue result → at.new ≡ reached (S.means s.now) at.old (news_of reply.now) }
+{
+    match reply {
+        Reply::News { entries, task: _ } => follow(s, gate, at, entries.as_slice()),
+        _ => true,
+    }
+}
+
+fn task_of<F, R>(reply: &Reply<F, R>) -> Option<u32> {
+    match reply {
+        Reply::News { entries: _, task } => Some(*task),
+        _ => None,
+    }
+}
+
+fn place_of<F, R>(reply: &Reply<F, R>) -> Option<u64> {
+    match reply {
+        Reply::Committed(place) => Some(*place),
+        _ => None,
+    }
+}
+
+fn is_closed<F, R>(reply: &Reply<F, R>) -> bool {
+    match reply {
+        Reply::Closed(_) => true,
+        _ => false,
+    }
+}
+
+// What the search of a share reports.
+fn search<S: System>(s: &S, goal: S::Goal, task: u32, at: &S::State) -> Ask<S::Found> {
+    if task >= s.shares(goal) {
+        return Ask::Stop;
+    }
+    match s.seek(goal, task, at) {
+        Sought::Applies(found) => Ask::Offer { found },
+        Sought::Faulty(found, _) => Ask::Fault { found },
+        Sought::Barren => Ask::Quiet { share: task },
+        Sought::NoMemory => Ask::Stop,
+    }
 }
 
 // Looks, searches and reports once. Whether the goal has ended; None where the worker cannot go on.
@@ -102,27 +158,17 @@ fn round<S: System, R: Wait>(
     ensures at { IfSome result (λ _. at.new ≡ reached (S.means s.now) (start_of gate.now).base (entries_told pass.new)) }
 {
     let from = pass.number();
-    let task = match ask(rt, s, gate, pass, at, Ask::Look { from }) {
-        Some(Reply::News { entries, task }) => {
-            follow(s, gate, at, entries.as_slice())?;
-            task
-        }
-        Some(Reply::Closed(_)) => return Some(true),
-        _ => return None,
-    };
-    if task >= s.shares(gate.goal()) {
-        return None;
+    let reply = ask(rt, s, gate, pass, at, Ask::Look { from })?;
+    if is_closed(&reply) {
+        return Some(true);
     }
-    let report = match s.seek(gate.goal(), task, at) {
-        Sought::Applies(found) => Ask::Offer { found },
-        Sought::Faulty(found, _) => Ask::Fault { found },
-        Sought::Barren => Ask::Quiet { share: task },
-        Sought::NoMemory => Ask::Stop,
-    };
-    match ask(rt, s, gate, pass, at, report) {
-        Some(Reply::Committed(place)) => places.push(place).ok()?,
-        Some(_) => {}
-        None => return None,
+    let task = task_of(&reply)?;
+    let report = search(s, gate.goal(), task, at);
+    let reply = ask(rt, s, gate, pass, at, report)?;
+    if let Some(place) = place_of(&reply) {
+        if places.push(place).is_err() {
+            return None;
+        }
     }
     Some(false)
 }
