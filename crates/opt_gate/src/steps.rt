@@ -14,9 +14,17 @@ use opt_core::{Core, Event, Reply};
 use opt_system::System;
 use std::sync::Wait;
 
-pub(crate) fn draw<S: System>(
-    shared: &Shared<Option<Core<S>>, View<Key<Core<S>>, S::Found, S::Reason>, Key<Core<S>>, GateRule<S>>,
-    seat: &mut Seat<Option<Core<S>>, View<Key<Core<S>>, S::Found, S::Reason>>,
+// The words and the slot of a gate.
+type GateTable<S: System> =
+    Shared<Option<Core<S>>, View<Key<Core<S>>, S::Found, S::Reason>, Key<Core<S>>, GateRule<S>>;
+
+// What a pass takes steps with.
+type GateSeat<S: System> = Seat<Option<Core<S>>, View<Key<Core<S>>, S::Found, S::Reason>>;
+
+// Draws a ticket.
+fn draw<S: System>(
+    shared: &GateTable<S>,
+    seat: &mut GateSeat<S>,
 ) -> u64
     requires table { (seat.old.table_id ≡ shared.now.table_id) × (shared.now.table_id.words ≡ 2) }
     requires idle { (seat.old.me.0.ticket ≡ None) × (seat.old.me.0.served ≡ false) × (0 < seat.old.me.0.room) }
@@ -27,10 +35,10 @@ pub(crate) fn draw<S: System>(
 }
 
 // Waits until the ticket is served. Then the seat has the core.
-pub(crate) fn watch<S: System, R: Wait>(
+fn watch<S: System, R: Wait>(
     rt: &R,
-    shared: &Shared<Option<Core<S>>, View<Key<Core<S>>, S::Found, S::Reason>, Key<Core<S>>, GateRule<S>>,
-    seat: &mut Seat<Option<Core<S>>, View<Key<Core<S>>, S::Found, S::Reason>>,
+    shared: &GateTable<S>,
+    seat: &mut GateSeat<S>,
     ticket: u64,
 )
     requires table { (seat.old.table_id ≡ shared.now.table_id) × (shared.now.table_id.words ≡ 2) }
@@ -47,9 +55,9 @@ pub(crate) fn watch<S: System, R: Wait>(
 }
 
 // Puts the core back, and passes the turn on.
-pub(crate) fn hand_on<S: System>(
-    shared: &Shared<Option<Core<S>>, View<Key<Core<S>>, S::Found, S::Reason>, Key<Core<S>>, GateRule<S>>,
-    seat: &mut Seat<Option<Core<S>>, View<Key<Core<S>>, S::Found, S::Reason>>,
+fn hand_on<S: System>(
+    shared: &GateTable<S>,
+    seat: &mut GateSeat<S>,
     core: Core<S>,
     is_stop: bool,
 )
@@ -68,6 +76,7 @@ pub(crate) fn hand_on<S: System>(
     }
 }
 
+// Whether the event is Stop.
 fn asks_stop<F>(event: &Event<F>) -> bool
     ensures { result ≡ is_stop event.now }
 {
@@ -80,8 +89,8 @@ fn asks_stop<F>(event: &Event<F>) -> bool
 // Waits for a turn, and takes the core out.
 pub(crate) fn take<S: System, R: Wait>(
     rt: &R,
-    shared: &Shared<Option<Core<S>>, View<Key<Core<S>>, S::Found, S::Reason>, Key<Core<S>>, GateRule<S>>,
-    seat: &mut Seat<Option<Core<S>>, View<Key<Core<S>>, S::Found, S::Reason>>,
+    shared: &GateTable<S>,
+    seat: &mut GateSeat<S>,
 ) -> Core<S>
     requires table { (seat.old.table_id ≡ shared.now.table_id) × (shared.now.table_id.words ≡ 2) }
     requires idle { (seat.old.me ≡ (resting seat.old.me.0, [])) × (0 < seat.old.me.0.room) }
@@ -100,8 +109,8 @@ pub(crate) fn take<S: System, R: Wait>(
 // One event of the core.
 pub(crate) fn act<S: System, R: Wait>(
     rt: &R,
-    shared: &Shared<Option<Core<S>>, View<Key<Core<S>>, S::Found, S::Reason>, Key<Core<S>>, GateRule<S>>,
-    seat: &mut Seat<Option<Core<S>>, View<Key<Core<S>>, S::Found, S::Reason>>,
+    shared: &GateTable<S>,
+    seat: &mut GateSeat<S>,
     s: &S,
     event: Event<S::Found>,
 ) -> Reply<S::Found, S::Reason>
@@ -121,9 +130,9 @@ pub(crate) fn act<S: System, R: Wait>(
 
 // Joins two seats without tickets. The second load tells of the seat that comes of it.
 pub(crate) fn unite<S: System>(
-    shared: &Shared<Option<Core<S>>, View<Key<Core<S>>, S::Found, S::Reason>, Key<Core<S>>, GateRule<S>>,
-    seat: &mut Seat<Option<Core<S>>, View<Key<Core<S>>, S::Found, S::Reason>>,
-    other: Seat<Option<Core<S>>, View<Key<Core<S>>, S::Found, S::Reason>>,
+    shared: &GateTable<S>,
+    seat: &mut GateSeat<S>,
+    other: GateSeat<S>,
 )
     requires table { (seat.old.table_id ≡ shared.now.table_id) × (other.table_id ≡ shared.now.table_id) × (shared.now.table_id.words ≡ 2) }
     requires idle { (seat.old.me ≡ (resting seat.old.me.0, [])) × (0 < seat.old.me.0.room) }
