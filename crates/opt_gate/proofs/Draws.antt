@@ -1,13 +1,13 @@
 -- A draw keeps the rule.
-use Rattle.std.proofs.Common.{◌≡◌, ◌≢◌, ℕ, zero, suc, ◌+◌, ◌%◌, ◌^◌, ◌≤◌, ◌<◌, ◌⊎◌, inl, inr, ⊎_elim, List, [], ◌∷◌, ◌++◌, Bool, true, false, Option, Some, None, set, get_or, length, refl, sym, ◌∙◌, ap, arith, subst}
+use Rattle.std.proofs.Common.{◌≡◌, ◌≢◌, ℕ, ◌+◌, ◌%◌, ◌^◌, ◌≤◌, ◌<◌, inl, inr, ⊎_elim, List, Bool, true, false, Option, Some, None, set, get_or, refl, sym, ◌∙◌, ap, arith, subst}
 use mathlib.Core.Option as core
 use lib.ListN.{get_elem?}
-use Rattle.atomic_table.specs.Table.{State, Me, Allows, step, keeps}
+use Rattle.atomic_table.specs.Table.{Allows, step, keeps}
 use Rattle.atomic_table.proofs.Lists.{at_set, set_else}
 use Rattle.opt_core.specs.declared.event.Ending.{Ending}
 use Rattle.opt_gate.specs.declared.view.View.{View}
-use Rattle.opt_gate.specs.Lists.{total, times}
-use Rattle.opt_gate.specs.Rule.{view, has, has_ticket, At, Turns, Knows, Tally, Placed, Ruled}
+use Rattle.opt_gate.specs.Lists.{times}
+use Rattle.opt_gate.specs.Rule.{has, has_ticket, At, Turns, Knows, Placed, Ruled}
 use Rattle.opt_gate.specs.Plays.{waiting, Drew}
 use Rattle.opt_gate.proofs.Sums.{total_set, total_same}
 use Rattle.opt_gate.proofs.Tickets.{next_word, drawn_words}
@@ -31,7 +31,6 @@ module _ {K F R : Type 0} where
       let same : u ≡ v = core.some-injective u v (sym ei ∙ (ap (λ (k : ℕ). get_elem? views k) e ∙ ev)) in
       no_true v.served off (ap (λ (x : View K F R). x.served) (sym same) ∙ on)
 
-
 module _ {K F R : Type 0} (id : ℕ) (v : View K F R) (idle : v.ticket ≡ None) (calm : v.served ≡ false) (some_room : 0 < v.room) where
   draw_turns : (served drawn passes : ℕ) (ws : List ℕ) (views : List (View K F R)) → Turns served drawn passes ws views → At views id v
       → Turns served (drawn + 1) passes (set ws 1 ((get_or ws 1 0 + 1) % 2 ^ 64)) (set views id (waiting v drawn))
@@ -50,12 +49,12 @@ module _ {K F R : Type 0} (id : ℕ) (v : View K F R) (idle : v.ticket ≡ None)
             (λ s. let old = t.in_turn i n u s.1 is in (old.0, omega arith)) (at_set views id i w u e);
         apart = λ i j n u x ei ej iu ix. ⊎_elim
             (λ s. ⊎_elim (λ z. s.0 ∙ sym z.0)
-                (λ z. let same : drawn ≡ n = some_same drawn n (ap (λ (y : View K F R). y.ticket) s.1 ∙ iu) in let old = t.in_turn j n x z.1 ix in absurd (omega arith)) (at_set views id j w x ej))
+            (λ z. let same : drawn ≡ n = some_same drawn n (ap (λ (y : View K F R). y.ticket) s.1 ∙ iu) in let old = t.in_turn j n x z.1 ix in absurd (omega arith)) (at_set views id j w x ej))
             (λ s. ⊎_elim
-                (λ z. let same : drawn ≡ n = some_same drawn n (ap (λ (y : View K F R). y.ticket) z.1 ∙ ix) in let old = t.in_turn i n u s.1 iu in absurd (omega arith))
-                (λ z. t.apart i j n u x s.1 z.1 iu ix) (at_set views id j w x ej)) (at_set views id i w u ei);
+            (λ z. let same : drawn ≡ n = some_same drawn n (ap (λ (y : View K F R). y.ticket) z.1 ∙ ix) in let old = t.in_turn i n u s.1 iu in absurd (omega arith))
+            (λ z. t.apart i j n u x s.1 z.1 iu ix) (at_set views id j w x ej)) (at_set views id i w u ei);
         is_served = λ i u e on. ⊎_elim (λ s. absurd (no_true false refl (ap (λ (x : View K F R). x.served) s.1 ∙ on))) (λ s. t.is_served i u s.1 on) (at_set views id i w u e);
-        }
+      }
 
   module _ {C : Type 0} (entries : C → List F) (ended : C → Option (Ending R)) (Same : K → C → Type 0) (passes : K → ℕ) (key : K) where
     draw_placed : (drawn : ℕ) (log : List F) (end : Option (Ending R)) (homes : List (core.Option (Option C))) (views : List (View K F R)) → At views id v
@@ -84,7 +83,7 @@ module _ {K F R : Type 0} (id : ℕ) (v : View K F R) (idle : v.ticket ≡ None)
             tally = record {
               once = λ p. total_same (λ (x : View K F R). times p x.own) s.views id v w at refl ∙ r.tally.once p;
               stopped = λ e. rw (total_same (λ (x : View K F R). x.stops) s.views id v w at refl) (r.tally.stopped e);
-              };
-            },
+            };
+          },
           (r.drawn, sym (next_word r.served r.drawn (2 ^ 64) s.words r.turns.words_are), refl),
         )

@@ -1,5 +1,5 @@
 -- What an event makes of a core may follow it in the slot.
-use Rattle.std.proofs.Common.{◌≡◌, ◌≢◌, ℕ, ◌<◌, ◌⊎◌, inl, inr, List, [], ◌∷◌, ◌++◌, Bool, true, false, Option, Some, None, cond, ◌==◌, refl, sym, ◌∙◌, ap, arith, subst}
+use Rattle.std.proofs.Common.{◌≡◌, ℕ, ◌<◌, ◌⊎◌, inl, inr, [], ◌∷◌, Bool, true, false, Option, Some, None, cond, ◌==◌, refl, sym, arith, subst}
 use Rattle.opt_system.specs.Meaning.{Meaning}
 use Rattle.opt_system.specs.declared.answers.Mode.{Mode}
 use Rattle.opt_system.specs.declared.answers.Mode.TheVariants.{Once, Saturate}
@@ -10,7 +10,7 @@ use Rattle.opt_core.specs.declared.event.Event.TheVariants as event
 use Rattle.opt_core.specs.declared.event.Reply.{Reply}
 use Rattle.opt_core.specs.declared.event.Reply.TheVariants as reply
 use Rattle.opt_core.specs.Core.{Core}
-use Rattle.opt_core.specs.Steps.{Answers, AnswersWith, with_ending, with_quiet, with_entry, ending_after}
+use Rattle.opt_core.specs.Steps.{AnswersWith, with_ending, with_quiet, with_entry, ending_after}
 use Rattle.opt_gate.specs.Lists.{StartsWith}
 use Rattle.opt_gate.specs.Turn.{stops_of}
 use Rattle.opt_gate.proofs.Prefixes.{starts_self}
@@ -23,9 +23,9 @@ module _ {Reason : Type 0} where
   not_stopped Once left e = cc
   not_stopped Saturate left e = by (left == 1) e
     where
-    by : (b : Bool) → cond {A = Option (Ending Reason)} b (Some ending.Bound) None ≡ Some ending.Stopped → ⊥
-    by true e = cc
-    by false e = cc
+      by : (b : Bool) → cond {A = Option (Ending Reason)} b (Some ending.Bound) None ≡ Some ending.Stopped → ⊥
+      by true e = cc
+      by false e = cc
 
 module _ {System State Found Goal Reason : Type 0} (m : Meaning State Found Goal Reason) where
   pub record Follows (stops : ℕ) (c d : Core System State Found Goal Reason) : Type 0 where
@@ -44,8 +44,8 @@ module _ {System State Found Goal Reason : Type 0} (m : Meaning State Found Goal
   follows_ending : (stops : ℕ) (c : Core System State Found Goal Reason) (x : Ending Reason) → c.ending ≡ None → (x ≡ ending.Stopped → 0 < stops) → Follows stops c (with_ending c x)
   follows_ending stops c x none only = record { system = refl; base = refl; goal = refl; given = refl; further = starts_self c.entries c.entries refl; stands = λ y is. absurd (none_set c.ending none is); stopped = λ is. inr (only (some_is is)) }
     where
-    some_is : {a b : Ending Reason} → Some a ≡ Some b → a ≡ b
-    some_is e = cc
+      some_is : {a b : Ending Reason} → Some a ≡ Some b → a ≡ b
+      some_is e = cc
 
   follows_quiet : (stops : ℕ) (c : Core System State Found Goal Reason) (j : ℕ) → Follows stops c (with_quiet c j)
   follows_quiet stops c j = record { system = refl; base = refl; goal = refl; given = refl; further = starts_self c.entries c.entries refl; stands = λ x is. (is, refl); stopped = λ is. inl is }

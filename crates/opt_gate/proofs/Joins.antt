@@ -1,18 +1,15 @@
 -- Putting two passes together keeps the rule.
-use Rattle.std.proofs.Common.{◌≡◌, ◌≢◌, ℕ, zero, suc, ◌+◌, ◌-◌, ◌%◌, ◌^◌, ◌≤◌, ◌<◌, ◌⊎◌, inl, inr, ⊎_elim, List, [], ◌∷◌, ◌++◌, Bool, true, false, cond, nat_le, Option, Some, None, set, get_or, length, refl, sym, ◌∙◌, ap, arith, subst}
+use Rattle.std.proofs.Common.{◌≡◌, ◌≢◌, ℕ, ◌+◌, ◌≤◌, ◌<◌, inl, inr, ⊎_elim, List, [], ◌++◌, Bool, true, false, cond, nat_le, Option, Some, None, set, length, refl, sym, ◌∙◌, ap, arith, subst}
 use Rattle.std.proofs.lemmas.Bool.Decides.{nat_tests}
-use Rattle.std.proofs.lemmas.List.{length-append, append-nil}
 use mathlib.Core.Option as core
-use lib.ListN.{get_elem?}
-use Rattle.atomic_table.specs.Table.{State, Me, Joins}
+use Rattle.atomic_table.specs.Table.{Joins}
 use Rattle.atomic_table.proofs.Lists.{at_set, set_else}
 use Rattle.opt_core.specs.declared.event.Ending.{Ending}
-use Rattle.opt_core.specs.declared.event.Ending.TheVariants as ending
 use Rattle.opt_gate.specs.declared.view.View.{View}
-use Rattle.opt_gate.specs.Lists.{total, times, once_below, StartsWith, AllAt, by_length, longer, shorter}
-use Rattle.opt_gate.specs.Rule.{view, has, has_ticket, At, Turns, Knows, Tally, Placed, Ruled}
+use Rattle.opt_gate.specs.Lists.{total, times, StartsWith, by_length, longer, shorter}
+use Rattle.opt_gate.specs.Rule.{has_ticket, At, Turns, Knows, Placed, Ruled}
 use Rattle.opt_gate.specs.Plays.{first_of, joined, spent}
-use Rattle.opt_gate.proofs.Sums.{total_set, total_same}
+use Rattle.opt_gate.proofs.Sums.{total_set}
 use Rattle.opt_gate.proofs.Draws.{not_served, none_has, no_ending}
 use Rattle.opt_gate.proofs.Passes.{not_none, off_on}
 use Rattle.opt_gate.proofs.Prefixes.{all_further, starts_self, begins, whole}
@@ -46,7 +43,7 @@ module _ {F R : Type 0} (log : List F) (end : Option (Ending R)) where
     ended = first_ended a b x y p q le;
     other = begins log a b p.0 q.0 le;
     other_ended = λ z e. let r = q.1 z e in (other_first a x y p z r.0 e, r.1 ∙ sym (all_of a b p.0 r.1 le));
-    }
+  }
 
   merged_by : (a b : List F) (x y : Option (Ending R)) → IsKnown a x → IsKnown b y → (t : Bool) → (t ≡ true → length b ≤ length a) → (t ≡ false → length a ≤ length b)
       → Merged (cond t a b) (cond t b a) (cond t x y) (cond t y x)
@@ -101,7 +98,7 @@ module _ {K F R : Type 0} (id : ℕ) (v : View K F R) (idle : v.ticket ≡ None)
         apart = λ i j k u x ei ej iu ix. cases views i u (i ≡ j) ei (λ s. absurd (not_none k (ap (λ (y : View K F R). y.ticket) s ∙ iu))) (λ s. absurd (not_none k (ap (λ (y : View K F R). y.ticket) s ∙ iu)))
             (λ o p s. cases views j x (i ≡ j) ej (λ z. absurd (not_none k (ap (λ (y : View K F R). y.ticket) z ∙ ix))) (λ z. absurd (not_none k (ap (λ (y : View K F R). y.ticket) z ∙ ix))) (λ q r z. t.apart i j k u x s z iu ix));
         is_served = λ i u e on. cases views i u (u.ticket ≡ Some served) e (λ s. absurd (off_on (sym on ∙ ap (λ (x : View K F R). x.served) (sym s)))) (λ s. absurd (off_on (sym on ∙ ap (λ (x : View K F R). x.served) (sym s)))) (λ o p s. t.is_served i u s on);
-        }
+      }
 
   module _ {C : Type 0} (entries : C → List F) (ended : C → Option (Ending R)) (Same : K → C → Type 0) (passes : K → ℕ) (key : K) where
     at_before : (views : List (View K F R)) → At (set views id (joined v w)) other w → At views other w
@@ -111,8 +108,15 @@ module _ {K F R : Type 0} (id : ℕ) (v : View K F R) (idle : v.ticket ≡ None)
         → Placed entries ended Same passes key log end homes views → Placed entries ended Same passes key log end homes (set (set views id (joined v w)) other spent)
     join_placed log end homes views at at' p = ⊎_elim
         (λ h. inl (h.0, h.1, h.2, h.3, h.4, λ i u e. cases views i u (u.served ≡ false) e (λ s. ap (λ (x : View K F R). x.served) (sym s)) (λ s. ap (λ (x : View K F R). x.served) (sym s)) (λ o q s. h.5 i u s)))
-        (λ h. inr (h.0, h.1, set_else (set views id (joined v w)) other h.0 spent (not_served views h.0 other h.1 w h.2 (at_before views at') h.3 calm')
-            ∙ (set_else views id h.0 (joined v w) (not_served views h.0 id h.1 v h.2 at h.3 calm) ∙ h.2), h.3, h.4, h.5)) p
+        (λ h. inr (
+          h.0,
+          h.1,
+          set_else (set views id (joined v w)) other h.0 spent (not_served views h.0 other h.1 w h.2 (at_before views at') h.3 calm')
+              ∙ (set_else views id h.0 (joined v w) (not_served views h.0 id h.1 v h.2 at h.3 calm) ∙ h.2),
+          h.3,
+          h.4,
+          h.5,
+        )) p
 
     join_knows : (log : List F) (end : Option (Ending R)) → Knows key log end v → Knows key log end w → Knows key log end (joined v w)
     join_knows log end a b =
@@ -125,7 +129,7 @@ module _ {K F R : Type 0} (id : ℕ) (v : View K F R) (idle : v.ticket ≡ None)
           idle = λ none. let p = a.idle (omega arith) in let q = b.idle (omega arith) in (ap (λ (x : List (ℕ × F)). x ++ w.own) p.0 ∙ q.0, let m = p.1 in let n = q.1 in omega arith);
           other = l.other;
           other_ended = l.other_ended;
-          }
+        }
 
     spent_knows : (log : List F) (end : Option (Ending R)) → Knows key log end w → Knows key log end spent
     spent_knows log end b = record { keyed = inr refl; known = (log, refl); ended = λ x e. absurd (no_ending x e); own = tt; idle = λ none. (refl, refl); other = ([], refl); other_ended = λ x e. absurd (no_ending x e) }
@@ -145,8 +149,8 @@ module _ {K F R : Type 0} (id : ℕ) (v : View K F R) (idle : v.ticket ≡ None)
       tally = record {
         once = λ p. total_join (λ (x : View K F R). times p x.own) (times_append p v.own w.own) refl s.views at at' ∙ r.tally.once p;
         stopped = λ e. rw (total_join (λ (x : View K F R). x.stops) refl refl s.views at at') (r.tally.stopped e);
-        };
-      }
+      };
+    }
 
 module _ {K F R C : Type 0} (entries : C → List F) (ended : C → Option (Ending R)) (Same : K → C → Type 0) (passes : K → ℕ) (key : K) where
   pub joins_at : (id other : ℕ) (v w : View K F R) → v.ticket ≡ None → v.served ≡ false → w.ticket ≡ None → w.served ≡ false → 0 < v.room

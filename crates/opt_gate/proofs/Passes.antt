@@ -1,24 +1,23 @@
 -- Passing the turn on keeps the rule.
-use Rattle.std.proofs.Common.{◌≡◌, ◌≢◌, ℕ, zero, suc, ◌+◌, ◌%◌, ◌^◌, ◌≤◌, ◌<◌, ◌⊎◌, inl, inr, ⊎_elim, List, [], ◌∷◌, ◌++◌, Bool, true, false, Option, Some, None, set, get_or, length, drop, refl, sym, ◌∙◌, ap, arith, subst}
+use Rattle.std.proofs.Common.{◌≡◌, ℕ, ◌+◌, ◌%◌, ◌^◌, ◌≤◌, ◌<◌, inl, ⊎_elim, List, [], ◌∷◌, Bool, true, false, Option, Some, None, set, get_or, length, drop, refl, sym, ◌∙◌, ap, arith, subst}
 use Rattle.std.specs.Bool.{if◌then◌else◌}
 use mathlib.Core.Option as core
 use mathlib.Core.Logic.{dite}
 use native.Mathlib.Decide.{ℕ_discrete}
 use lib.ListN.{get_elem?}
-use Rattle.atomic_table.specs.Table.{State, Me, Step, Allows, step, gives}
+use Rattle.atomic_table.specs.Table.{Me, Step, Allows, step, gives}
 use Rattle.atomic_table.proofs.Lists.{at_set, set_here}
 use Rattle.opt_core.specs.declared.event.Ending.{Ending}
-use Rattle.opt_core.specs.declared.event.Ending.TheVariants as ending
 use Rattle.opt_gate.specs.declared.view.View.{View}
-use Rattle.opt_gate.specs.Lists.{total, times, once_below, StartsWith, AllAt, placed_from}
-use Rattle.opt_gate.specs.Rule.{view, has, has_ticket, At, Turns, Knows, Tally, Placed, Ruled}
+use Rattle.opt_gate.specs.Lists.{times, once_below, StartsWith, placed_from}
+use Rattle.opt_gate.specs.Rule.{has, has_ticket, At, Turns, Knows, Tally, Placed, Ruled}
 use Rattle.opt_gate.specs.Plays.{passed, Passed, Tells}
 use Rattle.opt_gate.specs.Follow.{MayFollow}
 use Rattle.opt_gate.proofs.Sums.{total_set, total_same}
 use Rattle.opt_gate.proofs.Tickets.{passed_words}
 use Rattle.opt_gate.proofs.Prefixes.{starts_self, starts_trans, at_below}
 use Rattle.opt_gate.proofs.Owns.{owns_more, counts_more, times_append}
-use Rattle.opt_gate.proofs.Draws.{some_same, no_ending}
+use Rattle.opt_gate.proofs.Draws.{no_ending}
 use Rattle.opt_gate.proofs.Tells.{told}
 
 pub not_true : (b : Bool) → (b ≡ true → ⊥) → b ≡ false
@@ -69,20 +68,26 @@ module _ {K F R C : Type 0} (entries : C → List F) (ended : C → Option (Endi
                 (λ s. ⊎_elim (λ z. absurd (not_none k (ap (λ (y : View K F R). y.ticket) z.1 ∙ ix))) (λ z. turns.apart i j k u x s.1 z.1 iu ix) (at_set views id j w x ej)) (at_set views id i w u ei);
             is_served = λ i u e lit. ⊎_elim (λ s. absurd (off_on (sym lit ∙ ap (λ (x : View K F R). x.served) (sym s.1))))
                 (λ s. absurd (s.0 (only i u s.1 (turns.is_served i u s.1 lit)))) (at_set views id i w u e);
-            }
+          }
 
       pass_placed : (homes : List (core.Option (Option C))) → 0 < length homes → Same key c
           → Placed entries ended Same passes key (entries c) (ended c) (set homes 0 (core.some (Some c))) (set views id w)
       unfolding w
-      pass_placed homes some_home same = inl (c, set_here homes 0 (core.some (Some c)) some_home, same, refl, refl,
-          λ i u e. ⊎_elim (λ s. ap (λ (x : View K F R). x.served) (sym s.1)) (λ s. not_true u.served (λ lit. s.0 (only i u s.1 (turns.is_served i u s.1 lit)))) (at_set views id i w u e))
+      pass_placed homes some_home same = inl (
+        c,
+        set_here homes 0 (core.some (Some c)) some_home,
+        same,
+        refl,
+        refl,
+        λ i u e. ⊎_elim (λ s. ap (λ (x : View K F R). x.served) (sym s.1)) (λ s. not_true u.served (λ lit. s.0 (only i u s.1 (turns.is_served i u s.1 lit)))) (at_set views id i w u e),
+      )
 
       -- the served view knows all
       knew_all : (log : List F) (end : Option (Ending R)) (homes : List (core.Option (Option C))) → Placed entries ended Same passes key log end homes views → (v.knows ≡ log) × (v.ending ≡ end)
       knew_all log end homes p = ⊎_elim (λ h. absurd (off_on (sym on ∙ h.5 id v at)))
           (λ h. let here = only h.0 h.1 h.2 (turns.is_served h.0 h.1 h.2 h.3) in
-              let its : h.1 ≡ v = core.some-injective h.1 v (sym h.2 ∙ (ap (λ (k : ℕ). get_elem? views k) here ∙ at)) in
-              (ap (λ (x : View K F R). x.knows) (sym its) ∙ h.4, ap (λ (x : View K F R). x.ending) (sym its) ∙ h.5)) p
+          let its : h.1 ≡ v = core.some-injective h.1 v (sym h.2 ∙ (ap (λ (k : ℕ). get_elem? views k) here ∙ at)) in
+          (ap (λ (x : View K F R). x.knows) (sym its) ∙ h.4, ap (λ (x : View K F R). x.ending) (sym its) ∙ h.5)) p
 
       some_room : 0 < v.room
       some_room = let had : has_ticket v ≡ 1 = ap has (turns.is_served id v at on) in let r = turns.roomy id v at in omega arith
@@ -97,7 +102,7 @@ module _ {K F R C : Type 0} (entries : C → List F) (ended : C → Option (Endi
       idle = λ none. absurd (omega arith);
       other = (entries c, refl);
       other_ended = λ x e. absurd (no_ending x e);
-      }
+    }
 
     still_knows : (log : List F) (end : Option (Ending R)) → v.knows ≡ log → v.ending ≡ end → (u : View K F R) → Knows key log end u → Knows key (entries c) (ended c) u
     still_knows log end el ee u k = record {
@@ -108,7 +113,7 @@ module _ {K F R C : Type 0} (entries : C → List F) (ended : C → Option (Endi
       idle = k.idle;
       other = k.other;
       other_ended = k.other_ended;
-      }
+    }
 
     pass_tally : (log : List F) (end : Option (Ending R)) (views : List (View K F R)) → At views id v → v.knows ≡ log → v.ending ≡ end → Tally log end views → Tally (entries c) (ended c) (set views id w)
     unfolding w
@@ -123,7 +128,7 @@ module _ {K F R C : Type 0} (entries : C → List F) (ended : C → Option (Endi
           omega arith;
       stopped = λ e. let sum = total_set (λ (x : View K F R). x.stops) views id v w at in
           ⊎_elim (λ old. let some = t.stopped (sym ee ∙ old) in omega arith) (λ more. omega arith) (may.stopped e);
-      }
+    }
 
     module _ (served drawn : ℕ) (ws : List ℕ) (log : List F) (end : Option (Ending R)) (views : List (View K F R))
         (turns : Turns served drawn (passes key) ws views) (knowing : (i : ℕ) (u : View K F R) → At views i u → Knows key log end u) (tally : Tally log end views) (at : At views id v)
@@ -158,7 +163,7 @@ module _ {K F R C : Type 0} (entries : C → List F) (ended : C → Option (Endi
             placed = pass_placed r.served r.drawn (passes key) s.words s.views r.turns at s.homes (omega arith) (may.same key (⊎_elim (λ e. e) (λ none. let some = some_room r.served r.drawn (passes key) s.words s.views r.turns at in absurd (omega arith)) k.keyed));
             knowing = pass_knowing r.served r.drawn s.words r.log r.end s.views r.turns r.knowing r.tally at all.0 all.1;
             tally = pass_tally r.log r.end s.views at all.0 all.1 r.tally;
-            },
+          },
           λ c' is. subst (λ (x : C). (◌≡◌ {A = Me (Option C) (View K F R)} (w, no_slots) (passed entries ended Same passes stops v x, no_slots)) × Tells passes (passed entries ended Same passes stops v x)) (same_core c c' is)
               (refl, pass_tells r.served r.drawn s.words r.log r.end s.views r.turns r.knowing r.tally at all.0 all.1),
         )

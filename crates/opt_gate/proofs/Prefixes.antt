@@ -1,5 +1,5 @@
 -- Beginnings of one list.
-use Rattle.std.proofs.Common.{◌≡◌, ℕ, zero, suc, ◌+◌, ◌≤◌, ◌<◌, List, [], ◌∷◌, ◌++◌, length, refl, sym, ◌∙◌, ap, arith, subst, append_assoc}
+use Rattle.std.proofs.Common.{◌≡◌, ℕ, zero, suc, ◌≤◌, ◌<◌, List, [], ◌∷◌, ◌++◌, length, refl, sym, ◌∙◌, ap, arith, subst, append_assoc}
 use Rattle.std.proofs.lemmas.List.{append-nil, length-append}
 use mathlib.Core.Option.{some, some-ne-none}
 use lib.ListN.{get_elem?}
@@ -31,23 +31,25 @@ module _ {A : Type 0} where
   begins log [] (y ∷ ys) p q le = absurd (omega arith)
   begins [] (x ∷ xs) (y ∷ ys) p q le = absurd (cons_nil p.1)
     where
-    cons_nil : {x : A} {xs : List A} → [] ≡ x ∷ xs → ⊥
-    cons_nil e = cc
+      cons_nil : {x : A} {xs : List A} → [] ≡ x ∷ xs → ⊥
+      cons_nil e = cc
   begins (l ∷ ls) (x ∷ xs) (y ∷ ys) p q le =
       let r = begins ls xs ys (p.0, tail_same p.1) (q.0, tail_same q.1) (omega arith) in
       (r.0, head_same (head_is (p.1)) (head_is (q.1)) r.1)
     where
-    tail_same : {a b : A} {xs ys : List A} → a ∷ xs ≡ b ∷ ys → xs ≡ ys
-    tail_same e = cc
-    head_is : {a b : A} {xs ys : List A} → a ∷ xs ≡ b ∷ ys → a ≡ b
-    head_is e = cc
-    head_same : {l x y : A} {xs ys : List A} → l ≡ x → l ≡ y → xs ≡ ys → x ∷ xs ≡ y ∷ ys
-    head_same a b c = cc
+      tail_same : {a b : A} {xs ys : List A} → a ∷ xs ≡ b ∷ ys → xs ≡ ys
+      tail_same e = cc
+
+      head_is : {a b : A} {xs ys : List A} → a ∷ xs ≡ b ∷ ys → a ≡ b
+      head_is e = cc
+
+      head_same : {l x y : A} {xs ys : List A} → l ≡ x → l ≡ y → xs ≡ ys → x ∷ xs ≡ y ∷ ys
+      head_same a b c = cc
 
   -- a beginning as long as the list is the list
   pub whole : (log a : List A) → StartsWith log a → length log ≤ length a → a ≡ log
   whole log a p le = none_left p.0 (sym p.1) (let e = ap (λ (l : List A). length l) p.1 in let n = length-append a p.0 in omega arith)
     where
-    none_left : (r : List A) → a ++ r ≡ log → length r ≡ 0 → a ≡ log
-    none_left [] e n = sym (append-nil a) ∙ e
-    none_left (x ∷ xs) e n = absurd (omega arith)
+      none_left : (r : List A) → a ++ r ≡ log → length r ≡ 0 → a ≡ log
+      none_left [] e n = sym (append-nil a) ∙ e
+      none_left (x ∷ xs) e n = absurd (omega arith)

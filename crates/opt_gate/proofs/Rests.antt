@@ -1,13 +1,12 @@
 -- A load by a seat without a ticket keeps the rule, and tells of its view.
-use Rattle.std.proofs.Common.{◌≡◌, ◌≢◌, ℕ, ◌+◌, ◌%◌, ◌^◌, ◌≤◌, ◌<◌, ◌⊎◌, inl, inr, ⊎_elim, List, [], ◌∷◌, Bool, true, false, Option, Some, None, length, set, get_or, refl, sym, ◌∙◌, ap, arith, subst}
+use Rattle.std.proofs.Common.{◌≡◌, ℕ, ◌^◌, ◌≤◌, ◌<◌, inl, inr, ⊎_elim, List, [], false, Option, None, set, get_or, refl, sym, ◌∙◌, ap, arith, subst}
 use mathlib.Core.Option as core
-use lib.ListN.{get_elem?}
-use Rattle.atomic_table.specs.Table.{State, Me, Step, Allows, step, keeps}
+use Rattle.atomic_table.specs.Table.{Me, Step, Allows, step, keeps}
 use Rattle.atomic_table.proofs.Lists.{at_set, set_else}
 use Rattle.opt_core.specs.declared.event.Ending.{Ending}
 use Rattle.opt_gate.specs.declared.view.View.{View}
-use Rattle.opt_gate.specs.Lists.{total, times}
-use Rattle.opt_gate.specs.Rule.{view, has, has_ticket, At, Turns, Knows, Tally, Placed, Ruled}
+use Rattle.opt_gate.specs.Lists.{times}
+use Rattle.opt_gate.specs.Rule.{has_ticket, At, Turns, Knows, Placed, Ruled}
 use Rattle.opt_gate.specs.Plays.{resting, Told, Tells}
 use Rattle.opt_gate.proofs.Sums.{total_same}
 use Rattle.opt_gate.proofs.Tickets.{same_words}
@@ -30,7 +29,7 @@ module _ {K F R : Type 0} (id : ℕ) (v : View K F R) (idle : v.ticket ≡ None)
         apart = λ i j k u x ei ej iu ix. ⊎_elim (λ s. absurd (not_none k (ap (λ (y : View K F R). y.ticket) s.1 ∙ iu)))
             (λ s. ⊎_elim (λ z. absurd (not_none k (ap (λ (y : View K F R). y.ticket) z.1 ∙ ix))) (λ z. t.apart i j k u x s.1 z.1 iu ix) (at_set views id j w x ej)) (at_set views id i w u ei);
         is_served = λ i u e on. ⊎_elim (λ s. absurd (no_true false refl (ap (λ (x : View K F R). x.served) s.1 ∙ on))) (λ s. t.is_served i u s.1 on) (at_set views id i w u e);
-        }
+      }
 
   module _ {C : Type 0} (entries : C → List F) (ended : C → Option (Ending R)) (Same : K → C → Type 0) (passes : K → ℕ) (key : K) where
     rest_placed : (log : List F) (end : Option (Ending R)) (homes : List (core.Option (Option C))) (views : List (View K F R)) → At views id v
@@ -59,8 +58,8 @@ module _ {K F R : Type 0} (id : ℕ) (v : View K F R) (idle : v.ticket ≡ None)
             tally = record {
               once = λ p. total_same (λ (x : View K F R). times p x.own) s.views id v w at refl ∙ r.tally.once p;
               stopped = λ e. rw (total_same (λ (x : View K F R). x.stops) s.views id v w at refl) (r.tally.stopped e);
-              };
-            },
+            };
+          },
           (refl, told passes key r.served r.drawn s.words r.log r.end s.views r.turns r.knowing r.tally id v at some),
         )
 

@@ -1,15 +1,15 @@
 -- Splitting a pass in two keeps the rule, and the table opens in it.
-use Rattle.std.proofs.Common.{◌≡◌, ◌≢◌, ℕ, zero, suc, ◌+◌, ◌-◌, ◌%◌, ◌^◌, ◌≤◌, ◌<◌, ◌⊎◌, inl, inr, ⊎_elim, List, [], ◌∷◌, ◌++◌, map, Bool, true, false, Option, Some, None, set, get_or, length, refl, sym, ◌∙◌, ap, arith, subst}
+use Rattle.std.proofs.Common.{◌≡◌, ◌≢◌, ℕ, ◌^◌, ◌≤◌, ◌<◌, ◌⊎◌, inl, inr, ⊎_elim, List, [], ◌∷◌, ◌++◌, false, Option, Some, None, set, refl, sym, ◌∙◌, ap, arith, subst}
 use Rattle.std.proofs.lemmas.Bool.Decides.{nat_tests}
 use mathlib.Core.Option as core
 use lib.ListN.{get_elem?}
-use Rattle.atomic_table.specs.Table.{State, Me, Splits, opening}
+use Rattle.atomic_table.specs.Table.{Splits, opening}
 use Rattle.atomic_table.proofs.Lists.{at_set, at_snoc, set_else, at_longer}
 use Rattle.opt_core.specs.declared.event.Ending.{Ending}
 use Rattle.opt_core.specs.declared.event.Ending.TheVariants as ending
 use Rattle.opt_gate.specs.declared.view.View.{View}
-use Rattle.opt_gate.specs.Lists.{total, times, once_below, StartsWith, AllAt}
-use Rattle.opt_gate.specs.Rule.{view, has, has_ticket, At, Turns, Knows, Tally, Placed, Ruled}
+use Rattle.opt_gate.specs.Lists.{times, once_below}
+use Rattle.opt_gate.specs.Rule.{view, has_ticket, At, Turns, Knows, Placed, Ruled}
 use Rattle.opt_gate.specs.Plays.{split_left, split_right}
 use Rattle.opt_core.specs.Core.{Core}
 use Rattle.opt_core.specs.Runs.{SameStart}
@@ -40,7 +40,7 @@ module _ {K F R : Type 0} (id : ℕ) (v : View K F R) (idle : v.ticket ≡ None)
         apart = λ i j k u x ei ej iu ix. cases views i u (i ≡ j) ei (λ s. absurd (not_none k (ap (λ (y : View K F R). y.ticket) s ∙ iu))) (λ s. absurd (not_none k (ap (λ (y : View K F R). y.ticket) s ∙ iu)))
             (λ o s. cases views j x (i ≡ j) ej (λ z. absurd (not_none k (ap (λ (y : View K F R). y.ticket) z ∙ ix))) (λ z. absurd (not_none k (ap (λ (y : View K F R). y.ticket) z ∙ ix))) (λ p z. t.apart i j k u x s z iu ix));
         is_served = λ i u e on. cases views i u (u.ticket ≡ Some served) e (λ s. absurd (off_on (sym on ∙ ap (λ (x : View K F R). x.served) (sym s)))) (λ s. absurd (off_on (sym on ∙ ap (λ (x : View K F R). x.served) (sym s)))) (λ o s. t.is_served i u s on);
-        }
+      }
 
   module _ {C : Type 0} (entries : C → List F) (ended : C → Option (Ending R)) (Same : K → C → Type 0) (passes : K → ℕ) (key : K) where
     split_placed : (log : List F) (end : Option (Ending R)) (homes : List (core.Option (Option C))) (views : List (View K F R)) → At views id v
@@ -67,8 +67,8 @@ module _ {K F R : Type 0} (id : ℕ) (v : View K F R) (idle : v.ticket ≡ None)
       tally = record {
         once = λ p. let a = total_same (λ (x : View K F R). times p x.own) s.views id v l at refl in let b = total_snoc (λ (x : View K F R). times p x.own) (set s.views id l) (split_right v) in let t = r.tally.once p in omega arith;
         stopped = λ e. let a = total_same (λ (x : View K F R). x.stops) s.views id v l at refl in let b = total_snoc (λ (x : View K F R). x.stops) (set s.views id l) (split_right v) in let t = r.tally.stopped e in omega arith;
-        };
-      }
+      };
+    }
 
 none_below : (p : ℕ) → 0 ≡ once_below p 0
 none_below p = grind (arith, nat_tests)
@@ -93,11 +93,11 @@ module _ {K F R C : Type 0} (entries : C → List F) (ended : C → Option (Endi
       in_turn = λ i k u e is. absurd (not_none k (ap (λ (x : View K F R). x.ticket) (single v u i e) ∙ is));
       apart = λ i j k u x ei ej iu ix. absurd (not_none k (ap (λ (y : View K F R). y.ticket) (single v u i ei) ∙ iu));
       is_served = λ i u e on. absurd (off_on (sym on ∙ ap (λ (x : View K F R). x.served) (sym (single v u i e))));
-      };
+    };
     placed = inl (c, refl, same, none, open_, λ i u e. ap (λ (x : View K F R). x.served) (sym (single v u i e)));
     knowing = λ i u e. subst (λ (x : View K F R). Knows key [] None x) (single v u i e) record { keyed = inl refl; known = ([], refl); ended = λ x no. absurd (no_ending x no); own = tt; idle = λ none. (refl, refl); other = ([], refl); other_ended = λ x no. absurd (no_ending x no) };
     tally = record { once = λ p. none_below p; stopped = λ no. absurd (no_ending ending.Stopped no) };
-    }
+  }
 
 module _ {System State Found Goal Reason : Type 0} where
   pub opens_at : (key : Key (Core System State Found Goal Reason)) (c : Core System State Found Goal Reason) (slots : List (Option (Core System State Found Goal Reason))) → key.core.value ≡ c → slots ≡ Some c ∷ [] → c.entries ≡ [] → c.ending ≡ None

@@ -1,5 +1,5 @@
 -- Sums over a list of which one element changes.
-use Rattle.std.proofs.Common.{◌≡◌, ℕ, zero, suc, ◌+◌, ◌≤◌, ◌<◌, List, [], ◌∷◌, ◌++◌, set, refl, sym, ap, arith, subst}
+use Rattle.std.proofs.Common.{◌≡◌, ℕ, zero, suc, ◌+◌, ◌≤◌, List, [], ◌∷◌, ◌++◌, set, refl, sym, ap, arith}
 use mathlib.Core.Option.{some, some-injective, some-ne-none}
 use lib.ListN.{get_elem?}
 use Rattle.opt_gate.specs.Lists.{total}
@@ -38,7 +38,7 @@ module _ {A : Type 0} (f : A → ℕ) where
   total_alone g (x ∷ xs) (suc i) v e all h = let le : g v ≤ total g xs = part_le' g xs i v e in
       let none = h 0 x refl (omega arith) in let rest = total_alone g xs i v e (omega arith) (λ j u at. h (suc j) u at) in omega arith
     where
-    part_le' : (g : A → ℕ) (vs : List A) (i : ℕ) (v : A) → get_elem? vs i ≡ some v → g v ≤ total g vs
-    part_le' g [] i v e = absurd (some-ne-none v (sym e))
-    part_le' g (x ∷ xs) zero v e = let same : g x ≡ g v = ap g (some-injective x v e) in omega arith
-    part_le' g (x ∷ xs) (suc i) v e = let h = part_le' g xs i v e in omega arith
+      part_le' : (g : A → ℕ) (vs : List A) (i : ℕ) (v : A) → get_elem? vs i ≡ some v → g v ≤ total g vs
+      part_le' g [] i v e = absurd (some-ne-none v (sym e))
+      part_le' g (x ∷ xs) zero v e = let same : g x ≡ g v = ap g (some-injective x v e) in omega arith
+      part_le' g (x ∷ xs) (suc i) v e = let h = part_le' g xs i v e in omega arith

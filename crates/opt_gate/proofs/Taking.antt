@@ -1,9 +1,8 @@
 -- A core that was taken out.
-use Rattle.std.proofs.Common.{◌≡◌, ℕ, ◌+◌, List, [], ◌∷◌, Bool, true, false, Option, Some, None, refl, sym, ◌∙◌, ap, subst, ◌++◌, length, drop}
+use Rattle.std.proofs.Common.{◌≡◌, ℕ, List, [], ◌∷◌, Bool, Option, Some, None, refl, sym, ◌∙◌, ap, subst}
 use Rattle.atomic_table.specs.Table.{Me, rest}
 use Rattle.opt_core.specs.declared.event.Ending.{Ending}
 use Rattle.opt_gate.specs.declared.view.View.{View}
-use Rattle.opt_gate.specs.Rule.{view}
 use Rattle.std.specs.Bool.{if◌then◌else◌}
 use Rattle.opt_system.specs.Meaning.{Meaning}
 use Rattle.opt_core.specs.declared.event.Event.{Event}
@@ -11,9 +10,8 @@ use Rattle.opt_core.specs.declared.event.Event.TheVariants as event
 use Rattle.opt_core.specs.declared.event.Reply.{Reply}
 use Rattle.opt_core.specs.Core.{Core, Legal}
 use Rattle.opt_core.specs.Steps.{Answers, MayCome}
-use Rattle.opt_core.specs.Runs.{SameStart}
 use Rattle.opt_gate.specs.declared.key.Key.{Key}
-use Rattle.opt_gate.specs.Plays.{waiting, serving, passed, Learns, Takes, Took, Tells}
+use Rattle.opt_gate.specs.Plays.{waiting, serving, passed, Takes, Took, Tells}
 use Rattle.opt_gate.specs.Cores.{entries_of, ended_of, IsOfKey, passes_of}
 use Rattle.opt_gate.specs.Follow.{MayFollow}
 use Rattle.opt_gate.specs.Turn.{Acts, is_stop, stops_of}
@@ -49,7 +47,7 @@ module _ {K F R C : Type 0} (entries : C → List F) (ended : C → Option (Endi
         ticket = t;
         me = me;
         learns = record { same = l.same; further = l.further; stands = l.stands; tells = let w = l.tells in record { own = w.own; once = w.once; other = w.other; other_ended = w.other_ended; narrow = w.narrow; all_own = w.all_own; all_stops = w.all_stops } };
-        }
+      }
 
 abbrev pub none_out : {C : Type 0} → List (ℕ × Option C)
 none_out = []
@@ -81,7 +79,7 @@ module _ {System State Found Goal Reason : Type 0} (m : Meaning State Found Goal
         further = f.further;
         stands = f.stands;
         stopped = f.stopped;
-        })
+      })
 
   module _ (n' : Me (Option (Core System State Found Goal Reason)) (View (Key (Core System State Found Goal Reason)) Found Reason)) where
     pub acted : n' ≡ (passed entries_of ended_of IsOfKey passes_of (if stop then 1 else 0) n.0 a, []) → Tells passes_of (passed entries_of ended_of IsOfKey passes_of (if stop then 1 else 0) n.0 a) → MayCome m b e → Legal m b → Legal m a → Acts m v e r n'
@@ -99,4 +97,4 @@ module _ {System State Found Goal Reason : Type 0} (m : Meaning State Found Goal
           ∙ ap (λ (w : View (Key (Core System State Found Goal Reason)) Found Reason). (passed entries_of ended_of IsOfKey passes_of (stops_of e) w a, none_out)) sight);
       tells = subst (λ (k : ℕ). Tells passes_of (passed entries_of ended_of IsOfKey passes_of k (serving entries_of ended_of IsOfKey passes_of v b) a)) count
           (subst (λ (w : View (Key (Core System State Found Goal Reason)) Found Reason). Tells passes_of (passed entries_of ended_of IsOfKey passes_of (if stop then 1 else 0) w a)) sight tells);
-      }
+    }

@@ -1,9 +1,6 @@
 -- What the rule tells of a view that has room.
-use Rattle.std.proofs.Common.{◌≡◌, ℕ, zero, suc, ◌+◌, ◌-◌, ◌%◌, ◌^◌, ◌≤◌, ◌<◌, ◌==◌, ◌⊎◌, inl, inr, ⊎_elim, List, [], ◌∷◌, ◌++◌, Bool, true, false, Option, Some, None, cond, nat_lt, length, set, get_or, refl, sym, ◌∙◌, ap, arith, subst}
+use Rattle.std.proofs.Common.{◌≡◌, ℕ, ◌+◌, ◌≤◌, ◌<◌, ◌==◌, ⊎_elim, List, [], ◌∷◌, Bool, true, false, Option, Some, cond, nat_lt, length, refl, sym, ◌∙◌, ap, arith, subst}
 use Rattle.std.proofs.lemmas.Bool.Decides.{nat_tests}
-use Rattle.std.proofs.lemmas.List.{length-append, append-nil}
-use mathlib.Core.Option as core
-use lib.ListN.{get_elem?}
 use Rattle.opt_core.specs.declared.event.Ending.{Ending}
 use Rattle.opt_core.specs.declared.event.Ending.TheVariants as ending
 use Rattle.opt_gate.specs.declared.view.View.{View}
@@ -16,9 +13,9 @@ use Rattle.opt_gate.proofs.Prefixes.{at_below, whole}
 at_most_once : (p n : ℕ) → once_below p n ≤ 1
 at_most_once p n = by (nat_lt p n)
   where
-  by : (b : Bool) → cond b 1 0 ≤ 1
-  by true = omega arith
-  by false = omega arith
+    by : (b : Bool) → cond b 1 0 ≤ 1
+    by true = omega arith
+    by false = omega arith
 
 below_once : (p n : ℕ) → p < n → once_below p n ≡ 1
 below_once p n h = grind (arith, nat_tests)
@@ -29,16 +26,16 @@ module _ {A : Type 0} where
   counted_below list [] p h some = absurd (omega arith)
   counted_below list (x ∷ xs) p h some = by (x.0 == p) refl (counted_below list xs p h.1)
     where
-    by : (b : Bool) → (x.0 == p) ≡ b → (0 < times p xs → p < length list) → p < length list
-    by true e later = let same : x.0 ≡ p = grind (arith, nat_tests) in let n = at_below list x.0 x.1 h.0 in omega arith
-    by false e later = let left : 0 < cond false 1 0 + times p xs = subst (λ (b : Bool). 0 < cond b 1 0 + times p xs) e some in later (omega arith)
+      by : (b : Bool) → (x.0 == p) ≡ b → (0 < times p xs → p < length list) → p < length list
+      by true e later = let same : x.0 ≡ p = grind (arith, nat_tests) in let n = at_below list x.0 x.1 h.0 in omega arith
+      by false e later = let left : 0 < cond false 1 0 + times p xs = subst (λ (b : Bool). 0 < cond b 1 0 + times p xs) e some in later (omega arith)
 
   -- a beginning in which each place of the list is counted is the list
   pub all_counted : (list seen : List A) (own : List (ℕ × A)) → StartsWith list seen → AllAt seen own → ((p : ℕ) → times p own ≡ once_below p (length list)) → seen ≡ list
   all_counted [] seen own s h all = whole [] seen s (omega arith)
   all_counted (x ∷ xs) seen own s h all = whole (x ∷ xs) seen s
       (let one = below_once (length xs) (length (x ∷ xs)) (omega arith) in let each = all (length xs) in
-       let here = counted_below seen own (length xs) h (omega arith) in omega arith)
+      let here = counted_below seen own (length xs) h (omega arith) in omega arith)
 
 some_key : {K : Type 0} (a b : K) → Some a ≡ Some b → a ≡ b
 some_key a b e = cc
@@ -70,4 +67,4 @@ module _ {K F R : Type 0} (passes : K → ℕ) (key : K) (served drawn : ℕ) (w
     all_own = λ k is full p. all_own k is full p ∙ ap (λ (l : List F). once_below p (length l)) (sym (knows_all k is full));
     all_stops = λ k is full e. subst (λ (n : ℕ). 0 < n) (total_alone (λ (x : View K F R). x.stops) (λ (x : View K F R). x.room) views id v at (all_room k is full)
         (λ j u e none. ((knowing j u e).idle none).1)) (tally.stopped ((n.ended ending.Stopped e).0));
-    }
+  }

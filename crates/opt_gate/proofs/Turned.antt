@@ -1,5 +1,5 @@
 -- What a turn of a seat is to its pass.
-use Rattle.std.proofs.Common.{◌≡◌, ℕ, ◌+◌, ◌≤◌, ◌<◌, ◌^◌, List, [], ◌∷◌, ◌++◌, Bool, Option, Some, None, length, take, drop, refl, sym, ◌∙◌, ap, arith, subst}
+use Rattle.std.proofs.Common.{◌≡◌, ℕ, ◌+◌, ◌≤◌, ◌<◌, ◌^◌, List, [], ◌∷◌, ◌++◌, Option, Some, None, length, take, drop, refl, sym, ◌∙◌, ap, arith, subst}
 use Rattle.std.proofs.lemmas.List.{length-append, length-drop, take-append-le, take-append-drop, take_all, append-nil}
 use Rattle.atomic_table.specs.Table.{Me}
 use Rattle.atomic_table.specs.Seated.{TableId}
@@ -161,7 +161,7 @@ module _ {System State Found Goal Reason : Type 0} where
   whole_pass key v table number told room t is same = record {
     each_once = λ full. t.all_own key is (sym same ∙ full);
     stopped = λ full. t.all_stops key is (sym same ∙ full);
-    }
+  }
 
 module _ {System State Found Goal Reason : Type 0} (m : Meaning State Found Goal Reason) (lawful : IsLawful m) (key : Key (Core System State Found Goal Reason))
     (v : View (Key (Core System State Found Goal Reason)) Found Reason) (table : TableId) (number told room : ℕ) (a : Ask Found) (e : Event Found) (r : Reply Found Reason)
@@ -238,7 +238,7 @@ module _ {System State Found Goal Reason : Type 0} (m : Meaning State Found Goal
       stood = acts.stood;
       knows = known_is;
       ending = ended_is;
-      }
+    }
 
     pub told_then : entries_told (seen_as n.0 table' number told' room) ≡ entries_told p ++ news_of r
     told_then =

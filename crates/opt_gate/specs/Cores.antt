@@ -1,5 +1,5 @@
 -- The rule's words at cores.
-use Rattle.std.specs.Prelude.{◌≡◌, ℕ, List, [], Option, Some, None, false}
+use Rattle.std.specs.Prelude.{ℕ, List, [], Option, Some, None, false}
 use Rattle.opt_core.specs.Core.{Core}
 use Rattle.opt_core.specs.Runs.{SameStart}
 use Rattle.opt_core.specs.declared.event.Ending.{Ending}

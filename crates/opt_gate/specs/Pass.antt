@@ -1,5 +1,5 @@
 -- What contracts see of a gate and of a pass.
-use Rattle.std.specs.Prelude.{◌≡◌, ℕ, ◌+◌, ◌-◌, ◌<◌, ◌≤◌, List, [], ◌∷◌, ◌++◌, Option, Some, None, length}
+use Rattle.std.specs.Prelude.{◌≡◌, ℕ, ◌+◌, ◌-◌, ◌<◌, ◌≤◌, List, [], ◌++◌, Option, Some, None, length}
 use Rattle.atomic_table.specs.Seated.{TableId}
 use Rattle.opt_core.specs.Core.{Core}
 use Rattle.opt_core.specs.declared.event.Ending.{Ending}
@@ -53,8 +53,17 @@ module _ {K F R : Type 0} where
 
   -- a join: the longer list, an ending of either, the commits of both, and the sums
   abbrev pub joined_pass : PassView K F R → PassView K F R → PassView K F R
-  joined_pass p q = record { table = p.table; key = p.key; number = p.number; told = p.told; room = p.room + q.room; knows = longer p.knows q.knows;
-      ending = ending_of_both p.knows q.knows p.ending q.ending; own = p.own ++ q.own; stops = p.stops + q.stops }
+  joined_pass p q = record {
+    table = p.table;
+    key = p.key;
+    number = p.number;
+    told = p.told;
+    room = p.room + q.room;
+    knows = longer p.knows q.knows;
+    ending = ending_of_both p.knows q.knows p.ending q.ending;
+    own = p.own ++ q.own;
+    stops = p.stops + q.stops;
+  }
 
 module _ {System State Found Goal Reason : Type 0} where
   -- the own commits of a pass: each stands at its place in what the pass knows, and no place comes twice

@@ -1,6 +1,6 @@
 -- What each step does to a view, and what it tells.
-use Rattle.std.specs.Prelude.{◌≡◌, ◌≢◌, ℕ, ◌+◌, ◌-◌, ◌%◌, ◌^◌, ◌<◌, ◌≤◌, List, [], ◌∷◌, ◌++◌, Bool, true, false, Option, Some, None, length, drop}
-use Rattle.atomic_table.specs.Table.{Me, Step, rest}
+use Rattle.std.specs.Prelude.{◌≡◌, ◌≢◌, ℕ, ◌+◌, ◌-◌, ◌%◌, ◌^◌, ◌<◌, ◌≤◌, List, [], ◌∷◌, ◌++◌, true, false, Option, Some, None, length, drop}
+use Rattle.atomic_table.specs.Table.{Me, Step}
 use Rattle.opt_core.specs.declared.event.Ending.{Ending}
 use Rattle.opt_core.specs.declared.event.Ending.TheVariants as ending
 use Rattle.opt_gate.specs.declared.view.View.{View}
@@ -36,8 +36,18 @@ module _ {K F R : Type 0} where
 
   -- a join
   abbrev pub joined : View K F R → View K F R → View K F R
-  joined v w = record { key = v.key; room = v.room + w.room; knows = longer v.knows w.knows; ending = ending_of_both v.knows w.knows v.ending w.ending;
-      own = v.own ++ w.own; stops = v.stops + w.stops; ticket = None; served = false; other = shorter v.knows w.knows; other_ending = by_length v.knows w.knows w.ending v.ending }
+  joined v w = record {
+    key = v.key;
+    room = v.room + w.room;
+    knows = longer v.knows w.knows;
+    ending = ending_of_both v.knows w.knows v.ending w.ending;
+    own = v.own ++ w.own;
+    stops = v.stops + w.stops;
+    ticket = None;
+    served = false;
+    other = shorter v.knows w.knows;
+    other_ending = by_length v.knows w.knows w.ending v.ending;
+  }
 
   -- what is left of the pass that was joined into another one
   abbrev pub spent : View K F R

@@ -1,9 +1,8 @@
 -- One turn of a pass.
-use Rattle.std.specs.Prelude.{◌≡◌, ℕ, ◌+◌, ◌<◌, ◌≤◌, List, [], ◌∷◌, ◌++◌, Bool, true, false, Option, Some, None, length, take}
+use Rattle.std.specs.Prelude.{◌≡◌, ℕ, ◌+◌, ◌<◌, List, [], ◌∷◌, ◌++◌, Bool, true, false, Option, Some, length, take}
 use Rattle.atomic_table.specs.Table.{Me}
 use Rattle.opt_system.specs.Meaning.{Meaning, applies, faulty, Barren}
 use Rattle.opt_core.specs.declared.event.Ending.{Ending}
-use Rattle.opt_core.specs.declared.event.Ending.TheVariants as ending
 use Rattle.opt_core.specs.declared.event.Event.{Event}
 use Rattle.opt_core.specs.declared.event.Event.TheVariants as event
 use Rattle.opt_core.specs.declared.event.Reply.{Reply}
@@ -67,8 +66,17 @@ module _ {Found Reason : Type 0} where
 
   -- the pass after a turn, where it knows these entries and this ending
   abbrev pub pass_after : {K : Type 0} → PassView K Found Reason → Ask Found → Reply Found Reason → List Found → Option (Ending Reason) → PassView K Found Reason
-  pass_after p a r knows x = record { table = p.table; key = p.key; number = p.number; told = told_after p.told r (length knows); room = p.room; knows = knows; ending = x;
-      own = p.own ++ commits_of (event_of p.told a) r; stops = p.stops + stops_of (event_of p.told a) }
+  pass_after p a r knows x = record {
+    table = p.table;
+    key = p.key;
+    number = p.number;
+    told = told_after p.told r (length knows);
+    room = p.room;
+    knows = knows;
+    ending = x;
+    own = p.own ++ commits_of (event_of p.told a) r;
+    stops = p.stops + stops_of (event_of p.told a);
+  }
 
   -- the number that was told, and the entries of the News
   abbrev pub told_and_handed : ℕ → Reply Found Reason → ℕ

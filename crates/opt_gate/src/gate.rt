@@ -38,8 +38,7 @@ pub struct GateOf<
 }
 
 impl<C, F, R, P: TableRule<Option<C>, View<Key<C>, F, R>, Key<C>> + HasGoal<C, G>, G: Copy> Model
-    for GateOf<C, F, R, P, G>
-{
+    for GateOf<C, F, R, P, G> {
     ghost use Rattle.std.specs.Prelude.{◌≡◌};
     ghost use Rattle.opt_gate.specs.declared.key.Key.{Key as KeyData};
     ghost use Rattle.opt_gate.specs.Pass.{GateView};

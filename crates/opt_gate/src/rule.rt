@@ -17,8 +17,7 @@ pub struct GateRule<S> {
 }
 
 impl<S: System> TableRule<Option<Core<S>>, View<Key<Core<S>>, S::Found, S::Reason>, Key<Core<S>>>
-    for GateRule<S>
-{
+    for GateRule<S> {
     ghost holds = { Ruled entries_of ended_of IsOfKey passes_of };
 
     ghost first = { first_view };

@@ -15,17 +15,18 @@ use opt_system::System;
 use std::sync::Wait;
 
 // The words and the slot of a gate.
-type GateTable<S: System> =
-    Shared<Option<Core<S>>, View<Key<Core<S>>, S::Found, S::Reason>, Key<Core<S>>, GateRule<S>>;
+type GateTable<S: System> = Shared<
+    Option<Core<S>>,
+    View<Key<Core<S>>, S::Found, S::Reason>,
+    Key<Core<S>>,
+    GateRule<S>,
+>;
 
 // What a pass takes steps with.
 type GateSeat<S: System> = Seat<Option<Core<S>>, View<Key<Core<S>>, S::Found, S::Reason>>;
 
 // Draws a ticket.
-fn draw<S: System>(
-    shared: &GateTable<S>,
-    seat: &mut GateSeat<S>,
-) -> u64
+fn draw<S: System>(shared: &GateTable<S>, seat: &mut GateSeat<S>) -> u64
     requires table { (seat.old.table_id ≡ shared.now.table_id) × (shared.now.table_id.words ≡ 2) }
     requires idle { (seat.old.me.0.ticket ≡ None) × (seat.old.me.0.served ≡ false) × (0 < seat.old.me.0.room) }
     ensures same { seat.new.table_id ≡ seat.old.table_id }
@@ -35,12 +36,7 @@ fn draw<S: System>(
 }
 
 // Waits until the ticket is served. Then the seat has the core.
-fn watch<S: System, R: Wait>(
-    rt: &R,
-    shared: &GateTable<S>,
-    seat: &mut GateSeat<S>,
-    ticket: u64,
-)
+fn watch<S: System, R: Wait>(rt: &R, shared: &GateTable<S>, seat: &mut GateSeat<S>, ticket: u64)
     requires table { (seat.old.table_id ≡ shared.now.table_id) × (shared.now.table_id.words ≡ 2) }
     requires drawn { (seat.old.me.0.served ≡ false) × (seat.old.me.1 ≡ []) × ((t : ℕ) × (seat.old.me.0.ticket ≡ Some t) × (t % 2 ^ 64 ≡ ticket)) }
     ensures same { seat.new.table_id ≡ seat.old.table_id }
@@ -55,12 +51,7 @@ fn watch<S: System, R: Wait>(
 }
 
 // Puts the core back, and passes the turn on.
-fn hand_on<S: System>(
-    shared: &GateTable<S>,
-    seat: &mut GateSeat<S>,
-    core: Core<S>,
-    is_stop: bool,
-)
+fn hand_on<S: System>(shared: &GateTable<S>, seat: &mut GateSeat<S>, core: Core<S>, is_stop: bool)
     requires table { (seat.old.table_id ≡ shared.now.table_id) × (shared.now.table_id.words ≡ 2) × (shared.now.table_id.slots ≡ 1) }
     requires served { (seat.old.me.0.served ≡ true) × ((held : _) × (seat.old.me.1 ≡ (0, held) ∷ [])) }
     requires core { MayFollow entries_of ended_of IsOfKey (if is_stop then 1 else 0) seat.old.me.0 core }
@@ -129,11 +120,7 @@ pub(crate) fn act<S: System, R: Wait>(
 }
 
 // Joins two seats without tickets. The second load tells of the seat that comes of it.
-pub(crate) fn unite<S: System>(
-    shared: &GateTable<S>,
-    seat: &mut GateSeat<S>,
-    other: GateSeat<S>,
-)
+pub(crate) fn unite<S: System>(shared: &GateTable<S>, seat: &mut GateSeat<S>, other: GateSeat<S>)
     requires table { (seat.old.table_id ≡ shared.now.table_id) × (other.table_id ≡ shared.now.table_id) × (shared.now.table_id.words ≡ 2) }
     requires idle { (seat.old.me ≡ (resting seat.old.me.0, [])) × (0 < seat.old.me.0.room) }
     requires other { other.me ≡ (resting other.me.0, []) }

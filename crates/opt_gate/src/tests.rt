@@ -84,9 +84,23 @@ fn a_second_pass_learns_what_the_first_committed(rt: HostRuntime) -> Result<(), 
     assert_eq!(rt; (p.number(), p.room(), q.number(), q.room()), (0, 1, 1, 1));
     let text = answer(&rt, alloc, &gate, &mut p, &mut at_p, Ask::Look { from: 0 })?;
     assert_eq!(rt; text.as_str(), "news [] 0");
-    let text = answer(&rt, alloc, &gate, &mut p, &mut at_p, Ask::Offer { found: 0 })?;
+    let text = answer(
+        &rt,
+        alloc,
+        &gate,
+        &mut p,
+        &mut at_p,
+        Ask::Offer { found: 0 },
+    )?;
     assert_eq!(rt; text.as_str(), "committed 0");
-    let text = answer(&rt, alloc, &gate, &mut q, &mut at_q, Ask::Quiet { share: 1 })?;
+    let text = answer(
+        &rt,
+        alloc,
+        &gate,
+        &mut q,
+        &mut at_q,
+        Ask::Quiet { share: 1 },
+    )?;
     assert_eq!(rt; text.as_str(), "stale 1");
     let text = answer(&rt, alloc, &gate, &mut q, &mut at_q, Ask::Look { from: 1 })?;
     assert_eq!(rt; text.as_str(), "news [0] 1");
@@ -101,7 +115,10 @@ fn a_second_pass_learns_what_the_first_committed(rt: HostRuntime) -> Result<(), 
 
 // Two threads, each with a pass of one gate, commit the places of their shares of 8 cells. The places that their
 // Committed answers named, in order, and the number of entries.
-fn committed_by_two<R: Threads + Wait + Sync>(rt: &R, alloc: Global) -> Result<(Vec<u64>, usize), Fail> {
+fn committed_by_two<R: Threads + Wait + Sync>(
+    rt: &R,
+    alloc: Global,
+) -> Result<(Vec<u64>, usize), Fail> {
     let Ok((gate, mut p)) = Gate::start(alloc, core_of(alloc, 8, 16)?, 2) else {
         return Err(Fail::from("no gate was made"));
     };

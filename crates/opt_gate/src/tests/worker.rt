@@ -74,12 +74,7 @@ pub fn ask<S: System, R: Wait>(
 }
 
 // Makes the steps of the entries on the replica. Not where one does not apply or memory is refused.
-fn follow<S: System>(
-    s: &S,
-    gate: &Gate<S>,
-    at: &mut S::State,
-    entries: &[S::Found],
-) -> bool
+fn follow<S: System>(s: &S, gate: &Gate<S>, at: &mut S::State, entries: &[S::Found]) -> bool
     ensures { IsTrue result → at.new ≡ reached (S.means s.now) at.old entries.now }
 {
     for found in entries {

@@ -1,4 +1,4 @@
-use Rattle.std.proofs.Common.{◌≡◌, ◌+◌, ◌≤◌, ◌∙◌, sym, ap, arith}
+use Rattle.std.proofs.Common.{◌+◌, ◌≤◌, arith}
 use Rattle.opt_gate.specs.Lists.{times}
 use Rattle.opt_gate.proofs.Owns.{times_append}
 use Rattle.opt_gate.proofs.pass.PassOf+Core+S+S+Found+S+Reason.join.Goals as goal
