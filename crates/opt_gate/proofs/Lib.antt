@@ -1,0 +1,15 @@
+mod Sums
+mod Tickets
+mod Prefixes
+mod Owns
+mod Tells
+pub mod Draws
+pub mod Watches
+pub mod Passes
+pub mod Splits
+pub mod Joins
+pub mod Rests
+mod Follows
+mod Taking
+mod Turned
+mod Replicas
