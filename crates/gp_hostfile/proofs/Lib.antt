@@ -4,3 +4,5 @@ pub mod Drawn
 pub mod Hosts
 pub mod Sorted
 pub mod Lines
+pub mod Pieces
+pub mod Stands
