@@ -6,3 +6,5 @@ pub mod Sorted
 pub mod Lines
 pub mod Pieces
 pub mod Stands
+pub mod Numerals
+pub mod GraphPieces

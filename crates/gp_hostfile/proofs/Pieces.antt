@@ -39,7 +39,7 @@ abbrev pub AllStand : List Piece → List ℕ → Type 0
 AllStand [] behind = Unit {0}
 AllStand (p ∷ ps) behind = Stands p (spelled ps ++ behind) × AllStand ps behind
 
-spelled-append : (ps qs : List Piece) → spelled (ps ++ qs) ≡ spelled ps ++ spelled qs
+pub spelled-append : (ps qs : List Piece) → spelled (ps ++ qs) ≡ spelled ps ++ spelled qs
 spelled-append [] qs = refl
 spelled-append (p ∷ ps) qs = ap (λ t. text_of p ++ t) (spelled-append ps qs) ∙ sym (append_assoc (text_of p) (spelled ps) (spelled qs))
 

@@ -153,7 +153,7 @@ classed_number at text digits small =
 digit_in_word : (b : ℕ) → is_digit b ≡ true → is_word_byte b ≡ true
 digit_in_word b h = rw h refl
 
-digits_in_word : (text : List ℕ) → list_all is_digit text ≡ true → list_all is_word_byte text ≡ true
+pub digits_in_word : (text : List ℕ) → list_all is_digit text ≡ true → list_all is_word_byte text ≡ true
 digits_in_word [] h = refl
 digits_in_word (b ∷ text) h = go (is_digit b) refl h (λ h. digits_in_word text h)
   where
