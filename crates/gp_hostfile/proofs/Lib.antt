@@ -8,3 +8,4 @@ pub mod Pieces
 pub mod Stands
 pub mod Numerals
 pub mod GraphPieces
+pub mod GraphStands
