@@ -9,3 +9,4 @@ pub mod Stands
 pub mod Numerals
 pub mod GraphPieces
 pub mod GraphStands
+pub mod Written
