@@ -10,3 +10,4 @@ pub mod Numerals
 pub mod GraphPieces
 pub mod GraphStands
 pub mod Written
+pub mod NumberNames
