@@ -11,3 +11,4 @@ pub mod GraphPieces
 pub mod GraphStands
 pub mod Written
 pub mod NumberNames
+pub mod NumberedMaps
