@@ -12,3 +12,5 @@ pub mod GraphStands
 pub mod Written
 pub mod NumberNames
 pub mod NumberedMaps
+pub mod Renumbering
+pub mod Shows

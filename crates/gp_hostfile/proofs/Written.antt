@@ -3,6 +3,7 @@ use Rattle.std.proofs.Common.{◌≡◌, ℕ, zero, suc, ◌+◌, ◌^◌, ◌<�
 use Rattle.std.specs.Prelude.{All, IsSome, is_some, IsPermutation}
 use Rattle.std.specs.Ordering.{nat_cmp}
 use Rattle.std.specs.FinMap.{FinMap, get, entries}
+use Rattle.std.proofs.lemmas.List.{length-map}
 use Rattle.std.proofs.lemmas.List.Sorted.{All-permutation, length_permutation}
 use Rattle.gp_tokens.specs.Lexed.{tokens_of}
 use Rattle.gp_values.specs.Atoms.{AreAtoms}
@@ -10,7 +11,6 @@ use Rattle.gp_values.specs.Graph.{Node, Edge, Graph, IsGraph, node_at, edge_at}
 use Rattle.gp_values.specs.Order.{numbered, entries_from}
 use Rattle.gp_values.proofs.Order.{entries-walk}
 use Rattle.gp_hostfile.specs.GraphText.{edges_of, IsGraphText}
-use Rattle.gp_hostfile.proofs.Drawn.{length_mapped}
 use Rattle.gp_hostfile.proofs.Pieces.{spelled, tokens_at, tokens_of_pieces}
 use Rattle.gp_hostfile.proofs.GraphPieces.{graph_pieces, spelled_graph}
 use Rattle.gp_hostfile.proofs.GraphStands.{Each, IsShortNode, IsShortEdge, graph_stands}
@@ -81,7 +81,7 @@ module _ (g : Graph) (w : IsGraph g) where
       each_mapped (IsEdgeOf g) (λ (p : ℕ × Edge). p.1) (entries g.edges) (rw edges_walk each)
 
   count_edges : length (edges_of g) ≤ g.next_edge
-  count_edges = let a = length_mapped (λ (p : ℕ × Edge). p.1) (entries g.edges) in let b = ap length edges_walk in omega (arith, a, b, length_walked g.edges 0 g.next_edge)
+  count_edges = let a = length-map (entries g.edges) (λ (p : ℕ × Edge). p.1) in let b = ap length edges_walk in omega (arith, a, b, length_walked g.edges 0 g.next_edge)
 
   -- the edges of a text of the graph
   module _ (text : List ℕ) (t : IsGraphText g text) where
