@@ -1,17 +1,14 @@
 -- A graph is read as it is spelled.
-use Rattle.std.proofs.Common.{◌≡◌, ℕ, Bool, true, false, List, Option, refl, sym, ap, ◌∙◌}
-use Rattle.gp_tokens.specs.declared.keyword.Keyword.TheVariants as keywords
+use Rattle.std.proofs.Common.{List, refl}
 use Rattle.gp_tokens.specs.declared.token.Kind.TheVariants as kinds
 use Rattle.gp_tokens.specs.declared.token.Token.{Token}
 use Rattle.gp_tokens.specs.Kinds.{same_kind}
 use Rattle.gp_grammar.specs.declared.want.Want.{Want}
 use Rattle.gp_grammar.specs.declared.want.Want.TheVariants as wants
-use Rattle.gp_grammar.specs.declared.graph.Numeral.{Numeral}
 use Rattle.gp_grammar.specs.Wants.{meets, excludes}
-use Rattle.gp_grammar.specs.Shape.{Shape, Is, IsNumber, ◌then◌, Made, Either, Many}
-use Rattle.gp_grammar.specs.Reading.{Reader, token, number, ◌and◌, made, at, repeated}
+use Rattle.gp_grammar.specs.Shape.{Is, IsNumber, ◌then◌, Made, Many}
 use Rattle.gp_grammar.specs.Laws.{Sound, Again, Anything, No, Begins, NeverBegins, Shrinks, Keeps}
-use Rattle.gp_grammar.specs.Graph.{open_sign, close_sign, comma, bar, minus, empty, positive, negative, IsNumeral, IsLabel, IsNode, IsEdge, IsDrawing, Drawing}
+use Rattle.gp_grammar.specs.Graph.{open_sign, close_sign, comma, bar, minus, empty, positive, negative, IsNumeral, IsLabel, IsNode, IsEdge, IsDrawing}
 use Rattle.gp_grammar.specs.GraphReading.{numeral, label, node, edge, nodes, edges, drawing}
 use Rattle.gp_grammar.proofs.Shapes.{token_sound, number_sound, and_sound, made_sound, at_sound, repeated_sound, token_again, number_again, and_again, then_again, made_again, at_again, repeated_again, token_begins, number_begins, then_begins, made_begins, begins_never, made_never, either_never, token_shrinks, number_shrinks, then_shrinks, made_shrinks, then_keeps, made_keeps, either_keeps, shrinks_keeps}
 

@@ -2,4 +2,5 @@ pub mod Wants
 pub mod Shapes
 pub mod Loop
 pub mod Passing
+pub mod Strings
 pub mod GraphLaws

@@ -1,5 +1,5 @@
 -- The grammar of graphs whose labels are `empty` or one integer.
-use Rattle.std.specs.Prelude.{ℕ, Bool, true, false, List, Option, Some, None}
+use Rattle.std.specs.Prelude.{ℕ, true, false, List, Option, Some, None}
 use Rattle.gp_tokens.specs.declared.token.Kind.TheVariants as kinds
 use Rattle.gp_tokens.specs.declared.token.Token.{Token}
 use Rattle.gp_tokens.specs.declared.keyword.Keyword.TheVariants as keywords

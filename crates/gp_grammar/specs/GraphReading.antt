@@ -5,7 +5,7 @@ use Rattle.gp_grammar.specs.declared.want.Want.TheVariants as wants
 use Rattle.gp_grammar.specs.declared.graph.Numeral.{Numeral}
 use Rattle.gp_grammar.specs.declared.graph.NodeTree.{NodeTree}
 use Rattle.gp_grammar.specs.declared.graph.EdgeTree.{EdgeTree}
-use Rattle.gp_grammar.specs.Reading.{Reader, token, number, begins, ◌and◌, made, at, repeated}
+use Rattle.gp_grammar.specs.Reading.{Reader, token, number, ◌and◌, made, at, repeated}
 use Rattle.gp_grammar.specs.Graph.{open_sign, close_sign, comma, bar, minus, empty, positive, negative, no_numeral, some_numeral, node_of, edge_of, Drawing, drawing_of}
 
 unfoldable pub numeral : Reader Numeral

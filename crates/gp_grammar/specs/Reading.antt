@@ -1,8 +1,10 @@
 -- Reading from left to right.
-use Rattle.std.specs.Prelude.{◌≡◌, ℕ, zero, suc, Bool, true, false, if◌then◌else◌, List, [], ◌∷◌, length, Option, Some, None, option_map, Result, Ok, Err}
+use Rattle.std.specs.Prelude.{◌≡◌, ℕ, zero, suc, Bool, true, false, if◌then◌else◌, List, [], ◌∷◌, ◌++◌, length, Option, Some, None, option_map, ◌&&◌, ◌==◌, nat_eq, Result, Ok, Err}
 use Rattle.gp_tokens.specs.declared.token.Kind.TheVariants as k
 use Rattle.gp_tokens.specs.declared.token.Token.{Token}
+use Rattle.gp_tokens.specs.Bytes.{is_string_byte}
 use Rattle.gp_tokens.specs.Numbers.{checked_number}
+use Rattle.gp_values.specs.Texts.{IsText}
 use Rattle.gp_grammar.specs.declared.error.ReadError.{ReadError}
 use Rattle.gp_grammar.specs.declared.error.ReadError.TheVariants as error
 use Rattle.gp_grammar.specs.declared.want.Want.{Want}
@@ -41,6 +43,27 @@ begins want (t ∷ ts) = meets want t
 
 abbrev pub number : Reader ℕ
 number ts = token (want.Kind k.Number) ts >>= λ x. option_map (λ value. (value, x.1)) (checked_number x.0.text)
+
+abbrev pub number_at : Reader (ℕ × ℕ)
+number_at ts = token (want.Kind k.Number) ts >>= λ x. option_map (λ value. ((value, x.0.start), x.1)) (checked_number x.0.text)
+
+-- the characters before a quotation mark that ends the text
+abbrev pub closed : List ℕ → Option (List ℕ)
+closed [] = None
+closed (b ∷ text) = if is_string_byte b then option_map (λ characters. b ∷ characters) (closed text) else (if b == 34 && nat_eq (length text) 0 then Some [] else None)
+
+-- the characters between two quotation marks
+abbrev pub quoted : List ℕ → Option (List ℕ)
+quoted [] = None
+quoted (b ∷ text) = if b == 34 then closed text else None
+
+-- what stands between the quotation marks of a text, where it is one of characters between two
+abbrev pub IsQuoted : Option (List ℕ) → List ℕ → Type 0
+IsQuoted None text = (characters : List ℕ) → text ≡ 34 ∷ characters ++ 34 ∷ [] → IsText characters → ⊥
+IsQuoted (Some characters) text = (text ≡ 34 ∷ characters ++ 34 ∷ []) × IsText characters
+
+abbrev pub string : Reader (List ℕ)
+string ts = token (want.Kind k.String) ts >>= λ x. option_map (λ characters. (characters, x.1)) (quoted x.0.text)
 
 infixr 20 ◌and◌
 abbrev pub ◌and◌ : {A B : Type 0} → Reader A → Reader B → Reader (A × B)

@@ -1,8 +1,9 @@
 -- What a grammar is made of. A shape says which tokens, up to which rest, are which tree.
-use Rattle.std.specs.Prelude.{◌≡◌, ℕ, true, List, [], ◌∷◌, Some}
+use Rattle.std.specs.Prelude.{◌≡◌, ℕ, true, List, [], ◌∷◌, ◌++◌, Some}
 use Rattle.gp_tokens.specs.declared.token.Kind.TheVariants as k
 use Rattle.gp_tokens.specs.declared.token.Token.{Token}
 use Rattle.gp_tokens.specs.Numbers.{checked_number}
+use Rattle.gp_values.specs.Texts.{IsText}
 use Rattle.gp_grammar.specs.declared.want.Want.{Want}
 use Rattle.gp_grammar.specs.declared.want.Want.TheVariants as want
 use Rattle.gp_grammar.specs.Wants.{meets}
@@ -20,6 +21,20 @@ pub record IsNumber (ts rest : List Token) (value : ℕ) : Type 0 where
   pub token : Token
   pub is : Is (want.Kind k.Number) ts rest token
   pub value_is : checked_number token.text ≡ Some value
+
+-- the same, by its value and its offset
+pub record IsNumberAt (ts rest : List Token) (x : ℕ × ℕ) : Type 0 where
+  pub token : Token
+  pub is : Is (want.Kind k.Number) ts rest token
+  pub value_is : checked_number token.text ≡ Some x.0
+  pub start_is : token.start ≡ x.1
+
+-- one string, by the characters between its quotation marks
+pub record IsString (ts rest : List Token) (characters : List ℕ) : Type 0 where
+  pub token : Token
+  pub is : Is (want.Kind k.String) ts rest token
+  pub spelled : token.text ≡ 34 ∷ characters ++ 34 ∷ []
+  pub text : IsText characters
 
 -- one shape, and then another
 infixr 20 ◌then◌

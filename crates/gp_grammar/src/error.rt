@@ -3,6 +3,7 @@
 ghost use Rattle.std.specs.Prelude.{◌≡◌};
 ghost use Rattle.gp_grammar.specs.declared.error.ReadError.TheVariants.{NoMemory};
 
+use gp_values::NoMemory as Refused;
 use std::alloc::{AllocError, AllocFailed};
 
 /// Why tokens could not be read.
@@ -27,6 +28,14 @@ impl<T: Drop> From<AllocFailed<T>> for ReadError {
     ghost from_gives = { λ _ e. e ≡ NoMemory };
 
     fn from(_e: AllocFailed<T>) -> ReadError {
+        ReadError::NoMemory
+    }
+}
+
+impl From<Refused> for ReadError {
+    ghost from_gives = { λ _ e. e ≡ NoMemory };
+
+    fn from(_e: Refused) -> ReadError {
         ReadError::NoMemory
     }
 }

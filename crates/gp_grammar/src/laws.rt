@@ -20,10 +20,12 @@ pub trait Form<A> {
     ghost follows: { List Token → Type 0 };
 }
 
-/// One token, and one number.
+/// One token, one number, and one string.
 pub fn tokens_are_read()
     ensures token { (want : Want) → Reads (read.token want) (shape.Is want) Anything }
     ensures number { Reads read.number shape.IsNumber Anything }
+    ensures number_at { Reads read.number_at shape.IsNumberAt Anything }
+    ensures string { Reads read.string shape.IsString Anything }
 {}
 
 /// No token meets two wants of which one excludes the other.

@@ -11,5 +11,5 @@ mod want;
 
 pub use error::ReadError;
 pub use graph::{EdgeTree, GraphTree, NodeTree, Numeral, label_list, read_graph};
-pub use read::{begins, number, stands_before, token};
+pub use read::{begins, number, number_at, stands_before, string, token};
 pub use want::Want;

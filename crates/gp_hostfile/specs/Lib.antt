@@ -1,5 +1,5 @@
+pub mod Grammar
 pub mod Host
-pub mod Drawn
 pub mod GraphText
 pub mod Lines
 pub mod Laws

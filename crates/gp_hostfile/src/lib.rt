@@ -1,12 +1,15 @@
 //! Host texts into graphs, and graphs into texts.
 #![tactic(auto)]
 
+mod fault;
 pub mod laws;
 mod names;
 mod read;
 #[cfg(test)]
 mod tests;
 mod text;
+mod tree;
 
-pub use read::{HostRefusal, read_host};
+pub use fault::HostFault;
+pub use read::read_host;
 pub use text::write_graph;

@@ -5,3 +5,4 @@ pub mod Numbers
 pub mod Front
 pub mod Lexed
 pub mod Cut
+pub mod Lines

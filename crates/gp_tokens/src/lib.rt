@@ -5,6 +5,7 @@ mod cut;
 mod fault;
 mod front;
 mod keyword;
+mod line;
 mod number;
 #[cfg(test)]
 mod tests;
@@ -14,5 +15,6 @@ mod token;
 pub use cut::lex;
 pub use fault::LexFault;
 pub use keyword::{Keyword, RESERVED, is_reserved};
+pub use line::line_of_token;
 pub use text::Text;
 pub use token::{Kind, Token};

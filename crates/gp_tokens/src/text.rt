@@ -7,6 +7,7 @@ ghost use Rattle.std.specs.Str.{bytes_eq};
 
 use smallvec::SmallVec;
 use std::alloc::{AllocError, Global};
+use std::fmt;
 use std::marker::Model;
 
 /// The bytes of a token. Up to sixteen of them stand in the value itself. Contracts see their list.
@@ -59,4 +60,14 @@ impl PartialEq for Text {
 
 impl Eq for Text {
     ghost laws = { nat_list_eq_equiv };
+}
+
+/// Its bytes as characters.
+impl fmt::Display for Text {
+    fn fmt<W: fmt::Write>(&self, f: &mut fmt::Formatter<W>) -> fmt::Result {
+        for byte in self.as_bytes() {
+            f.write_char(*byte as char)?;
+        }
+        Ok(())
+    }
 }

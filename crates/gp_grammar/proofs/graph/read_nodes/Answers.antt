@@ -1,9 +1,9 @@
-use Rattle.std.proofs.Common.{sym, ◌∙◌, ◌∷◌, []}
+use Rattle.std.proofs.Common.{sym, ◌∙◌}
 use Rattle.std.proofs.lemmas.Result.{err_from_is_err_and}
 use Rattle.gp_grammar.specs.Graph.{open_sign}
 use Rattle.gp_grammar.specs.GraphReading.{node, nodes}
 use Rattle.gp_grammar.specs.Reading.{repeated}
-use Rattle.gp_grammar.proofs.Loop.{starts, goes_on, stops, ends}
+use Rattle.gp_grammar.proofs.Loop.{goes_on, stops, ends}
 use Rattle.gp_grammar.proofs.graph.read_nodes.Goals as goal
 
 pub returns-in_err-value-clause-gives : goal.returns-in_err-value-clause-gives
