@@ -11,3 +11,5 @@ pub mod NumberNames
 pub mod NumberedMaps
 pub mod Renumbering
 pub mod Shows
+pub mod ReadLabels
+pub mod ReadLines
