@@ -97,3 +97,63 @@ node_shows n x small atoms rest =
     made_shows node_of _ _ (IsNodeTree (n, x)) _ _ (λ p good. record { name = good.1.0; root = good.1.1.0; label = good.1.1.1.1.0.0; mark = good.1.1.1.1.0.1 }) line
     in
     subst (λ ps. Shows IsNode (IsNodeTree (n, x)) ps rest) (sym grouped) (behind_blank _ _ _ _ _ (behind_blank _ _ _ _ _ whole))
+
+-- ---- edges
+
+-- the tree of an edge's line, by the number of the line
+pub record IsEdgeTree (p : ℕ × Edge) (e : EdgeTree) : Type 0 where
+  pub name : e.name ≡ 101 ∷ decimal p.0
+  pub source : e.source ≡ 110 ∷ decimal p.1.source
+  pub target : e.target ≡ 110 ∷ decimal p.1.target
+  pub label : atoms_of e.label ≡ Some p.1.label
+  pub mark : edge_mark e.mark ≡ Some p.1.mark
+
+edge_shows : (i : ℕ) (d : Edge) → i < 10 ^ 64 → d.source < 10 ^ 64 → d.target < 10 ^ 64 → AreAtoms d.label → (rest : List Piece) → Shows IsEdge (IsEdgeTree (i, d)) (edge_pieces i d ++ rest) rest
+edge_shows i d small source target atoms rest =
+    let marks : List Piece = edge_mark_pieces d.mark ++ (close_sign ∷ blank 10 ∷ rest) in
+    let tail : List Piece = label_pieces d.label ++ marks in
+    let front : List Piece → List Piece =
+    λ t. blank 32 ∷ blank 32 ∷ open_sign ∷ named 101 i ∷ comma ∷ blank 32 ∷ named 110 d.source ∷ comma ∷ blank 32 ∷ named 110 d.target ∷ comma ∷ blank 32 ∷ t
+    in
+    let grouped : edge_pieces i d ++ rest ≡ front tail = ap front (append_assoc (label_pieces d.label) _ rest ∙ ap (λ t. label_pieces d.label ++ t) (append_assoc (edge_mark_pieces d.mark) line_end rest)) in
+    let label = then_shows IsLabel _ _ _ _ _ _ (then_shows _ _ _ _ _ _ _ (atoms_show d.label atoms marks) (edge_mark_shows d.mark (close_sign ∷ blank 10 ∷ rest))) (end_shows rest) in
+    let ends =
+    then_shows _ _ _ _ _ _ _ (name_shows 110 d.source source _)
+    (then_shows _ _ _ _ _ _ _ (comma_shows _) (then_shows _ _ _ _ _ _ _ (name_shows 110 d.target target _) (then_shows _ _ _ _ _ _ _ (comma_shows tail) label)))
+    in
+    let line = then_shows _ _ _ _ _ _ _ (open_shows _) (then_shows _ _ _ _ _ _ _ (name_shows 101 i small _) (then_shows _ _ _ _ _ _ _ (comma_shows _) ends)) in
+    let whole : Shows IsEdge (IsEdgeTree (i, d)) (open_sign ∷ named 101 i ∷ comma ∷ blank 32 ∷ named 110 d.source ∷ comma ∷ blank 32 ∷ named 110 d.target ∷ comma ∷ blank 32 ∷ tail) rest =
+    made_shows edge_of _ _ (IsEdgeTree (i, d)) _ _
+    (λ p good. record { name = good.1.0; source = good.1.1.1.0; target = good.1.1.1.1.1.0; label = good.1.1.1.1.1.1.1.0.0; mark = good.1.1.1.1.1.1.1.0.1 }) line
+    in
+    subst (λ ps. Shows IsEdge (IsEdgeTree (i, d)) ps rest) (sym grouped) (behind_blank _ _ _ _ _ (behind_blank _ _ _ _ _ whole))
+
+-- ---- all lines
+
+nodes_show : (ns : List (ℕ × Node)) → Each IsShortNode ns → (rest : List Piece) → Shows (Many IsNode) (Match IsNodeTree ns) (nodes_pieces ns ++ rest) rest
+nodes_show [] h rest = none_shows IsNode IsNodeTree rest
+nodes_show ((n, x) ∷ ns) h rest =
+    let grouped = append_assoc (node_pieces (n, x)) (nodes_pieces ns) rest in
+    subst (λ ps. Shows (Many IsNode) (Match IsNodeTree ((n, x) ∷ ns)) ps rest) (sym grouped)
+    (more_shows IsNode IsNodeTree (n, x) ns _ _ _ (node_shows n x h.0.number h.0.label (nodes_pieces ns ++ rest)) (nodes_show ns h.1 rest))
+
+edges_show : (i : ℕ) (ds : List Edge) → i + length ds ≤ 10 ^ 64 → Each IsShortEdge ds → (rest : List Piece) → Shows (Many IsEdge) (Match IsEdgeTree (numbered_on i ds)) (edges_pieces i ds ++ rest) rest
+edges_show i [] few h rest = none_shows IsEdge IsEdgeTree rest
+edges_show i (d ∷ ds) few h rest =
+    let grouped = append_assoc (edge_pieces i d) (edges_pieces (i + 1) ds) rest in
+    subst (λ ps. Shows (Many IsEdge) (Match IsEdgeTree (numbered_on i (d ∷ ds))) ps rest) (sym grouped)
+    (more_shows IsEdge IsEdgeTree (i, d) (numbered_on (i + 1) ds) _ _ _ (edge_shows i d (omega arith) h.0.source h.0.target h.0.label (edges_pieces (i + 1) ds ++ rest)) (edges_show (i + 1) ds (omega arith) h.1 rest))
+
+-- the tree of a graph's text
+pub record IsTreeOf (ns : List (ℕ × Node)) (ds : List Edge) (t : HostTree) : Type 0 where
+  pub nodes : Match IsNodeTree ns t.0
+  pub edges : Match IsEdgeTree (numbered_on 0 ds) t.1
+
+pub graph_shows : (ns : List (ℕ × Node)) (ds : List Edge) → Each IsShortNode ns → length ds ≤ 10 ^ 64 → Each IsShortEdge ds → Shows IsHostShape (IsTreeOf ns ds) (graph_pieces ns ds) []
+graph_shows ns ds a few b =
+    let last = before_blank _ _ 10 _ [] (is_shows close_bracket k.CloseBracket (codes "]") (blank 10 ∷ []) close_bracket_meets) in
+    let edges = then_shows _ _ _ _ _ _ _ (behind_blank _ _ 10 _ _ (edges_show 0 ds (omega arith) b text_end)) last in
+    let bar = then_shows _ _ _ _ _ _ _ (is_shows signs.bar k.Bar (codes "|") _ bar_meets) edges in
+    let body = then_shows _ _ _ _ _ _ _ (behind_blank _ _ 10 _ _ (nodes_show ns a _)) bar in
+    made_shows tree_of _ _ (IsTreeOf ns ds) _ _ (λ p good. record { nodes = good.1.0; edges = good.1.1.1.0 })
+    (then_shows _ _ _ _ _ _ _ (is_shows open_bracket k.OpenBracket (codes "[") _ open_bracket_meets) (other_shows _ IsBody _ _ _ body))
