@@ -13,3 +13,4 @@ pub mod Renumbering
 pub mod Shows
 pub mod ReadLabels
 pub mod ReadLines
+pub mod ReadTrees

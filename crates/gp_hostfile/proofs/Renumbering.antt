@@ -55,10 +55,10 @@ abbrev pub renumbered : Graph → List Edge → Graph
 renumbered g ds = record { nodes = by_places (contents g); edges = by_places (map (moved g) ds); next_node = length (entries g.nodes); next_edge = length ds }
 
 module _ (g : Graph) (w : IsGraph g) (ds : List Edge) (edges : Each (IsEdgeOf g) ds) (rises : RisesFrom 0 (numbers g)) where
-  node_here : (i n : ℕ) (x : Node) → slice_get (entries g.nodes) i ≡ Some (n, x) → node_at (renumbered g ds) i ≡ Some x
+  pub node_here : (i n : ℕ) (x : Node) → slice_get (entries g.nodes) i ≡ Some (n, x) → node_at (renumbered g ds) i ≡ Some x
   node_here i n x h = get-by_places (contents g) i ∙ slice_get-map (λ (p : ℕ × Node). p.1) (entries g.nodes) i ∙ ap (option_map (λ (p : ℕ × Node). p.1)) h
 
-  edge_here : (i : ℕ) → edge_at (renumbered g ds) i ≡ option_map (moved g) (slice_get ds i)
+  pub edge_here : (i : ℕ) → edge_at (renumbered g ds) i ≡ option_map (moved g) (slice_get ds i)
   edge_here i = get-by_places (map (moved g) ds) i ∙ slice_get-map (moved g) ds i
 
   -- a node stands at the place of its number

@@ -66,7 +66,7 @@ pub record IsEdgeOf (g : Graph) (d : Edge) : Type 0 where
   pub label : AreAtoms d.label
 
 module _ (g : Graph) (w : IsGraph g) where
-  nodes_walk : entries g.nodes ≡ entries_from g.nodes 0 g.next_node
+  pub nodes_walk : entries g.nodes ≡ entries_from g.nodes 0 g.next_node
   nodes_walk = entries-walk g.nodes g.next_node w.nodes_below
 
   edges_walk : entries g.edges ≡ entries_from g.edges 0 g.next_edge
@@ -92,10 +92,10 @@ module _ (g : Graph) (w : IsGraph g) where
     count_of_text = omega (arith, length_permutation (edges_of g) t.edges t.same, count_edges)
 
     module _ (nodes_short : g.next_node ≤ 10 ^ 64) (edges_short : g.next_edge ≤ 10 ^ 64) where
-      short_nodes : Each IsShortNode (entries g.nodes)
+      pub short_nodes : Each IsShortNode (entries g.nodes)
       short_nodes = each_by (IsNodeOf g) IsShortNode (λ p e. let lt = w.nodes_below p.0 (ap is_some e) in record { number = omega arith; label = w.node_labels p.0 p.1 e }) (entries g.nodes) nodes_of_graph
 
-      short_edges : Each IsShortEdge t.edges
+      pub short_edges : Each IsShortEdge t.edges
       short_edges =
           each_by (IsEdgeOf g) IsShortEdge (λ d e. let a = w.nodes_below d.source e.source in let b = w.nodes_below d.target e.target in record { source = omega arith; target = omega arith; label = e.label }) t.edges edges_of_text
 
