@@ -1,6 +1,6 @@
 -- The pieces of a graph's text stand for themselves.
-use Rattle.std.proofs.Common.{◌≡◌, ◌≢◌, ℕ, zero, suc, ◌+◌, ◌^◌, ◌<◌, ◌≤◌, Bool, true, false, not, List, [], ◌∷◌, ◌++◌, length, ℤ, pos, negsuc, codes, decimal, refl, sym, ap, subst, ◌∙◌, arith}
-use Rattle.std.specs.Prelude.{All, slice_index, slice_index_or, nat_le, ◌==◌, ◌&&◌}
+use Rattle.std.proofs.Common.{◌≡◌, ℕ, suc, ◌+◌, ◌^◌, ◌<◌, ◌≤◌, Bool, true, false, List, [], ◌∷◌, ◌++◌, length, pos, negsuc, codes, decimal, refl, arith}
+use Rattle.std.specs.Prelude.{slice_index}
 use Rattle.std.specs.List.{list_all}
 use Rattle.std.proofs.lemmas.Bool.{le-leb, ne_eqb}
 use Rattle.gp_tokens.specs.declared.token.Kind.TheVariants as k
@@ -18,7 +18,7 @@ use Rattle.gp_values.specs.Graph.{Node, Edge}
 use Rattle.gp_hostfile.proofs.Pieces.{Piece, blank, word, spelled, Stands, AllStand, all_stand-append}
 use Rattle.gp_hostfile.proofs.Stands.{space_stands, feed_stands, sign_stands, open_lone, close_lone, open_bracket_lone, close_bracket_lone, comma_lone, colon_lone, minus_lone, hash_lone, bar_lone, word_stands, number_stands, string_stands}
 use Rattle.gp_hostfile.proofs.Numerals.{decimal_some, decimal_digits, decimal_value, name_in_word, name_no_number}
-use Rattle.gp_hostfile.proofs.GraphPieces.{open_sign, close_sign, comma, named, root_pieces, marked, node_mark_pieces, edge_mark_pieces, atom_pieces, more_pieces, label_pieces, line_end, node_pieces, edge_pieces, nodes_pieces, edges_pieces, text_end, graph_pieces}
+use Rattle.gp_hostfile.proofs.GraphPieces.{comma, named, root_pieces, marked, node_mark_pieces, edge_mark_pieces, atom_pieces, more_pieces, label_pieces, line_end, node_pieces, edge_pieces, nodes_pieces, edges_pieces, text_end, graph_pieces}
 
 -- a text that makes no word before it longer
 abbrev pub Stops : List ℕ → Type 0
@@ -122,16 +122,16 @@ node_stands n x small h behind =
     let name = named_stands 110 n refl refl small (spelled (root_pieces x.root ++ tail) ++ behind) (root_stop x.root tail behind refl) in
     (space_stands _, (space_stands _, (sign_stands k.OpenParenthesis 40 open_lone _, (name, root))))
 
--- a comma, a blank and a name of a node, before other pieces
-end_stands_before : (n : ℕ) → n < 10 ^ 64 → (ps : List Piece) (behind : List ℕ) → Stops (spelled ps ++ behind) → AllStand ps behind → AllStand (comma ∷ blank 32 ∷ named 110 n ∷ ps) behind
-end_stands_before n small ps behind stop rest = (sign_stands k.Comma 44 comma_lone _, (space_stands _, (named_stands 110 n refl refl small (spelled ps ++ behind) stop, rest)))
+-- a comma, a blank and the name of a node, before other pieces
+node_name_stands : (n : ℕ) → n < 10 ^ 64 → (ps : List Piece) (behind : List ℕ) → Stops (spelled ps ++ behind) → AllStand ps behind → AllStand (comma ∷ blank 32 ∷ named 110 n ∷ ps) behind
+node_name_stands n small ps behind stop rest = (sign_stands k.Comma 44 comma_lone _, (space_stands _, (named_stands 110 n refl refl small (spelled ps ++ behind) stop, rest)))
 
 edge_stands : (i : ℕ) (d : Edge) → i < 10 ^ 64 → d.source < 10 ^ 64 → d.target < 10 ^ 64 → AreAtoms d.label → (behind : List ℕ) → AllStand (edge_pieces i d) behind
 edge_stands i d a b c h behind =
     let tail = comma ∷ blank 32 ∷ (label_pieces d.label ++ (edge_mark_pieces d.mark ++ line_end)) in
     let after : AllStand tail behind = (sign_stands k.Comma 44 comma_lone _, (space_stands _, edge_tail d h behind)) in
-    let target = end_stands_before d.target c tail behind refl after in
-    let source = end_stands_before d.source b (comma ∷ blank 32 ∷ named 110 d.target ∷ tail) behind refl target in
+    let target = node_name_stands d.target c tail behind refl after in
+    let source = node_name_stands d.source b (comma ∷ blank 32 ∷ named 110 d.target ∷ tail) behind refl target in
     (space_stands _, (space_stands _, (sign_stands k.OpenParenthesis 40 open_lone _, (named_stands 101 i refl refl a _ refl, source))))
 
 -- ---- all lines

@@ -14,3 +14,4 @@ pub mod Shows
 pub mod ReadLabels
 pub mod ReadLines
 pub mod ReadTrees
+pub mod ReadBack

@@ -1,10 +1,10 @@
 -- Names made of a letter and a number, in the order of their numbers.
-use Rattle.std.proofs.Common.{◌≡◌, ℕ, zero, suc, ◌+◌, ◌^◌, ◌<◌, ◌≤◌, Bool, true, false, cond, List, [], ◌∷◌, ◌++◌, length, map, Option, Some, None, refl, sym, ap, subst, ◌∙◌, arith, decimal}
-use Rattle.std.specs.Prelude.{if◌then◌else◌, slice_get, ◌||◌, nat_eq, flat_map}
-use Rattle.std.specs.List.{list_any, position_from}
+use Rattle.std.proofs.Common.{◌≡◌, ℕ, zero, suc, ◌+◌, ◌^◌, ◌<◌, ◌≤◌, Bool, true, false, List, [], ◌∷◌, ◌++◌, map, Some, None, refl, ap, subst, ◌∙◌, arith, decimal}
+use Rattle.std.specs.Prelude.{slice_get, ◌||◌}
+use Rattle.std.specs.List.{position_from}
 use Rattle.std.proofs.lemmas.List.Folds.{list_any-append}
 use Rattle.std.proofs.lemmas.Slice.Eq.{bytes_eq-Decides}
-use Rattle.gp_values.specs.Names.{Name, same_name, has_name, place_of, first_doubled_behind, first_unknown}
+use Rattle.gp_values.specs.Names.{Name, same_name, has_name, place_of, first_doubled_behind}
 use Rattle.gp_hostfile.proofs.Numerals.{decimal_apart}
 
 -- numbers of at most 64 digits, each more than the one before it, and none below the first number

@@ -1,22 +1,21 @@
 -- Decimal numbers as texts of tokens, and names made of a letter and such a number.
-use Rattle.std.proofs.Common.{◌≡◌, ℕ, zero, suc, ◌+◌, ◌-◌, ◌*◌, ◌^◌, ◌<◌, ◌≤◌, Bool, true, false, not, List, [], ◌∷◌, ◌++◌, length, drop, refl, sym, ap, subst, ◌∙◌, arith, decimal}
-use Rattle.std.specs.Prelude.{◌==◌, ◌&&◌, ◌||◌, slice_index, IsFalse}
-use Rattle.std.specs.Str.{bytes_eq}
-use Rattle.std.specs.List.{list_all, list_any}
+use Rattle.std.proofs.Common.{◌≡◌, ℕ, ◌^◌, ◌<◌, Bool, true, false, not, List, [], ◌∷◌, length, refl, sym, ap, subst, ◌∙◌, arith, decimal}
+use Rattle.std.specs.Prelude.{◌&&◌, ◌||◌, slice_index}
+use Rattle.std.specs.Str.{all_ascii_digits, bytes_eq}
+use Rattle.std.specs.List.{list_all}
 use Rattle.std.proofs.lemmas.Slice.Eq.{bytes_eq-Decides}
 use Rattle.std.proofs.lemmas.Fmt.{decimal_is_IsNumeral_wide}
-use Rattle.std.proofs.lemmas.Str.Parse.{IsDigitsTest, IsNumeralModel, numerals_by_fold, tells_all_ascii_digits}
+use Rattle.std.proofs.lemmas.Str.Parse.{IsNumeralModel, numerals_by_fold, tells_all_ascii_digits}
 use Rattle.gp_tokens.specs.declared.keyword.Keyword.{Keyword}
-use Rattle.gp_tokens.specs.declared.keyword.Keyword.TheVariants as keywords
 use Rattle.gp_tokens.specs.Bytes.{is_digit, is_word_byte}
 use Rattle.gp_tokens.specs.Numbers.{number_from, number_of}
 use Rattle.gp_tokens.specs.Words.{keyword_text, reserved, is_among, is_reserved}
-use Rattle.gp_hostfile.proofs.Stands.{digits_in_word}
+use Rattle.gp_hostfile.proofs.Stands.{first_passes, digits_in_word}
 
-abbrev numerals : IsNumeralModel (λ ds. Rattle.std.specs.Str.all_ascii_digits ds ≡ true) number_of
+abbrev numerals : IsNumeralModel (λ ds. all_ascii_digits ds ≡ true) number_of
 numerals = numerals_by_fold _ tells_all_ascii_digits number_from (record { empty = λ n. refl; more = λ n c cs k. refl })
 
-all_digits : (ds : List ℕ) → Rattle.std.specs.Str.all_ascii_digits ds ≡ list_all is_digit ds
+all_digits : (ds : List ℕ) → all_ascii_digits ds ≡ list_all is_digit ds
 all_digits [] = refl
 all_digits (d ∷ ds) = ap (λ b. is_digit d && b) (all_digits ds)
 
@@ -61,14 +60,7 @@ not_among (w ∷ words) c d ds digit h = go (is_digit (slice_index (keyword_text
 
 free : (letter : ℕ) (ds : List ℕ) → 0 < length ds → list_all is_digit ds ≡ true → is_reserved (letter ∷ ds) ≡ false
 free letter [] some h = absurd (omega arith)
-free letter (d ∷ ds) some h = not_among reserved letter d ds (first d ds h) refl
-  where
-    first : (d : ℕ) (ds : List ℕ) → list_all is_digit (d ∷ ds) ≡ true → is_digit d ≡ true
-    first d ds h = go (is_digit d) h
-      where
-        go : (t : Bool) → (t && list_all is_digit ds) ≡ true → t ≡ true
-        go true h = refl
-        go false h = h
+free letter (d ∷ ds) some h = not_among reserved letter d ds (first_passes is_digit d ds h) refl
 
 pub name_is_free : (letter n : ℕ) → n < 10 ^ 64 → is_reserved (letter ∷ decimal n) ≡ false
 name_is_free letter n small = free letter (decimal n) (decimal_some n small) (decimal_digits n small)

@@ -1,13 +1,12 @@
 -- Texts cut into pieces: the tokens of such a text are those of its pieces.
-use Rattle.std.proofs.Common.{◌≡◌, ℕ, zero, suc, ◌+◌, ◌<◌, List, [], ◌∷◌, ◌++◌, length, take, drop, Ok, refl, sym, ap, ◌∙◌, append_assoc, arith, length-append}
+use Rattle.std.proofs.Common.{◌≡◌, ℕ, ◌+◌, ◌<◌, List, [], ◌∷◌, ◌++◌, length, take, drop, Ok, refl, sym, ap, ◌∙◌, append_assoc, arith, length-append}
 use Rattle.std.proofs.Math.Seq.{take-append_seam, drop-append_seam}
 use Rattle.std.proofs.lemmas.List.{append-nil}
-use Rattle.gp_tokens.specs.declared.front.First.{First}
 use Rattle.gp_tokens.specs.declared.front.First.TheVariants as f
 use Rattle.gp_tokens.specs.declared.token.Kind.{Kind}
 use Rattle.gp_tokens.specs.declared.token.Token.{Token}
 use Rattle.gp_tokens.specs.Front.{front}
-use Rattle.gp_tokens.specs.Lexed.{Outcome, with_front, lexed, tokens_of}
+use Rattle.gp_tokens.specs.Lexed.{with_front, lexed, tokens_of}
 use Rattle.gp_tokens.proofs.Steps.{token, skip_on, token_on}
 
 -- one blank, or the text of one token

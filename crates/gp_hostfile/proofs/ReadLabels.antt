@@ -1,14 +1,11 @@
 -- Labels and marks that were written are read.
-use Rattle.std.proofs.Common.{◌≡◌, ℕ, zero, suc, ◌+◌, ◌^◌, ◌<◌, ◌≤◌, Bool, true, false, List, [], ◌∷◌, ◌++◌, length, Option, Some, None, ℤ, pos, negsuc, codes, decimal, refl, sym, ap, subst, ◌∙◌, append_assoc, arith}
+use Rattle.std.proofs.Common.{◌≡◌, ℕ, suc, ◌+◌, ◌^◌, ◌<◌, ◌≤◌, true, List, [], ◌∷◌, ◌++◌, length, Option, Some, None, pos, negsuc, codes, decimal, refl, sym, ap, subst, append_assoc, arith}
 use Rattle.std.proofs.lemmas.Bool.{le-leb, lt-ltb}
-use Rattle.gp_tokens.specs.declared.token.Kind.{Kind}
 use Rattle.gp_tokens.specs.declared.token.Kind.TheVariants as k
 use Rattle.gp_tokens.specs.declared.token.Token.{Token}
 use Rattle.gp_tokens.specs.Kinds.{same_kind}
 use Rattle.gp_tokens.specs.Numbers.{checked_number}
 use Rattle.gp_tokens.proofs.Steps.{token}
-use Rattle.gp_grammar.specs.declared.want.Want.{Want}
-use Rattle.gp_grammar.specs.declared.want.Want.TheVariants as wants
 use Rattle.gp_grammar.specs.Wants.{meets}
 use Rattle.gp_grammar.specs.Shape.{Shape, Is, IsNumberAt, IsString, ◌then◌, Made, Either, Absent, Many, second_of}
 use Rattle.gp_grammar.specs.Shape as shape
@@ -25,7 +22,7 @@ use Rattle.gp_hostfile.specs.declared.tree.AtomTree.{AtomTree}
 use Rattle.gp_hostfile.specs.Grammar.{any_word, colon, hash, positive, negative, characters, IsAtom, no_atoms, IsAtoms, word_of, IsMark}
 use Rattle.gp_hostfile.specs.Host.{atom_of, atoms_of, node_mark, edge_mark}
 use Rattle.gp_hostfile.proofs.Numerals.{decimal_value}
-use Rattle.gp_hostfile.proofs.Pieces.{Piece, blank, word}
+use Rattle.gp_hostfile.proofs.Pieces.{Piece, word}
 use Rattle.gp_hostfile.proofs.GraphPieces.{marked, node_mark_pieces, edge_mark_pieces, atom_pieces, more_pieces, label_pieces}
 use Rattle.gp_hostfile.proofs.Shows.{Shows, behind_blank, is_shows, then_shows, made_shows, one_shows, other_shows, absent_shows, Match, none_shows, more_shows}
 
@@ -60,10 +57,6 @@ positive_is n small x e = rw (e, lt-ltb n (2 ^ 127) small) refl
 
 negative_is : (n : ℕ) → suc n ≤ 2 ^ 127 → (x : Token × (ℕ × ℕ)) → x.1.0 ≡ suc n → atom_of (negative x) ≡ Some (Int (negsuc n))
 negative_is n small x e = rw (e, le-leb (suc n) (2 ^ 127) small) refl
-
-sign_meets : (kind : Kind) (text : List ℕ) → same_kind kind kind ≡ true → (at : ℕ) → meets (wants.Kind kind) (token kind at text) ≡ true
-unfolding meets
-sign_meets kind text e at = e
 
 minus_meets : (at : ℕ) → meets minus (token k.Minus at (codes "-")) ≡ true
 unfolding meets same_kind

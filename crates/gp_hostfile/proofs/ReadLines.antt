@@ -1,12 +1,11 @@
 -- Lines of nodes and edges that were written are read.
-use Rattle.std.proofs.Common.{◌≡◌, ℕ, zero, suc, ◌+◌, ◌^◌, ◌<◌, ◌≤◌, Bool, true, false, List, [], ◌∷◌, ◌++◌, length, Option, Some, None, codes, decimal, refl, sym, ap, subst, ◌∙◌, append_assoc, arith}
+use Rattle.std.proofs.Common.{◌≡◌, ℕ, ◌+◌, ◌^◌, ◌<◌, ◌≤◌, Bool, true, false, List, [], ◌∷◌, ◌++◌, length, Some, codes, decimal, refl, sym, ap, subst, ◌∙◌, append_assoc, arith}
 use Rattle.gp_tokens.specs.declared.token.Kind.TheVariants as k
-use Rattle.gp_tokens.specs.declared.token.Token.{Token}
 use Rattle.gp_tokens.specs.Kinds.{same_kind}
 use Rattle.gp_tokens.proofs.Steps.{token}
 use Rattle.gp_grammar.specs.declared.want.Want.TheVariants as wants
 use Rattle.gp_grammar.specs.Wants.{meets}
-use Rattle.gp_grammar.specs.Shape.{Shape, Is, ◌then◌, Made, Either, Absent, Many}
+use Rattle.gp_grammar.specs.Shape.{Is, ◌then◌, Either, Many}
 use Rattle.gp_grammar.specs.Graph as signs
 use Rattle.gp_values.specs.Atoms.{AreAtoms}
 use Rattle.gp_values.specs.Graph.{Node, Edge}
@@ -15,7 +14,7 @@ use Rattle.gp_hostfile.specs.declared.tree.EdgeTree.{EdgeTree}
 use Rattle.gp_hostfile.specs.Grammar.{root_word, open_bracket, close_bracket, nothing, IsLabel, IsPosition, rooted, IsRoot, node_of, IsNode, edge_of, IsEdge, HostTree, IsBody, tree_of, IsHostShape}
 use Rattle.gp_hostfile.specs.Host.{atoms_of, node_mark, edge_mark}
 use Rattle.gp_hostfile.proofs.Numerals.{name_is_free}
-use Rattle.gp_hostfile.proofs.Pieces.{Piece, blank, word}
+use Rattle.gp_hostfile.proofs.Pieces.{Piece, blank}
 use Rattle.gp_hostfile.proofs.GraphPieces.{open_sign, close_sign, comma, named, root_pieces, node_mark_pieces, edge_mark_pieces, label_pieces, line_end, node_pieces, edge_pieces, nodes_pieces, edges_pieces, text_end, graph_pieces}
 use Rattle.gp_hostfile.proofs.GraphStands.{Each, IsShortNode, IsShortEdge}
 use Rattle.gp_hostfile.proofs.NumberedMaps.{numbered_on}

@@ -1,11 +1,11 @@
 -- The trees of graphs' texts have no fault.
-use Rattle.std.proofs.Common.{◌≡◌, ℕ, zero, suc, ◌+◌, ◌^◌, ◌<◌, ◌≤◌, Bool, true, false, List, [], ◌∷◌, ◌++◌, length, map, Option, Some, None, ℤ, decimal, refl, sym, ap, subst, ◌∙◌, arith}
+use Rattle.std.proofs.Common.{◌≡◌, ℕ, zero, suc, ◌+◌, ◌^◌, ◌≤◌, true, List, [], ◌∷◌, ◌++◌, length, map, Option, Some, None, ℤ, decimal, refl, ap, subst, ◌∙◌, arith}
 use Rattle.std.specs.Prelude.{slice_get, option_map, flat_map}
-use Rattle.gp_grammar.specs.declared.graph.Numeral.{Numeral}
+use Rattle.std.specs.Option.{option_or}
 use Rattle.gp_grammar.specs.Labels.{integer_of}
 use Rattle.gp_grammar.proofs.Shapes.{some_is}
 use Rattle.gp_values.specs.declared.atom.Atom.{Atom}
-use Rattle.gp_values.specs.declared.atom.Atom.TheVariants.{Int, Str}
+use Rattle.gp_values.specs.declared.atom.Atom.TheVariants.{Int}
 use Rattle.gp_values.specs.Names.{Name, has_name, first_doubled, first_unknown}
 use Rattle.gp_values.specs.Graph.{Node, Edge}
 use Rattle.gp_hostfile.specs.declared.tree.AtomTree.{AtomTree}
@@ -13,9 +13,9 @@ use Rattle.gp_hostfile.specs.declared.tree.AtomTree.TheVariants as atoms
 use Rattle.gp_hostfile.specs.declared.tree.NodeTree.{NodeTree}
 use Rattle.gp_hostfile.specs.declared.tree.EdgeTree.{EdgeTree}
 use Rattle.gp_hostfile.specs.Grammar.{HostTree}
-use Rattle.gp_hostfile.specs.Host.{atom_of, atoms_of, node_names, edge_names, end_names, first_told, unless, out_of_range, first_out_of_range, wrong_node, wrong_edge, first_wrong_mark, first_fault}
+use Rattle.gp_hostfile.specs.Host.{atom_of, atoms_of, node_names, edge_names, end_names, first_told, unless, out_of_range, first_out_of_range, wrong_node, wrong_edge, first_fault}
 use Rattle.gp_hostfile.proofs.GraphStands.{Each}
-use Rattle.gp_hostfile.proofs.NumberNames.{RisesFrom, names, name, no_name_twice}
+use Rattle.gp_hostfile.proofs.NumberNames.{RisesFrom, names, no_name_twice}
 use Rattle.gp_hostfile.proofs.NumberedMaps.{numbers_of, numbered_on}
 use Rattle.gp_hostfile.proofs.Shows.{Match}
 use Rattle.gp_hostfile.proofs.ReadLines.{IsNodeTree, IsEdgeTree, IsTreeOf}
@@ -46,7 +46,7 @@ told_joined : {A B : Type 0} (f : A → Option B) (xs ys : List A) → first_tol
 told_joined f [] ys a b = b
 told_joined {A} {B} f (x ∷ xs) ys a b = go (f x) refl a (λ h. told_joined f xs ys h b)
   where
-    go : (o : Option B) → f x ≡ o → Rattle.std.specs.Option.option_or o (first_told f xs) ≡ None → (first_told f xs ≡ None → first_told f (xs ++ ys) ≡ None) → first_told f ((x ∷ xs) ++ ys) ≡ None
+    go : (o : Option B) → f x ≡ o → option_or o (first_told f xs) ≡ None → (first_told f xs ≡ None → first_told f (xs ++ ys) ≡ None) → first_told f ((x ∷ xs) ++ ys) ≡ None
     go None e h below = rw e (below h)
     go (Some y) e h below = absurd cc
 

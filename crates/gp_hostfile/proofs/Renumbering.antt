@@ -1,14 +1,14 @@
 -- A graph numbered anew.
-use Rattle.std.proofs.Common.{◌≡◌, ℕ, zero, suc, ◌+◌, ◌^◌, ◌<◌, ◌≤◌, Bool, true, false, cond, List, [], ◌∷◌, length, map, Option, Some, None, refl, sym, ap, subst, ◌∙◌, arith}
-use Rattle.std.specs.Prelude.{slice_get, IsSome, is_some, option_map, ◌==◌, IsSomeAnd}
-use Rattle.std.specs.FinMap.{get, entries}
+use Rattle.std.proofs.Common.{◌≡◌, ℕ, zero, suc, ◌+◌, ◌<◌, true, cond, List, [], ◌∷◌, length, map, Option, Some, None, refl, sym, ap, subst, ◌∙◌, arith}
+use Rattle.std.specs.Prelude.{slice_get, IsSome, is_some, option_map, ◌==◌}
+use Rattle.std.specs.FinMap.{entries}
 use Rattle.std.proofs.lemmas.Bool.{eq-eqb, ne_eqb}
 use Rattle.std.proofs.lemmas.Option.{slice_get-map, slice_get_within}
 use Rattle.std.proofs.lemmas.List.{length-map}
 use Rattle.gp_grammar.proofs.Shapes.{some_is}
 use Rattle.gp_values.specs.Graph.{Node, Edge, Graph, IsGraph, node_at, edge_at}
 use Rattle.gp_values.specs.Atoms.{AreAtoms}
-use Rattle.gp_hostfile.specs.Renumbered.{HasShortNumbers, IsPlace, IsMoved, IsRenumbered}
+use Rattle.gp_hostfile.specs.Renumbered.{IsPlace, IsMoved, IsRenumbered}
 use Rattle.gp_hostfile.proofs.GraphStands.{Each}
 use Rattle.gp_hostfile.proofs.NumberNames.{RisesFrom, rises_at}
 use Rattle.gp_hostfile.proofs.NumberedMaps.{numbers_of, place_of_entry, number_there, by_places, get-by_places}

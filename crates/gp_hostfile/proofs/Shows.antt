@@ -1,7 +1,6 @@
 -- Pieces whose tokens have a shape.
-use Rattle.std.proofs.Common.{◌≡◌, ℕ, ◌+◌, true, List, [], ◌∷◌, length, refl, sym, ap}
+use Rattle.std.proofs.Common.{◌≡◌, ℕ, ◌+◌, true, List, [], ◌∷◌, length, refl}
 use Rattle.gp_tokens.specs.declared.token.Kind.{Kind}
-use Rattle.gp_tokens.specs.declared.token.Token.{Token}
 use Rattle.gp_tokens.proofs.Steps.{token}
 use Rattle.gp_grammar.specs.declared.want.Want.{Want}
 use Rattle.gp_grammar.specs.Wants.{meets}

@@ -1,22 +1,20 @@
 -- What stands at the front of signs, blanks, words, numbers and strings.
-use Rattle.std.proofs.Common.{◌≡◌, ℕ, zero, suc, ◌+◌, ◌^◌, ◌<◌, ◌≤◌, Bool, true, false, cond, eqb, List, [], ◌∷◌, ◌++◌, length, take, drop, Option, Some, None, refl, sym, ap, subst, ◌∙◌, append_assoc, arith, length-append}
-use Rattle.std.specs.Prelude.{if◌then◌else◌, slice_index, ◌==◌, ◌&&◌, ◌||◌, nat_lt, nat_le}
+use Rattle.std.proofs.Common.{◌≡◌, ℕ, suc, ◌+◌, ◌^◌, ◌<◌, ◌≤◌, Bool, true, false, cond, List, [], ◌∷◌, ◌++◌, length, take, refl, ap, subst, ◌∙◌, append_assoc, arith, length-append}
+use Rattle.std.specs.Prelude.{if◌then◌else◌, slice_index, ◌==◌, ◌&&◌, nat_lt}
 use Rattle.std.specs.List.{prefix_len, list_all}
 use Rattle.std.proofs.Math.Seq.{take-append_seam, get_or-append_seam}
-use Rattle.std.proofs.lemmas.List.{append-nil}
-use Rattle.std.proofs.lemmas.Bool.{leb-true, leb-false, ltb-true, ltb-false, lt-ltb, le-leb, ne_eqb}
+use Rattle.std.proofs.lemmas.Bool.{ltb-true, lt-ltb, le-leb, ne_eqb}
 use Rattle.std.proofs.lemmas.Bool.Decides.{Decides-eqb}
-use Rattle.std.proofs.lemmas.List.Sums.{prefix_len-le-length}
 use Rattle.gp_tokens.specs.declared.fault.LexFault.TheVariants as fault
 use Rattle.gp_tokens.specs.declared.front.Class.TheVariants as class
 use Rattle.gp_tokens.specs.declared.front.First.{First}
 use Rattle.gp_tokens.specs.declared.front.First.TheVariants as f
 use Rattle.gp_tokens.specs.declared.token.Kind.{Kind}
 use Rattle.gp_tokens.specs.declared.token.Kind.TheVariants as k
-use Rattle.gp_tokens.specs.Bytes.{is_blank, is_digit, is_word_byte, is_string_byte}
-use Rattle.gp_tokens.specs.Front.{front, run, word as front_word, string as front_string, number_token}
+use Rattle.gp_tokens.specs.Bytes.{is_digit, is_word_byte, is_string_byte}
+use Rattle.gp_tokens.specs.Front.{front, run, word as front_word, number_token}
 use Rattle.gp_tokens.specs.Numbers.{number_of, checked_number}
-use Rattle.gp_hostfile.proofs.Pieces.{Piece, blank, word, Stands}
+use Rattle.gp_hostfile.proofs.Pieces.{blank, word, Stands}
 
 pub space_stands : (behind : List ℕ) → Stands (blank 32) behind
 unfolding front
@@ -98,7 +96,7 @@ module _ (p : ℕ → Bool) where
       go true e h below = let lt = below h in rw e (omega arith)
       go false e h below = rw e (omega arith)
 
-first_passes : (p : ℕ → Bool) (b : ℕ) (text : List ℕ) → list_all p (b ∷ text) ≡ true → p b ≡ true
+pub first_passes : (p : ℕ → Bool) (b : ℕ) (text : List ℕ) → list_all p (b ∷ text) ≡ true → p b ≡ true
 first_passes p b text h = go (p b) h
   where
     go : (t : Bool) → (t && list_all p text) ≡ true → t ≡ true

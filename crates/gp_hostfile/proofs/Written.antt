@@ -1,5 +1,5 @@
 -- The tokens of a graph's text.
-use Rattle.std.proofs.Common.{◌≡◌, ℕ, zero, suc, ◌+◌, ◌^◌, ◌<◌, ◌≤◌, List, [], ◌∷◌, ◌++◌, length, map, Option, Some, None, Ok, refl, sym, ap, subst, ◌∙◌, arith, length-append}
+use Rattle.std.proofs.Common.{◌≡◌, ℕ, zero, suc, ◌+◌, ◌^◌, ◌≤◌, List, [], ◌∷◌, ◌++◌, length, map, Option, Some, None, Ok, refl, sym, ap, ◌∙◌, arith}
 use Rattle.std.specs.Prelude.{All, IsSome, is_some, IsPermutation}
 use Rattle.std.specs.Ordering.{nat_cmp}
 use Rattle.std.specs.FinMap.{FinMap, get, entries}
@@ -7,7 +7,7 @@ use Rattle.std.proofs.lemmas.List.{length-map}
 use Rattle.std.proofs.lemmas.List.Sorted.{All-permutation, length_permutation}
 use Rattle.gp_tokens.specs.Lexed.{tokens_of}
 use Rattle.gp_values.specs.Atoms.{AreAtoms}
-use Rattle.gp_values.specs.Graph.{Node, Edge, Graph, IsGraph, node_at, edge_at}
+use Rattle.gp_values.specs.Graph.{Node, Edge, Graph, IsGraph, node_at}
 use Rattle.gp_values.specs.Order.{numbered, entries_from}
 use Rattle.gp_values.proofs.Order.{entries-walk}
 use Rattle.gp_hostfile.specs.GraphText.{edges_of, IsGraphText}

@@ -1,6 +1,6 @@
 //! What holds of host texts and of the texts of graphs. Each function does nothing: its contract is the law.
 
-ghost use Rattle.gp_hostfile.specs.Laws.{HostTextsHaveOneGraph, GraphsHaveOneText};
+ghost use Rattle.gp_hostfile.specs.Laws.{HostTextsHaveOneGraph, GraphsHaveOneText, GraphTextsAreReadBack};
 
 /// A text is the text of at most one graph.
 pub fn host_texts_have_one_graph()
@@ -10,4 +10,9 @@ pub fn host_texts_have_one_graph()
 /// A graph has one text.
 pub fn graphs_have_one_text()
     ensures { GraphsHaveOneText }
+{}
+
+/// The text of a graph is read back as that graph, with its nodes and edges numbered anew.
+pub fn graph_texts_are_read_back()
+    ensures { GraphTextsAreReadBack }
 {}
