@@ -1,15 +1,18 @@
 -- The lines of edges, and the text of a graph.
 use Rattle.std.proofs.Common.{◌≡◌, ℕ, suc, ◌+◌, ◌<◌, ◌≤◌, Bool, false, List, [], ◌∷◌, ◌++◌, length, get_or, map, drop, refl, sym, ap, subst, ◌∙◌, append_assoc, add-one, drop-cons, arith}
 use Rattle.std.proofs.Math.ListN.{drop_of_length-le}
-use Rattle.std.proofs.lemmas.List.{append-nil, map-append}
+use Rattle.std.proofs.lemmas.List.{append-nil, map-append, length-map}
 use Rattle.std.proofs.lemmas.Grind.{flat_map-append}
-use Rattle.std.specs.Prelude.{codes, flat_map, IsPermutation, sum_by, Result, Ok, Err, OnErr}
+use Rattle.std.specs.Prelude.{codes, flat_map, nat_eq, if◌then◌else◌, IsPermutation, sum_by, Result, Ok, Err, OnErr}
 use Rattle.std.specs.declared.cmp.Ordering.{Ordering}
 use Rattle.std.specs.declared.cmp.Ordering.TheVariants.{Less, Equal, Greater}
 use Rattle.std.specs.Ordering.{nat_cmp, ordering_then, ordering_reverse, is_lt}
 use Rattle.std.specs.Cmp.{IsTotalOrder, IsStrictWeakOrder, nat_cmp_total, on_total, then_total}
 use Rattle.std.specs.Cmp.Lexicographic.{slice_cmp, nat_list_cmp_total}
-use Rattle.std.specs.List.Sorted.{apply_swaps, SwapsInRange}
+use denote.Enum.Compared.{by}
+use Rattle.std.specs.Cmp.Derive.{points}
+use Rattle.gp_values.specs.contracts.marks.EdgeMark.{enum}
+use Rattle.std.specs.List.Sorted.{IsSorted, apply_swaps, SwapsInRange}
 use Rattle.std.specs.FinMap.{entries, nat_cmp-IsAntisymmetric}
 use Rattle.std.proofs.lemmas.List.Sorted.{ranks_by, sum_by-IsPermutation, IsPermutation-map}
 use Rattle.indexmap.proofs.ReorderLemmas.{map-swap}
@@ -21,8 +24,7 @@ use Rattle.gp_values.specs.Order.{numbered, nodes_from, edges_from}
 use Rattle.gp_values.proofs.Order.{entries-walk, entries_from-one_more}
 use Rattle.gp_hostfile.specs.declared.text.EdgeLine.{EdgeLine}
 use Rattle.gp_hostfile.specs.GraphText.{EdgeKey, edge_key, key_cmp, edge_mark_text, node_line, edge_line, edge_lines, edges_of, IsGraphText, BeginsGraph}
-use Rattle.gp_hostfile.specs.Lines.{line_key, line_keys, entry_keys, rank_text, key_line, key_lines}
-
+use Rattle.gp_hostfile.specs.Lines.{line_key, line_keys, entry_keys, key_line, key_lines}
 use Rattle.gp_hostfile.proofs.Sorted.{Rises, sorted_from, rises_from, in_order, in_order_moves, in_order_rises, one_list, rises_mapped, rises_back}
 
 -- ---- one turn of a walk
@@ -64,7 +66,7 @@ lines_end ls i old mid le before = sym (append-nil mid) ∙ ap (λ xs. mid ++ ke
 pub key_total : IsTotalOrder key_cmp
 key_total =
     then_total (on_total (λ (k : EdgeKey). k.source) nat_cmp_total)
-    (then_total (on_total (λ (k : EdgeKey). k.target) nat_cmp_total) (then_total (on_total (λ (k : EdgeKey). k.mark) nat_cmp_total) (on_total (λ (k : EdgeKey). k.label) nat_list_cmp_total)))
+    (then_total (on_total (λ (k : EdgeKey). k.target) nat_cmp_total) (then_total (on_total (λ (k : EdgeKey). edge_mark_rank k.mark) nat_cmp_total) (on_total (λ (k : EdgeKey). k.label) nat_list_cmp_total)))
 
 abbrev pub key_lt : EdgeKey → EdgeKey → Bool
 key_lt a b = is_lt (key_cmp a b)
@@ -84,14 +86,25 @@ same_texts (x ∷ xs) (y ∷ ys) h =
     let b : xs ≡ ys = same_texts xs ys e.1 in
     λ i. a i ∷ b i
 
+-- the mark of a rank
+abbrev ranked : ℕ → EdgeMark
+ranked r = if nat_eq r 1 then edge_marks.Red else if nat_eq r 2 then edge_marks.Green else if nat_eq r 3 then edge_marks.Blue else if nat_eq r 4 then edge_marks.Dashed else edge_marks.None
+
+ranked_back : (m : EdgeMark) → ranked (edge_mark_rank m) ≡ m
+ranked_back edge_marks.None = refl
+ranked_back edge_marks.Red = refl
+ranked_back edge_marks.Green = refl
+ranked_back edge_marks.Blue = refl
+ranked_back edge_marks.Dashed = refl
+
 same_keys : (a b : EdgeKey) → key_cmp a b ≡ Equal → a ≡ b
 same_keys a b h =
     let s = both_equal (nat_cmp a.source b.source) _ h in
     let t = both_equal (nat_cmp a.target b.target) _ s.1 in
-    let m = both_equal (nat_cmp a.mark b.mark) _ t.1 in
+    let m = both_equal (nat_cmp (edge_mark_rank a.mark) (edge_mark_rank b.mark)) _ t.1 in
     let p = nat_cmp-IsAntisymmetric a.source b.source s.0 in
     let q = nat_cmp-IsAntisymmetric a.target b.target t.0 in
-    let r = nat_cmp-IsAntisymmetric a.mark b.mark m.0 in
+    let r : a.mark ≡ b.mark = sym (ranked_back a.mark) ∙ ap ranked (nat_cmp-IsAntisymmetric (edge_mark_rank a.mark) (edge_mark_rank b.mark) m.0) ∙ ranked_back b.mark in
     let l = same_texts a.label b.label m.1 in
     λ i. record { source = p i; target = q i; mark = r i; label = l i }
 
@@ -116,20 +129,10 @@ by_lines = ranks_by key_total line_key
 
 -- ---- from lines to edges
 
-marks_alike : (m : EdgeMark) → rank_text (edge_mark_rank m) ≡ edge_mark_text m
-marks_alike edge_marks.None = refl
-marks_alike edge_marks.Red = refl
-marks_alike edge_marks.Green = refl
-marks_alike edge_marks.Blue = refl
-marks_alike edge_marks.Dashed = refl
-
-line_alike : (i : ℕ) (d : Edge) → key_line i (edge_key d) ≡ edge_line i d
-line_alike i d = rw (marks_alike d.mark) refl
-
 lines_alike : (i : ℕ) (ds : List Edge) → key_lines i (map edge_key ds) ≡ edge_lines i ds
 unfolding key_lines
 lines_alike i [] = refl
-lines_alike i (d ∷ ds) = λ j. line_alike i d j ++ lines_alike (i + 1) ds j
+lines_alike i (d ∷ ds) = ap (λ t. edge_line i d ++ t) (lines_alike (i + 1) ds)
 
 swaps_mapped : {A B : Type 0} (f : A → B) (xs : List A) (ms : List (ℕ × ℕ)) → map f (apply_swaps xs ms) ≡ apply_swaps (map f xs) ms
 swaps_mapped f xs [] = refl
@@ -150,7 +153,7 @@ is_text g w old new text made p up e =
     let nodes : entries g.nodes ≡ nodes_from g 0 g.next_node = entries-walk g.nodes g.next_node w.nodes_below in
     let edges : entries g.edges ≡ edges_from g 0 g.next_edge = entries-walk g.edges g.next_edge w.edges_below in
     let keys : line_keys old ≡ map edge_key (edges_of g) = made ∙ ap entry_keys (sym edges) ∙ map_twice (entries g.edges) in
-    let count : length old ≡ length (edges_of g) = sym (length_mapped line_key old) ∙ ap length keys ∙ length_mapped edge_key (edges_of g) in
+    let count : length old ≡ length (edges_of g) = sym (length-map old line_key) ∙ ap length keys ∙ length-map (edges_of g) edge_key in
     let order : List Edge = apply_swaps (edges_of g) p.moves in
     let alike : line_keys new ≡ map edge_key order =
     ap line_keys p.is ∙ swaps_mapped line_key old p.moves ∙ ap (λ ks. apply_swaps ks p.moves) keys ∙ sym (swaps_mapped edge_key (edges_of g) p.moves)
@@ -164,8 +167,21 @@ is_text g w old new text made p up e =
           ∙ ap (λ t. codes "[\n" ++ flat_map node_line (entries g.nodes) ++ codes "|\n" ++ t ++ codes "]\n") (ap (key_lines 0) alike ∙ lines_alike 0 order);
     }
 
-pub lines_rise : (ls : List EdgeLine) → Rattle.std.specs.List.Sorted.IsSortedBy (λ (a b : EdgeLine). key_lt (line_key a) (line_key b)) ls → Rises (λ a b. key_lt (line_key a) (line_key b)) ls
-lines_rise ls s = rises_from _ by_lines ls s
+-- the order that is derived for marks
+abbrev mark_cmp : EdgeMark → EdgeMark → Ordering
+mark_cmp a b = by Less Greater enum.parts (points Equal enum.parts) (enum.as_values a) (enum.as_values b)
+
+mark_cmp_is : (a b : EdgeMark) → mark_cmp a b ≡ nat_cmp (edge_mark_rank a) (edge_mark_rank b)
+mark_cmp_is a b = grind arith
+
+abbrev pub line_cmp : EdgeLine → EdgeLine → Ordering
+line_cmp a b = ordering_then (nat_cmp a.source b.source) (ordering_then (nat_cmp a.target b.target) (ordering_then (mark_cmp a.mark b.mark) (slice_cmp nat_cmp a.label.items b.label.items)))
+
+line_cmp_is : (a b : EdgeLine) → line_cmp a b ≡ key_cmp (line_key a) (line_key b)
+line_cmp_is a b = rw (mark_cmp_is a.mark b.mark) refl
+
+pub lines_rise : (ls : List EdgeLine) → IsSorted line_cmp ls → Rises (λ a b. key_lt (line_key a) (line_key b)) ls
+lines_rise ls s = rises_from _ by_lines ls (λ k d a b. let e = line_cmp_is (get_or ls (k + 1) d) (get_or ls k d) in ap is_lt (sym e) ∙ s k d a b)
 
 -- ---- each graph has one text
 

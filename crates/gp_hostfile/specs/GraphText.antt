@@ -52,15 +52,15 @@ edge_lines i (d ∷ ds) = edge_line i d ++ edge_lines (i + 1) ds
 pub record EdgeKey : Type 0 where
   pub source : ℕ
   pub target : ℕ
-  pub mark : ℕ
+  pub mark : EdgeMark
   pub label : List ℕ
 
 abbrev pub edge_key : Edge → EdgeKey
-edge_key d = record { source = d.source; target = d.target; mark = edge_mark_rank d.mark; label = label_text d.label }
+edge_key d = record { source = d.source; target = d.target; mark = d.mark; label = label_text d.label }
 
 -- the first of these that differs decides; label texts go by their bytes
 abbrev pub key_cmp : EdgeKey → EdgeKey → Ordering
-key_cmp a b = ordering_then (nat_cmp a.source b.source) (ordering_then (nat_cmp a.target b.target) (ordering_then (nat_cmp a.mark b.mark) (slice_cmp nat_cmp a.label b.label)))
+key_cmp a b = ordering_then (nat_cmp a.source b.source) (ordering_then (nat_cmp a.target b.target) (ordering_then (nat_cmp (edge_mark_rank a.mark) (edge_mark_rank b.mark)) (slice_cmp nat_cmp a.label b.label)))
 
 -- ---- the text
 

@@ -1,9 +1,9 @@
 -- Lines of edges before and after they are ordered, as the writer holds them.
-use Rattle.std.specs.Prelude.{ℕ, ◌+◌, nat_eq, if◌then◌else◌, List, [], ◌∷◌, ◌++◌, map, codes}
+use Rattle.std.specs.Prelude.{ℕ, ◌+◌, List, [], ◌∷◌, ◌++◌, map, codes}
 use Rattle.std.specs.Fmt.{decimal}
 use Rattle.gp_values.specs.Graph.{Edge}
 use Rattle.gp_hostfile.specs.declared.text.EdgeLine.{EdgeLine}
-use Rattle.gp_hostfile.specs.GraphText.{EdgeKey, edge_key}
+use Rattle.gp_hostfile.specs.GraphText.{EdgeKey, edge_key, edge_mark_text}
 
 abbrev pub line_key : EdgeLine → EdgeKey
 line_key l = record { source = l.source; target = l.target; mark = l.mark; label = l.label.items }
@@ -14,13 +14,8 @@ line_keys ls = map line_key ls
 abbrev pub entry_keys : List (ℕ × Edge) → List EdgeKey
 entry_keys ds = map (λ (p : ℕ × Edge). edge_key p.1) ds
 
--- the text of the mark at this place among the marks
-abbrev pub rank_text : ℕ → List ℕ
-rank_text r =
-    if nat_eq r 1 then codes " # red" else if nat_eq r 2 then codes " # green" else if nat_eq r 3 then codes " # blue" else if nat_eq r 4 then codes " # dashed" else []
-
 abbrev pub key_line : ℕ → EdgeKey → List ℕ
-key_line i k = codes "  (e" ++ decimal i ++ codes ", n" ++ decimal k.source ++ codes ", n" ++ decimal k.target ++ codes ", " ++ k.label ++ rank_text k.mark ++ codes ")\n"
+key_line i k = codes "  (e" ++ decimal i ++ codes ", n" ++ decimal k.source ++ codes ", n" ++ decimal k.target ++ codes ", " ++ k.label ++ edge_mark_text k.mark ++ codes ")\n"
 
 unfoldable pub key_lines : ℕ → List EdgeKey → List ℕ
 key_lines i [] = []

@@ -3,10 +3,9 @@
 ghost use Rattle.std.specs.Prelude.{◌≡◌, ◌∷◌, [], ◌++◌, ◌<◌, codes, flat_map, IfOk, OnOk, OnErr};
 ghost use Rattle.std.specs.Fmt.{decimal};
 ghost use Rattle.gp_values.specs.Graph.{IsGraph, node_at, edge_at};
-ghost use Rattle.gp_values.specs.Marks.{edge_mark_rank};
 ghost use Rattle.gp_values.specs.Order.{numbered, nodes_from, edges_from};
-ghost use Rattle.gp_hostfile.specs.GraphText.{IsGraphText, WritesGraph, BeginsGraph, root_text, node_mark_text, node_line};
-ghost use Rattle.gp_hostfile.specs.Lines.{line_key, line_keys, entry_keys, rank_text, key_line, key_lines};
+ghost use Rattle.gp_hostfile.specs.GraphText.{IsGraphText, WritesGraph, BeginsGraph, root_text, node_mark_text, edge_mark_text, node_line};
+ghost use Rattle.gp_hostfile.specs.Lines.{line_key, line_keys, entry_keys, key_line, key_lines};
 
 use gp_graph::Graph;
 use gp_values::{EdgeMark, List, NoMemory, NodeMark};
@@ -107,13 +106,12 @@ fn node_mark_text(mark: NodeMark) -> &'static [u8]
     }
 }
 
-// What the line of an edge says, in the order that lines go by: the ends, the place of the mark among the marks, and
-// the text of the label.
+// What the line of an edge says, in the order that lines go by: the ends, the mark, and the text of the label.
 #[derive(Drop, PartialEq, Eq, PartialOrd, Ord)]
 struct EdgeLine {
     source: u64,
     target: u64,
-    mark: u8,
+    mark: EdgeMark,
     label: Vec<u8>,
 }
 
@@ -144,23 +142,11 @@ fn add_line_at(
         lines.push(EdgeLine {
             source,
             target,
-            mark: mark_rank(mark),
+            mark,
             label,
         })?;
     }
     Ok(())
-}
-
-fn mark_rank(mark: EdgeMark) -> u8
-    ensures { result ≡ edge_mark_rank mark }
-{
-    match mark {
-        EdgeMark::None => 0,
-        EdgeMark::Red => 1,
-        EdgeMark::Green => 2,
-        EdgeMark::Blue => 3,
-        EdgeMark::Dashed => 4,
-    }
 }
 
 fn write_edges(lines: &[EdgeLine], text: &mut Vec<u8>) -> Result<(), NoMemory>
@@ -183,18 +169,18 @@ fn write_edge(i: u64, line: &EdgeLine, text: &mut Vec<u8>) -> Result<(), NoMemor
     write_number(line.target, text)?;
     write(b", ", text)?;
     write(&line.label, text)?;
-    write(rank_text(line.mark), text)?;
+    write(edge_mark_text(line.mark), text)?;
     write(b")\n", text)
 }
 
-fn rank_text(rank: u8) -> &'static [u8]
-    ensures { result.now ≡ rank_text rank }
+fn edge_mark_text(mark: EdgeMark) -> &'static [u8]
+    ensures { result.now ≡ edge_mark_text mark }
 {
-    match rank {
-        1 => b" # red",
-        2 => b" # green",
-        3 => b" # blue",
-        4 => b" # dashed",
-        _ => b"",
+    match mark {
+        EdgeMark::None => b"",
+        EdgeMark::Red => b" # red",
+        EdgeMark::Green => b" # green",
+        EdgeMark::Blue => b" # blue",
+        EdgeMark::Dashed => b" # dashed",
     }
 }
