@@ -1,4 +1,6 @@
 pub mod Tables
+pub mod Shapes
+pub mod Spelled
 pub mod Sorted
 pub mod Lines
 pub mod Pieces

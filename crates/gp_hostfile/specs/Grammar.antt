@@ -5,7 +5,7 @@ use Rattle.gp_tokens.specs.declared.token.Token.{Token}
 use Rattle.gp_tokens.specs.declared.keyword.Keyword.TheVariants as keywords
 use Rattle.gp_grammar.specs.declared.want.Want.{Want}
 use Rattle.gp_grammar.specs.declared.want.Want.TheVariants as wants
-use Rattle.gp_grammar.specs.Shape.{Shape, Is, IsNumberAt, IsString, ◌then◌, Made, Either, Absent, Many, Separated, dropped}
+use Rattle.gp_grammar.specs.Shape.{Shape, Is, IsNumberAt, IsString, ◌then◌, Made, Either, Absent, Many, Separated, dropped, second_of}
 use Rattle.gp_grammar.specs.Graph.{open_sign, close_sign, comma, bar, minus, empty}
 use Rattle.gp_values.specs.Names.{Name}
 use Rattle.gp_hostfile.specs.declared.tree.AtomTree.{AtomTree}
@@ -121,24 +121,21 @@ IsEdge = Made edge_of (Is open_sign then Is wants.Item then Is comma then Is wan
 abbrev pub HostTree : Type 0
 HostTree = List NodeTree × List EdgeTree
 
-abbrev pub Body : Type 0
-Body = List NodeTree × (Token × (List EdgeTree × Token))
+abbrev pub tree_of : List NodeTree × (Token × (List EdgeTree × Token)) → HostTree
+tree_of (nodes, (_, (edges, _))) = (nodes, edges)
 
 -- {Node} "|" {Edge} "]"
-abbrev pub IsBody : Shape Body
-IsBody = Many IsNode then Is bar then Many IsEdge then Is close_bracket
+abbrev pub IsBody : Shape HostTree
+IsBody = Made tree_of (Many IsNode then Is bar then Many IsEdge then Is close_bracket)
 
 -- ["|"]
 abbrev pub IsBar : Shape (Unit {0})
 IsBar = Either (Made dropped (Is bar)) nothing
 
-abbrev pub body_behind : Unit {0} × (Unit {0} × Body) → Body
-body_behind (_, (_, body)) = body
-
-abbrev pub tree_of : Token × Body → HostTree
-tree_of (_, (nodes, (_, (edges, _)))) = (nodes, edges)
+abbrev pub tree_behind : Unit {0} × (Unit {0} × HostTree) → HostTree
+tree_behind (_, (_, tree)) = tree
 
 -- Host = "[" [Position ["|"]] {Node} "|" {Edge} "]"
 -- The bar behind a leading position is there exactly where the host has two bars, since a node and an edge have none.
 abbrev pub IsHostShape : Shape HostTree
-IsHostShape = Made tree_of (Is open_bracket then Either (Made body_behind (IsPosition then IsBar then IsBody)) IsBody)
+IsHostShape = Made second_of (Is open_bracket then Either (Made tree_behind (IsPosition then IsBar then IsBody)) IsBody)

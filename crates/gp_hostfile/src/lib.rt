@@ -2,6 +2,7 @@
 #![tactic(auto)]
 
 mod fault;
+mod grammar;
 pub mod laws;
 mod names;
 mod read;

@@ -1,9 +1,11 @@
 //! Hosts as they are spelled.
 
+ghost use Rattle.std.specs.Prelude.{◌≡◌, [], ◌∷◌, ◌++◌, OnOk};
+
 use gp_grammar::Numeral;
 use gp_tokens::Text;
-use gp_values::Chars;
-use std::alloc::{AllocFailed, Global};
+use gp_values::{Chars, NoMemory};
+use std::alloc::Global;
 use std::marker::Model;
 
 /// An atom: an integer with the offset of its Number, or the characters of a string.
@@ -26,6 +28,32 @@ impl Model for AtomTrees {
     ghost Value = { List AtomTree };
 
     ghost view = { λ t. t.atoms.items };
+}
+
+impl AtomTrees {
+    /// The list of none.
+    pub(crate) fn new(alloc: Global) -> AtomTrees
+        ensures { result ≡ [] }
+    {
+        AtomTrees {
+            atoms: Vec::new(alloc),
+        }
+    }
+
+    /// Puts an atom at the end.
+    pub(crate) fn push(&mut self, atom: AtomTree) -> Result<(), NoMemory>
+        ensures { OnOk result (self.new ≡ self.old ++ atom ∷ []) }
+    {
+        self.atoms.push(atom)?;
+        Ok(())
+    }
+
+    /// The atoms, in order.
+    pub(crate) fn as_slice(&self) -> &[AtomTree]
+        ensures { result.now ≡ self.now }
+    {
+        self.atoms.as_slice()
+    }
 }
 
 /// A node: its name, whether it is a root, the atoms of its label, and its mark's word.
