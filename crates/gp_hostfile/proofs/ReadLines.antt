@@ -5,7 +5,7 @@ use Rattle.gp_tokens.specs.Kinds.{same_kind}
 use Rattle.gp_tokens.proofs.Steps.{token}
 use Rattle.gp_grammar.specs.declared.want.Want.TheVariants as wants
 use Rattle.gp_grammar.specs.Wants.{meets}
-use Rattle.gp_grammar.specs.Shape.{Is, ◌then◌, Either, Many}
+use Rattle.gp_grammar.specs.Shape.{Is, ◌then◌, Either, Many, second_of}
 use Rattle.gp_grammar.specs.Graph as signs
 use Rattle.gp_values.specs.Atoms.{AreAtoms}
 use Rattle.gp_values.specs.Graph.{Node, Edge}
@@ -153,6 +153,6 @@ graph_shows ns ds a few b =
     let last = before_blank _ _ 10 _ [] (is_shows close_bracket k.CloseBracket (codes "]") (blank 10 ∷ []) close_bracket_meets) in
     let edges = then_shows _ _ _ _ _ _ _ (behind_blank _ _ 10 _ _ (edges_show 0 ds (omega arith) b text_end)) last in
     let bar = then_shows _ _ _ _ _ _ _ (is_shows signs.bar k.Bar (codes "|") _ bar_meets) edges in
-    let body = then_shows _ _ _ _ _ _ _ (behind_blank _ _ 10 _ _ (nodes_show ns a _)) bar in
-    made_shows tree_of _ _ (IsTreeOf ns ds) _ _ (λ p good. record { nodes = good.1.0; edges = good.1.1.1.0 })
-    (then_shows _ _ _ _ _ _ _ (is_shows open_bracket k.OpenBracket (codes "[") _ open_bracket_meets) (other_shows _ IsBody _ _ _ body))
+    let lines = then_shows _ _ _ _ _ _ _ (behind_blank _ _ 10 _ _ (nodes_show ns a _)) bar in
+    let body = made_shows tree_of _ _ (IsTreeOf ns ds) _ _ (λ p good. record { nodes = good.0; edges = good.1.1.0 }) lines in
+    made_shows second_of _ _ (IsTreeOf ns ds) _ _ (λ p good. good.1) (then_shows _ _ _ _ _ _ _ (is_shows open_bracket k.OpenBracket (codes "[") _ open_bracket_meets) (other_shows _ IsBody _ _ _ body))
