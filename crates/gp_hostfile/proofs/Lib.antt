@@ -1,4 +1,8 @@
 pub mod Tables
+pub mod Faults
+pub mod Turns
+pub mod Drawn
+pub mod Hosts
 pub mod Shapes
 pub mod Spelled
 pub mod Sorted

@@ -1,5 +1,5 @@
 -- What is a host is read.
-use Rattle.std.proofs.Common.{◌≡◌, Bool, true, false, List, [], ◌∷◌, Some, None, refl, ◌∙◌}
+use Rattle.std.proofs.Common.{◌≡◌, Bool, true, false, List, [], ◌∷◌, Some, None, refl, ◌∙◌, arith}
 use Rattle.std.specs.Prelude.{◌&&◌, if◌then◌else◌}
 use Rattle.gp_tokens.specs.declared.token.Token.{Token}
 use Rattle.gp_tokens.specs.Kinds.{same_kind}
@@ -271,9 +271,9 @@ no_other ts mid end _ x (more n ns) h = not_bar ts ((g.begins_never open_sign ba
     not_bar [] e = refl
     not_bar (t ∷ ts) e = rw e refl
 
-bar_again : (ts mid end : List Token) (u : Unit {0}) (x : HostTree) → IsBar ts mid u → IsBody mid end x → optional_bar ts ≡ Some (u, mid)
-bar_again ts mid end u x (one h) b = rw (h.shape.front, h.shape.is, another mid end x b, h.made) refl
-bar_again ts _ end _ x (other absent) b = rw (no_other ts b.shape.mid end b.of.0 b.of.1 b.shape.first b.shape.second) refl
+bar_again : (ts mid end : List Token) (u : Unit {0}) (x : HostTree) → IsBar ts mid u → IsBody mid end x → behind_bar ts ≡ mid
+bar_again ts mid end u x (one h) b = rw (h.shape.front, h.shape.is, another mid end x b) refl
+bar_again ts _ end _ x (other absent) b = no_other ts b.shape.mid end b.of.0 b.of.1 b.shape.first b.shape.second
 
 bar_body_again : Again (optional_bar and body) (IsBar then IsBody) Anything
 bar_body_again ts end x h e = rw (bar_again ts h.mid end x.0 x.1 h.first h.second, body_again h.mid end x.1 h.second tt) refl

@@ -1,9 +1,8 @@
 //! Why a host text gave no graph.
 
-use gp_grammar::ReadError;
 use gp_tokens::{LexFault, Text};
 use gp_values::NoMemory;
-use std::alloc::{AllocError, AllocFailed};
+use std::alloc::AllocError;
 use thiserror::Error;
 
 /// Why a host text gave no graph: its first fault, in the order of these variants. Those of one variant go by the
@@ -35,4 +34,40 @@ pub enum HostFault {
     /// Memory was refused.
     #[error("NoMemory")]
     NoMemory,
+}
+
+impl From<NoMemory> for HostFault {
+    ghost use Rattle.std.specs.Prelude.{◌≡◌};
+    ghost use Rattle.gp_hostfile.specs.declared.fault.HostFault.TheVariants as faults;
+
+    ghost from_gives = { λ _ e. e ≡ faults.NoMemory };
+
+    fn from(_: NoMemory) -> HostFault {
+        HostFault::NoMemory
+    }
+}
+
+impl From<AllocError> for HostFault {
+    ghost use Rattle.std.specs.Prelude.{◌≡◌};
+    ghost use Rattle.gp_hostfile.specs.declared.fault.HostFault.TheVariants as faults;
+
+    ghost from_gives = { λ _ e. e ≡ faults.NoMemory };
+
+    fn from(_: AllocError) -> HostFault {
+        HostFault::NoMemory
+    }
+}
+
+impl From<LexFault> for HostFault {
+    ghost use Rattle.std.specs.Prelude.{◌≡◌};
+    ghost use Rattle.gp_hostfile.specs.Drawn.{lex_fault};
+
+    ghost from_gives = { λ f e. e ≡ lex_fault f };
+
+    fn from(fault: LexFault) -> HostFault {
+        match fault {
+            LexFault::NoMemory => HostFault::NoMemory,
+            other => HostFault::Lex(other),
+        }
+    }
 }

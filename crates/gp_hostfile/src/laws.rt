@@ -1,14 +1,19 @@
 //! What holds of host texts and of the texts of graphs. Each function does nothing: its contract is the law.
 
 ghost use Rattle.gp_values.specs.Graph.{IsGraph};
+ghost use Rattle.gp_hostfile.specs.Laws.{HostTextsHaveOneGraph, HostTextsHaveNoFault, GraphsHaveOneText, GraphTextsAreReadBack};
 ghost use Rattle.gp_hostfile.specs.Renumbered.{HasShortNumbers};
-ghost use Rattle.gp_hostfile.specs.Laws.{HostTextsHaveOneGraph, GraphsHaveOneText, GraphTextsAreReadBack};
 
 use gp_graph::Graph;
 
 /// A text is the text of at most one graph.
 pub fn host_texts_have_one_graph()
     ensures { HostTextsHaveOneGraph }
+{}
+
+/// A text of a graph has no fault.
+pub fn host_texts_have_no_fault()
+    ensures { HostTextsHaveNoFault }
 {}
 
 /// A graph has one text.

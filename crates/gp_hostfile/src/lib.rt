@@ -1,6 +1,8 @@
 //! Host texts into graphs, and graphs into texts.
 #![tactic(auto)]
 
+mod check;
+mod draw;
 mod fault;
 mod grammar;
 pub mod laws;

@@ -1,0 +1,27 @@
+use Rattle.std.proofs.Common.{◌≡◌, List, length, Some, ap, sym, ◌∙◌}
+use Rattle.std.specs.Prelude.{map}
+use Rattle.std.proofs.lemmas.List.{length-map}
+use Rattle.std.proofs.lemmas.Result.{err_from_is_err_and}
+use Rattle.gp_values.specs.Graph.{empty_graph}
+use Rattle.gp_hostfile.specs.Drawn.{tree_in, nodes_made}
+use Rattle.gp_hostfile.proofs.Drawn.{are_nodes}
+use Rattle.gp_hostfile.proofs.Hosts.{nodes_failed, edges_failed, edges_drawn}
+use Rattle.gp_hostfile.proofs.draw.draw.Goals as goal
+
+pub returns-in_err-draw_nodes-clause-made : goal.returns-in_err-draw_nodes-clause-made
+returns-in_err-draw_nodes-clause-made c =
+    let p = err_from_is_err_and c.from_residual.result c.from_residual.ensures.1 in
+    rw (p.1, p.2) (nodes_failed c.args.nodes.now (tree_in c.args.tree.now) c.in_err-draw_nodes.field-0.0 (rw (c.deref.ensures.value, c.new-graph.ensures) at c.in_err-draw_nodes.ensures))
+
+pub draw_edges-requires : goal.draw_edges-requires
+draw_edges-requires c =
+    let d = tree_in c.args.tree.now in
+    are_nodes d.0 c.args.nodes.now _ (ap length c.requires ∙ length-map d.0 _) (rw (c.deref.ensures.value, c.new-graph.ensures) at c.in_ok-draw_nodes.ensures)
+
+pub returns-in_err-draw_edges-clause-made : goal.returns-in_err-draw_edges-clause-made
+returns-in_err-draw_edges-clause-made c =
+    let p = err_from_is_err_and c.from_residual-in_err-draw_edges.result c.from_residual-in_err-draw_edges.ensures.1 in
+    rw (p.1, p.2) (edges_failed c.args.nodes.now (tree_in c.args.tree.now) _ (rw (c.deref.ensures.value, c.new-graph.ensures) at c.in_ok-draw_nodes.ensures) c.in_err-draw_edges.field-0.0 (rw c.deref-2.ensures.value at c.in_err-draw_edges.ensures))
+
+pub returns-clause-made : goal.returns-clause-made
+returns-clause-made c = edges_drawn c.args.nodes.now (tree_in c.args.tree.now) _ (rw (c.deref.ensures.value, c.new-graph.ensures) at c.in_ok-draw_nodes.ensures) _ (rw c.deref-2.ensures.value at c.in_ok-draw_edges.ensures)

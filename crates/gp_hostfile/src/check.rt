@@ -1,0 +1,212 @@
+//! The faults of a host that is spelled as one, from the first to the last.
+
+ghost use Rattle.std.specs.Prelude.{◌≡◌, map, IfOk, option_map};
+ghost use Rattle.std.specs.Option.{option_or};
+ghost use Rattle.gp_grammar.specs.Labels.{integer_of};
+ghost use Rattle.gp_values.specs.Names.{place_of, first_doubled};
+ghost use Rattle.gp_hostfile.specs.Host.{node_mark, edge_mark, first_told, first_fault, first_out_of_range, first_wrong_mark, node_names};
+ghost use Rattle.gp_hostfile.specs.Drawn.{Checks, Finds, tree_in, atom_fault, label_fault, ends_fault, node_mark_fault, edge_mark_fault};
+ghost use Rattle.gp_hostfile.specs.declared.fault.HostFault.TheVariants as faults;
+ghost use Rattle.gp_hostfile.specs.declared.tree.NodeTree.{NodeTree};
+ghost use Rattle.gp_hostfile.specs.declared.tree.EdgeTree.{EdgeTree};
+
+use crate::fault::HostFault;
+use crate::names::NameTable;
+use crate::tree::{AtomTree, EdgeTree, HostTree, NodeTree};
+use gp_grammar::Numeral;
+use gp_tokens::Text;
+use gp_values::{EdgeMark, NodeMark};
+use std::alloc::Global;
+
+/// Finds the first fault, or gives the names of the nodes.
+pub(crate) fn check(alloc: Global, tree: &HostTree) -> Result<NameTable, HostFault>
+    ensures fault { Checks result (first_fault (tree_in tree.now)) }
+    ensures names { IfOk result (λ t. t ≡ node_names (tree_in tree.now)) }
+{
+    check_numbers(tree)?;
+    let nodes = check_node_names(alloc, &tree.nodes)?;
+    check_edge_names(alloc, &tree.edges)?;
+    check_ends(alloc, &tree.edges, &nodes)?;
+    check_marks(alloc, tree)?;
+    Ok(nodes)
+}
+
+fn check_numbers(tree: &HostTree) -> Result<(), HostFault>
+    ensures { Checks result (option_or (first_told (λ (n : NodeTree). label_fault n.label) tree.now.nodes.items) (first_told (λ (e : EdgeTree). label_fault e.label) tree.now.edges.items)) }
+{
+    check_node_labels(&tree.nodes)?;
+    check_edge_labels(&tree.edges)
+}
+
+fn check_node_labels(nodes: &[NodeTree]) -> Result<(), HostFault>
+    ensures { Checks result (first_told (λ (n : NodeTree). label_fault n.label) nodes.now) }
+{
+    for node in nodes {
+        check_label(node.label.as_slice())?;
+    }
+    Ok(())
+}
+
+fn check_edge_labels(edges: &[EdgeTree]) -> Result<(), HostFault>
+    ensures { Checks result (first_told (λ (e : EdgeTree). label_fault e.label) edges.now) }
+{
+    for edge in edges {
+        check_label(edge.label.as_slice())?;
+    }
+    Ok(())
+}
+
+fn check_label(label: &[AtomTree]) -> Result<(), HostFault>
+    ensures { Checks result (label_fault label.now) }
+{
+    for atom in label {
+        check_atom(atom)?;
+    }
+    Ok(())
+}
+
+fn check_atom(atom: &AtomTree) -> Result<(), HostFault>
+    ensures { Checks result (atom_fault atom.now) }
+{
+    if let AtomTree::Number(numeral, start) = atom {
+        integer(numeral, *start)?;
+    }
+    Ok(())
+}
+
+/// The integer, or the fault that it is out of range.
+pub(crate) fn integer(numeral: &Numeral, start: u64) -> Result<i128, HostFault>
+    ensures { Finds result (integer_of numeral.now) (faults.NumberRange start) }
+{
+    match numeral.integer() {
+        Some(value) => Ok(value),
+        None => Err(HostFault::NumberRange(start)),
+    }
+}
+
+fn check_node_names(alloc: Global, nodes: &[NodeTree]) -> Result<NameTable, HostFault>
+    ensures fault { Checks result (option_map faults.TwoNodes (first_doubled (map (λ (n : NodeTree). n.name) nodes.now))) }
+    ensures names { IfOk result (λ t. t ≡ map (λ (n : NodeTree). n.name) nodes.now) }
+{
+    let mut names = NameTable::new(alloc);
+    for node in nodes {
+        if !names.add(alloc, node.name.as_bytes())? {
+            return Err(HostFault::TwoNodes(node.name.copy(alloc)?));
+        }
+    }
+    Ok(names)
+}
+
+fn check_edge_names(alloc: Global, edges: &[EdgeTree]) -> Result<(), HostFault>
+    ensures { Checks result (option_map faults.TwoEdges (first_doubled (map (λ (e : EdgeTree). e.name) edges.now))) }
+{
+    let mut names = NameTable::new(alloc);
+    for edge in edges {
+        if !names.add(alloc, edge.name.as_bytes())? {
+            return Err(HostFault::TwoEdges(edge.name.copy(alloc)?));
+        }
+    }
+    Ok(())
+}
+
+fn check_ends(alloc: Global, edges: &[EdgeTree], nodes: &NameTable) -> Result<(), HostFault>
+    ensures { Checks result (first_told (ends_fault nodes.now) edges.now) }
+{
+    for edge in edges {
+        check_ends_of(alloc, edge, nodes)?;
+    }
+    Ok(())
+}
+
+fn check_ends_of(alloc: Global, edge: &EdgeTree, nodes: &NameTable) -> Result<(), HostFault>
+    ensures { Checks result (ends_fault nodes.now edge.now) }
+{
+    end(alloc, &edge.source, nodes)?;
+    end(alloc, &edge.target, nodes)?;
+    Ok(())
+}
+
+/// The number of the node that an end names, or the fault that it names none.
+pub(crate) fn end(alloc: Global, name: &Text, nodes: &NameTable) -> Result<u64, HostFault>
+    ensures { Finds result (place_of nodes.now name.now) (faults.NoSuchEnd name.now) }
+{
+    match nodes.place(name.as_bytes()) {
+        Some(place) => Ok(place),
+        None => Err(HostFault::NoSuchEnd(name.copy(alloc)?)),
+    }
+}
+
+fn check_marks(alloc: Global, tree: &HostTree) -> Result<(), HostFault>
+    ensures { Checks result (option_or (first_told node_mark_fault tree.now.nodes.items) (first_told edge_mark_fault tree.now.edges.items)) }
+{
+    check_node_marks(alloc, &tree.nodes)?;
+    check_edge_marks(alloc, &tree.edges)
+}
+
+fn check_node_marks(alloc: Global, nodes: &[NodeTree]) -> Result<(), HostFault>
+    ensures { Checks result (first_told node_mark_fault nodes.now) }
+{
+    for node in nodes {
+        node_mark(alloc, node)?;
+    }
+    Ok(())
+}
+
+fn check_edge_marks(alloc: Global, edges: &[EdgeTree]) -> Result<(), HostFault>
+    ensures { Checks result (first_told edge_mark_fault edges.now) }
+{
+    for edge in edges {
+        edge_mark(alloc, edge)?;
+    }
+    Ok(())
+}
+
+/// The mark of a node, or the fault that its word is none.
+pub(crate) fn node_mark(alloc: Global, node: &NodeTree) -> Result<NodeMark, HostFault>
+    ensures { Finds result (node_mark node.now.mark) (faults.WrongMark node.now.name) }
+{
+    match node_mark_of(&node.mark) {
+        Some(mark) => Ok(mark),
+        None => Err(HostFault::WrongMark(node.name.copy(alloc)?)),
+    }
+}
+
+fn node_mark_of(word: &Option<Text>) -> Option<NodeMark>
+    ensures { result ≡ node_mark word.now }
+{
+    let Some(word) = word else {
+        return Some(NodeMark::None);
+    };
+    match word.as_bytes() {
+        b"red" => Some(NodeMark::Red),
+        b"green" => Some(NodeMark::Green),
+        b"blue" => Some(NodeMark::Blue),
+        b"grey" => Some(NodeMark::Grey),
+        _ => None,
+    }
+}
+
+/// The mark of an edge, or the fault that its word is none.
+pub(crate) fn edge_mark(alloc: Global, edge: &EdgeTree) -> Result<EdgeMark, HostFault>
+    ensures { Finds result (edge_mark edge.now.mark) (faults.WrongMark edge.now.name) }
+{
+    match edge_mark_of(&edge.mark) {
+        Some(mark) => Ok(mark),
+        None => Err(HostFault::WrongMark(edge.name.copy(alloc)?)),
+    }
+}
+
+fn edge_mark_of(word: &Option<Text>) -> Option<EdgeMark>
+    ensures { result ≡ edge_mark word.now }
+{
+    let Some(word) = word else {
+        return Some(EdgeMark::None);
+    };
+    match word.as_bytes() {
+        b"red" => Some(EdgeMark::Red),
+        b"green" => Some(EdgeMark::Green),
+        b"blue" => Some(EdgeMark::Blue),
+        b"dashed" => Some(EdgeMark::Dashed),
+        _ => None,
+    }
+}
