@@ -1,5 +1,5 @@
 -- Host texts.
-use Rattle.std.proofs.Common.{◌≡◌, ◌≢◌, ℕ, zero, suc, ◌+◌, ◌≤◌, List, [], ◌∷◌, length, Option, Some, None, Ok, Err, refl, sym, ap, subst, ◌∙◌, arith}
+use Rattle.std.proofs.Common.{◌≡◌, ℕ, zero, suc, ◌+◌, ◌≤◌, List, [], ◌∷◌, length, Option, Some, None, Ok, Err, refl, sym, ap, subst, ◌∙◌, arith}
 use Rattle.std.specs.Prelude.{slice_get, IsSome, Result, IfOk}
 use Rattle.gp_tokens.specs.declared.token.Token.{Token}
 use Rattle.gp_tokens.specs.declared.fault.LexFault.{LexFault}
@@ -19,7 +19,7 @@ use Rattle.gp_hostfile.specs.Grammar.{HostTree, IsHostShape}
 use Rattle.gp_hostfile.specs.Host.{IsHostFault, IsDrawn, IsDrawnNode, IsDrawnEdge, IsHostText, IsRefusal, ReadsHost, first_fault, node_names, first_told}
 use Rattle.gp_hostfile.specs.Host as spec
 use Rattle.gp_hostfile.specs.Reading.{host}
-use Rattle.gp_hostfile.specs.Drawn.{Refuses, Fails, Makes, ReadsTree, all_read, lex_fault, nodes_made, edges_made, graph_made, label_fault, node_mark_fault, edge_mark_fault, ends_fault}
+use Rattle.gp_hostfile.specs.Drawn.{Refuses, Fails, Makes, ReadsTree, all_read, lex_fault, nodes_made, edges_made, graph_made, label_fault, node_mark_fault, edge_mark_fault}
 use Rattle.gp_hostfile.proofs.Shapes.{host_sound}
 use Rattle.gp_hostfile.proofs.Spelled.{host_again}
 use Rattle.gp_hostfile.proofs.Faults.{neither, clear}

@@ -5,13 +5,13 @@ use Rattle.gp_tokens.specs.declared.token.Token.{Token}
 use Rattle.gp_grammar.specs.declared.want.Want.TheVariants as wants
 use Rattle.gp_grammar.specs.Graph.{open_sign, close_sign, comma, bar, minus, empty}
 use Rattle.gp_grammar.specs.Wants.{meets}
-use Rattle.gp_grammar.specs.Shape.{Shape, Is, ◌then◌, Either, one, other, absent}
+use Rattle.gp_grammar.specs.Shape.{Shape, ◌then◌, Either, one, other, absent}
 use Rattle.gp_grammar.specs.Reading.{Reader, ◌and◌, stands_before}
 use Rattle.gp_grammar.specs.Laws.{Sound}
 use Rattle.gp_grammar.proofs.Shapes as g
 use Rattle.gp_grammar.proofs.Strings.{number_at_sound, string_sound}
 use Rattle.gp_hostfile.specs.Grammar.{number_sign, any_word, root_word, colon, hash, dot, less, greater, open_bracket, close_bracket, nothing, IsAtom, IsAtoms, IsMark, IsLabel, IsCoord, IsPosition, IsRoot, IsNode, IsEdge, IsBody, IsBar, IsHostShape}
-use Rattle.gp_hostfile.specs.Reading.{atom, some_atoms, atoms, mark, label, sign, fraction, coord, position, place, root, node, edge, nodes, edges, body, behind_bar, optional_bar, host}
+use Rattle.gp_hostfile.specs.Reading.{atom, some_atoms, atoms, mark, label, sign, fraction, coord, position, place, root, node, edge, nodes, edges, body, optional_bar, host}
 
 two : {A B : Type 0} {r : Reader A} {s : Reader B} {R : Shape A} {S : Shape B} → Sound r R → Sound s S → Sound (r and s) (R then S)
 two {r = r} {s = s} {R = R} {S = S} a b = g.and_sound r s R S a b

@@ -1,6 +1,6 @@
 -- What is a host is read.
-use Rattle.std.proofs.Common.{◌≡◌, Bool, true, false, List, [], ◌∷◌, Some, None, refl, ◌∙◌, arith}
-use Rattle.std.specs.Prelude.{◌&&◌, if◌then◌else◌}
+use Rattle.std.proofs.Common.{◌≡◌, Bool, true, false, List, [], ◌∷◌, None, refl, ◌∙◌, arith}
+use Rattle.std.specs.Prelude.{if◌then◌else◌}
 use Rattle.gp_tokens.specs.declared.token.Token.{Token}
 use Rattle.gp_tokens.specs.Kinds.{same_kind}
 use Rattle.gp_grammar.specs.declared.want.Want.{Want}

@@ -4,18 +4,16 @@ use Rattle.gp_tokens.specs.declared.token.Token.{Token}
 use Rattle.gp_tokens.specs.declared.fault.LexFault.{LexFault}
 use Rattle.gp_tokens.specs.declared.fault.LexFault.TheVariants as lex_faults
 use Rattle.gp_grammar.specs.Reading.{◌>>=◌}
-use Rattle.gp_values.specs.declared.atom.Atom.{Atom}
 use Rattle.gp_values.specs.Names.{Name, place_of}
-use Rattle.gp_values.specs.Graph.{Node, Edge, Graph, node_at, empty_graph, with_node, with_edge}
+use Rattle.gp_values.specs.Graph.{Graph, node_at, empty_graph, with_node, with_edge}
 use Rattle.gp_hostfile.specs.declared.tree.AtomTree.{AtomTree}
-use Rattle.gp_hostfile.specs.declared.tree.AtomTree.TheVariants as atoms
 use Rattle.gp_hostfile.specs.declared.tree.NodeTree.{NodeTree}
 use Rattle.gp_hostfile.specs.declared.tree.EdgeTree.{EdgeTree}
 use Rattle.gp_hostfile.specs.declared.tree.HostTree.{HostTree as HeldTree}
 use Rattle.gp_hostfile.specs.declared.fault.HostFault.{HostFault}
 use Rattle.gp_hostfile.specs.declared.fault.HostFault.TheVariants as faults
 use Rattle.gp_hostfile.specs.Grammar.{HostTree}
-use Rattle.gp_hostfile.specs.Host.{atoms_of, node_mark, edge_mark, unless, first_told, out_of_range, wrong_node, wrong_edge}
+use Rattle.gp_hostfile.specs.Host.{atoms_of, node_mark, edge_mark, unless, first_told, out_of_range}
 use Rattle.gp_hostfile.specs.Reading.{host}
 
 -- ---- answers

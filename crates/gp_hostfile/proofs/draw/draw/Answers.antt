@@ -1,9 +1,7 @@
-use Rattle.std.proofs.Common.{◌≡◌, List, length, Some, ap, sym, ◌∙◌}
-use Rattle.std.specs.Prelude.{map}
+use Rattle.std.proofs.Common.{length, ap, ◌∙◌}
 use Rattle.std.proofs.lemmas.List.{length-map}
 use Rattle.std.proofs.lemmas.Result.{err_from_is_err_and}
-use Rattle.gp_values.specs.Graph.{empty_graph}
-use Rattle.gp_hostfile.specs.Drawn.{tree_in, nodes_made}
+use Rattle.gp_hostfile.specs.Drawn.{tree_in}
 use Rattle.gp_hostfile.proofs.Drawn.{are_nodes}
 use Rattle.gp_hostfile.proofs.Hosts.{nodes_failed, edges_failed, edges_drawn}
 use Rattle.gp_hostfile.proofs.draw.draw.Goals as goal

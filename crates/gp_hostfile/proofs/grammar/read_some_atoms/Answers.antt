@@ -1,4 +1,4 @@
-use Rattle.std.proofs.Common.{sym, ◌∙◌, ◌∷◌, []}
+use Rattle.std.proofs.Common.{sym, ◌∙◌}
 use Rattle.std.proofs.lemmas.Result.{err_from_is_err_and}
 use Rattle.gp_grammar.proofs.Loop.{next_of, starts_behind, fails_first, goes_on, stops, ends}
 use Rattle.gp_hostfile.specs.Grammar.{colon}
