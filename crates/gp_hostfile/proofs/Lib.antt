@@ -7,3 +7,17 @@ pub mod Shapes
 pub mod Spelled
 pub mod Sorted
 pub mod Lines
+pub mod Pieces
+pub mod Stands
+pub mod Numerals
+pub mod GraphPieces
+pub mod GraphStands
+pub mod Written
+pub mod NumberNames
+pub mod NumberedMaps
+pub mod Renumbering
+pub mod Shows
+pub mod ReadLabels
+pub mod ReadLines
+pub mod ReadTrees
+pub mod ReadBack

@@ -1,9 +1,10 @@
 -- What holds of host texts and of the texts of graphs.
 use Rattle.std.specs.Prelude.{◌≡◌, ℕ, List}
-use Rattle.gp_values.specs.Graph.{Graph}
+use Rattle.gp_values.specs.Graph.{Graph, IsGraph}
 use Rattle.gp_hostfile.specs.declared.fault.HostFault.{HostFault}
 use Rattle.gp_hostfile.specs.Host.{IsHostText, IsHostFault}
 use Rattle.gp_hostfile.specs.GraphText.{IsGraphText}
+use Rattle.gp_hostfile.specs.Renumbered.{HasShortNumbers, IsRenumbered}
 
 -- A text has at most one graph.
 abbrev pub HostTextsHaveOneGraph : Type 0
@@ -17,3 +18,8 @@ HostTextsHaveNoFault = (bytes : List ℕ) (g : Graph) (e : HostFault) → IsHost
 pub record GraphsHaveOneText : Type 0 where
   pub some : (g : Graph) → (text : List ℕ) × IsGraphText g text
   pub no_other : (g : Graph) (s t : List ℕ) → IsGraphText g s → IsGraphText g t → s ≡ t
+
+-- The text of a graph is a host text. Its graph is the first with the nodes and edges numbered anew, from 0 on: the nodes
+-- in their order, the edges in the order of the text.
+abbrev pub GraphTextsAreReadBack : Type 0
+GraphTextsAreReadBack = (g : Graph) (text : List ℕ) → IsGraph g → HasShortNumbers g → (t : IsGraphText g text) → (h : Graph) × IsHostText text h × IsRenumbered g t.edges h

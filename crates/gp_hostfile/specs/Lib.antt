@@ -5,3 +5,4 @@ pub mod Drawn
 pub mod GraphText
 pub mod Lines
 pub mod Laws
+pub mod Renumbered

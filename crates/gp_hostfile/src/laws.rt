@@ -1,6 +1,10 @@
 //! What holds of host texts and of the texts of graphs. Each function does nothing: its contract is the law.
 
-ghost use Rattle.gp_hostfile.specs.Laws.{HostTextsHaveOneGraph, HostTextsHaveNoFault, GraphsHaveOneText};
+ghost use Rattle.gp_values.specs.Graph.{IsGraph};
+ghost use Rattle.gp_hostfile.specs.Laws.{HostTextsHaveOneGraph, HostTextsHaveNoFault, GraphsHaveOneText, GraphTextsAreReadBack};
+ghost use Rattle.gp_hostfile.specs.Renumbered.{HasShortNumbers};
+
+use gp_graph::Graph;
 
 /// A text is the text of at most one graph.
 pub fn host_texts_have_one_graph()
@@ -16,3 +20,16 @@ pub fn host_texts_have_no_fault()
 pub fn graphs_have_one_text()
     ensures { GraphsHaveOneText }
 {}
+
+/// The text of a graph is read back as that graph, with its nodes and edges numbered anew.
+pub fn graph_texts_are_read_back()
+    ensures { GraphTextsAreReadBack }
+{}
+
+/// Each graph in memory is one whose text is read back.
+pub fn graphs_have_short_numbers(graph: &Graph)
+    ensures graph { IsGraph graph.now.graph }
+    ensures short { HasShortNumbers graph.now.graph }
+{
+    let _numbers = graph.next_numbers();
+}
