@@ -11,6 +11,8 @@ const MAKE_ON: &str = "Main = make! make() [ | ] => [ (n0, 0) | ] interface = {}
 
 const ZERO_ON: &str = "Main = zero! zero() [ (n0, 1) | ] => [ (n0, 0) | ] interface = {n0}";
 
+const ZERO: &str = "Main = zero zero() [ (n0, 1) | ] => [ (n0, 0) | ] interface = {n0}";
+
 const PAIR: &str =
     "Main = pair // calls it once\npair() [ (n0, 1) (n1, 2) | (e0, n0, n1, empty) ] => [ (n0, 1) | ] interface = {n0}";
 
@@ -88,7 +90,7 @@ fn answer(
     Ok(shown)
 }
 
-fn rules() -> [(&'static str, &'static str, &'static str); 8] {
+fn rules() -> [(&'static str, &'static str, &'static str); 10] {
     [
         (MAKE, "[ | ]", "0\t[\n  (n0, 0)\n|\n]\n\t"),
         (
@@ -116,6 +118,16 @@ fn rules() -> [(&'static str, &'static str, &'static str); 8] {
             TURN,
             "[ (a, 1) (b, 2) | (x, a, b, 3) ]",
             "0\t[\n  (n0, 1)\n  (n1, 2)\n|\n  (e0, n1, n0, 4)\n]\n\t",
+        ),
+        (
+            ZERO,
+            "[ (a(R), 1) (b, 1 # red) | ]",
+            "0\t[\n  (n0(R), 0)\n  (n1, 1 # red)\n|\n]\n\t",
+        ),
+        (
+            MAKE,
+            "[ (a, -170141183460469231731687303715884105728) | ]",
+            "0\t[\n  (n0, -170141183460469231731687303715884105728)\n  (n1, 0)\n|\n]\n\t",
         ),
         (
             GROW,
@@ -178,10 +190,43 @@ fn texts_past_the_language_are_refused(rt: HostRuntime) -> Result<(), Fail> {
         let found = answer(&rt, &["run", "p", "h"], &mut files, &NO_FAULTS)?;
         assert_eq!(rt; found.as_slice(), b"3\t\tprogram: NotYet\n".as_slice());
     }
-    for host in ["[ (a, \"x\") | ]", "[ (a, 1) (a, 2) | ]"] {
-        let mut files = two_files(rt.alloc(), MAKE, host, &[])?;
+    Ok(())
+}
+
+fn hosts() -> [(&'static str, &'static str); 10] {
+    [
+        ("[ (a, \"x", "OpenString 6"),
+        ("[ (a, 1)", "Syntax line 1"),
+        ("[ (a, 1)\n(b, 1) | ", "Syntax line 2"),
+        ("[ (a, 1) (a, 2) | ]", "TwoNodes a"),
+        ("[ (a, 1) | (e, a, a, 1) (e, a, a, 2) ]", "TwoEdges e"),
+        ("[ (a, 1) | (e, a, b, 1) ]", "NoSuchEnd b"),
+        ("[ (a, 1 # dashed) | ]", "WrongMark a"),
+        (
+            "[ (a, 170141183460469231731687303715884105728) | ]",
+            "NumberRange 6",
+        ),
+        (
+            "[ (a, 170141183460469231731687303715884105729) | ]",
+            "NumberTooLong 6",
+        ),
+        (
+            "[ (a, -170141183460469231731687303715884105729) | ]",
+            "NumberTooLong 7",
+        ),
+    ]
+}
+
+#[test]
+fn refused_hosts_have_their_lines(rt: HostRuntime) -> Result<(), Fail> {
+    let alloc = rt.alloc();
+    for (host, fault) in hosts() {
+        let mut files = two_files(alloc, MAKE, host, &[])?;
         let found = answer(&rt, &["run", "p", "h"], &mut files, &NO_FAULTS)?;
-        assert_eq!(rt; found.as_slice(), b"4\t\thost: NotYet\n".as_slice());
+        let mut line = Vec::from_slice(alloc, b"4\t\thost: ")?;
+        line.extend_from_slice(fault.as_bytes())?;
+        line.push(b'\n')?;
+        assert_eq!(rt; found.as_slice(), line.as_slice());
     }
     Ok(())
 }
