@@ -13,3 +13,4 @@ mod Follows
 mod Taking
 mod Turned
 mod Replicas
+mod Cases

@@ -65,14 +65,14 @@ module _ {K F R : Type 0} where
     stops = p.stops + q.stops;
   }
 
-module _ {System State Found Goal Reason : Type 0} where
   -- the own commits of a pass: each stands at its place in what the pass knows, and no place comes twice
-  pub record OwnsRightly (p : PassView (Key (Core System State Found Goal Reason)) Found Reason) : Type 0 where
+  pub record OwnsRightly (p : PassView K F R) : Type 0 where
     pub at_places : AllAt p.knows p.own
     pub once : (place : ℕ) → times place p.own ≤ 1
 
+module _ {C F R : Type 0} where
   -- what holds of a pass with all the room of its gate: its own commits name the place of each entry once, and it
   -- knows the ending Stopped only where it asked for it
-  pub record IsWhole (key : Key (Core System State Found Goal Reason)) (p : PassView (Key (Core System State Found Goal Reason)) Found Reason) : Type 0 where
+  pub record IsWhole (key : Key C) (p : PassView (Key C) F R) : Type 0 where
     pub each_once : p.room ≡ key.passes → (place : ℕ) → times place p.own ≡ once_below place (length p.knows)
     pub stopped : p.room ≡ key.passes → p.ending ≡ Some ending.Stopped → 0 < p.stops

@@ -6,7 +6,7 @@ mod gate;
 mod key;
 mod pass;
 mod rule;
-mod sharing;
+pub mod sharing;
 mod steps;
 mod view;
 

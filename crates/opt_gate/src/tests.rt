@@ -7,9 +7,12 @@ ghost use Rattle.opt_gate.specs.Turn.{entries_told};
 ghost use Rattle.opt_system.specs.Cells.{cells_means};
 ghost use Rattle.opt_system.specs.Row.{row};
 
+mod joined;
 mod worker;
 
 use crate::{Ask, Gate, Pass};
+use crate::sharing::{gate_may_be_shared, pass_may_be_taken};
+use joined::commit_and_join;
 use opt_core::{Core, Reply};
 use opt_system::{CellRow, Cells, CellsGoal, Mode, Never};
 use std::alloc::Global;
@@ -110,6 +113,23 @@ fn a_second_pass_learns_what_the_first_committed(rt: HostRuntime) -> Result<(), 
     let (_, entries, left, ending) = gate.close(&rt, p).into_parts();
     assert_eq!(rt; (entries.as_slice(), left), (&[0][..], 8));
     assert!(rt; ending.is_none());
+    Ok(())
+}
+
+#[test]
+fn a_joined_pass_knows_the_entry_and_has_its_commit(rt: HostRuntime) -> Result<(), Fail> {
+    let alloc = rt.alloc();
+    let Ok((gate, mut p)) = Gate::start(alloc, core_of(alloc, 1, 10)?, 2) else {
+        return Err(Fail::from("no gate was made"));
+    };
+    let q = p.split(&gate, 1);
+    pass_may_be_taken(&q);
+    gate_may_be_shared(&gate);
+    let Some(p) = commit_and_join(&rt, &Cells, &gate, p, q, 0) else {
+        return Err(Fail::from("nothing was committed"));
+    };
+    let (_, entries, _, _) = gate.close(&rt, p).into_parts();
+    assert_eq!(rt; entries.as_slice(), &[0][..]);
     Ok(())
 }
 
