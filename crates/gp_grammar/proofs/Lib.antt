@@ -3,4 +3,5 @@ pub mod Shapes
 pub mod Loop
 pub mod Passing
 pub mod Strings
+pub mod Texts
 pub mod GraphLaws

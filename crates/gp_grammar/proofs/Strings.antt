@@ -21,7 +21,7 @@ both : (a b : Bool) → (a && b) ≡ true → (a ≡ true) × (b ≡ true)
 both true b h = (refl, h)
 both false b h = absurd cc
 
-told : (b : ℕ) → is_string_byte b ≡ true → IsCharacter b
+pub told : (b : ℕ) → is_string_byte b ≡ true → IsCharacter b
 told b h =
     let p = both (nat_le 32 b && nat_le b 126) (not (b == 34)) h in
     let q = both (nat_le 32 b) (nat_le b 126) p.0 in

@@ -1,6 +1,10 @@
 -- What it is that a reader reads a shape.
-use Rattle.std.specs.Prelude.{◌≡◌, ◌<◌, ◌≤◌, true, false, List, length, Some}
+use Rattle.std.specs.Prelude.{◌≡◌, ℕ, ◌<◌, ◌≤◌, true, false, List, [], ◌∷◌, ◌++◌, length, Contains, Some, Ok}
+use Rattle.gp_tokens.specs.declared.token.Kind.TheVariants as k
 use Rattle.gp_tokens.specs.declared.token.Token.{Token}
+use Rattle.gp_tokens.specs.Lexed.{tokens_of}
+use Rattle.gp_tokens.specs.Numbers.{checked_number}
+use Rattle.gp_values.specs.Texts.{IsText}
 use Rattle.gp_grammar.specs.declared.want.Want.{Want}
 use Rattle.gp_grammar.specs.Shape.{Shape}
 use Rattle.gp_grammar.specs.Reading.{Reader, begins}
@@ -48,3 +52,15 @@ Shrinks {A} R = (ts rest : List Token) (x : A) → R ts rest x → length rest <
 -- what has the shape makes no tokens
 abbrev pub Keeps : {A : Type 0} → Shape A → Type 0
 Keeps {A} R = (ts rest : List Token) (x : A) → R ts rest x → length rest ≤ length ts
+
+-- ---- what shapes ask of tokens beside their kinds, the tokens of a text have
+
+-- each Number of a text has a value of no more than 2 ^ 127
+abbrev pub NumbersHaveValues : Type 0
+NumbersHaveValues = (text : List ℕ) (tokens : List Token) (t : Token) → tokens_of text ≡ Ok tokens → Contains tokens t → t.kind ≡ k.Number → (value : ℕ) × (checked_number t.text ≡ Some value)
+
+-- each String of a text has characters between two quotation marks
+abbrev pub StringsHaveCharacters : Type 0
+StringsHaveCharacters =
+    (text : List ℕ) (tokens : List Token) (t : Token) → tokens_of text ≡ Ok tokens → Contains tokens t → t.kind ≡ k.String
+    → (characters : List ℕ) × (t.text ≡ 34 ∷ characters ++ 34 ∷ []) × IsText characters

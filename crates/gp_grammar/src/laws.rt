@@ -4,7 +4,7 @@ ghost use Rattle.std.specs.Prelude.{◌≡◌, true, false, List, Option};
 ghost use Rattle.gp_tokens.specs.declared.token.Kind.{Kind};
 ghost use Rattle.gp_tokens.specs.declared.token.Token.{Token};
 ghost use Rattle.gp_grammar.specs.declared.want.Want.{Want};
-ghost use Rattle.gp_grammar.specs.Laws.{Reads, Anything, No, Begins, NeverBegins, MayFollow, Shrinks, Keeps};
+ghost use Rattle.gp_grammar.specs.Laws.{Reads, Anything, No, Begins, NeverBegins, MayFollow, Shrinks, Keeps, NumbersHaveValues, StringsHaveCharacters};
 ghost use Rattle.gp_grammar.specs.Reading as read;
 ghost use Rattle.gp_grammar.specs.Shape as shape;
 ghost use Rattle.gp_grammar.specs.Shape.{◌then◌};
@@ -26,6 +26,12 @@ pub fn tokens_are_read()
     ensures number { Reads read.number shape.IsNumber Anything }
     ensures number_at { Reads read.number_at shape.IsNumberAt Anything }
     ensures string { Reads read.string shape.IsString Anything }
+{}
+
+/// What the shapes of numbers and strings ask of a token beside its kind, each token of a text has.
+pub fn texts_have_values()
+    ensures numbers { NumbersHaveValues }
+    ensures strings { StringsHaveCharacters }
 {}
 
 /// No token meets two wants of which one excludes the other.

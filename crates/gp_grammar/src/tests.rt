@@ -41,6 +41,18 @@ fn parts_are_read_from_the_front(rt: HostRuntime) -> Result<(), Fail> {
 }
 
 #[test]
+fn numbers_and_strings_are_read(rt: HostRuntime) -> Result<(), Fail> {
+    let tokens = lex(rt.alloc(), b" 017 \"a b\" 7")?;
+    let (value, start, rest) = number_at(tokens.as_slice())?;
+    assert!(rt; value == 17 && start == 1);
+    assert!(rt; matches!(number_at(rest), Err(ReadError::Syntax(2))));
+    let (characters, rest) = string(rt.alloc(), rest)?;
+    assert_eq!(rt; characters.as_bytes(), b"a b".as_slice());
+    assert!(rt; matches!(string(rt.alloc(), rest), Err(ReadError::Syntax(1))));
+    Ok(())
+}
+
+#[test]
 fn wants_tell_names_apart(rt: HostRuntime) -> Result<(), Fail> {
     // item, rule name, variable, procedure name, the word `not`
     let cases: [(&str, [bool; 5]); 5] = [
@@ -68,6 +80,7 @@ fn wants_tell_names_apart(rt: HostRuntime) -> Result<(), Fail> {
 #[test]
 fn laws_hold_of_a_form() {
     laws::tokens_are_read();
+    laws::texts_have_values();
     laws::wants_are_apart();
     laws::chains_are_read::<Token, Token, Bar, Bar>();
     laws::choices_are_read::<Token, Bar, Bar>();

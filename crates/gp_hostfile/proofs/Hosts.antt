@@ -1,6 +1,6 @@
 -- Host texts.
-use Rattle.std.proofs.Common.{◌≡◌, ℕ, zero, suc, ◌+◌, ◌≤◌, List, [], ◌∷◌, length, Option, Some, None, Ok, Err, refl, sym, ap, subst, ◌∙◌, arith}
-use Rattle.std.specs.Prelude.{slice_get, IsSome, Result, IfOk}
+use Rattle.std.proofs.Common.{◌≡◌, ℕ, zero, suc, ◌+◌, ◌≤◌, List, [], ◌∷◌, length, Option, Some, None, Ok, Err, refl, sym, ap, subst, ◌∙◌, arith, inl, inr}
+use Rattle.std.specs.Prelude.{◌⊎◌, slice_get, IsSome, Result, IfOk}
 use Rattle.gp_tokens.specs.declared.token.Token.{Token}
 use Rattle.gp_tokens.specs.declared.fault.LexFault.{LexFault}
 use Rattle.gp_tokens.specs.declared.fault.LexFault.TheVariants as lex_faults
@@ -18,6 +18,7 @@ use Rattle.gp_hostfile.specs.declared.fault.HostFault.TheVariants as faults
 use Rattle.gp_hostfile.specs.Grammar.{HostTree, IsHostShape}
 use Rattle.gp_hostfile.specs.Host.{IsHostFault, IsDrawn, IsDrawnNode, IsDrawnEdge, IsHostText, IsRefusal, ReadsHost, first_fault, node_names, first_told}
 use Rattle.gp_hostfile.specs.Host as spec
+use Rattle.gp_hostfile.specs.Laws.{AreSyntax}
 use Rattle.gp_hostfile.specs.Reading.{host}
 use Rattle.gp_hostfile.specs.Drawn.{Refuses, Fails, Makes, ReadsTree, all_read, lex_fault, nodes_made, edges_made, graph_made, label_fault, node_mark_fault, edge_mark_fault}
 use Rattle.gp_hostfile.proofs.Shapes.{host_sound}
@@ -211,3 +212,31 @@ no_fault bytes g e p (spec.tree ts t h shape fault) =
     let d : p.tree ≡ t = same_tree p.tokens ts p.tree t same p.shape shape in
     let f : first_fault t ≡ None = sym (ap first_fault d) ∙ p.faultless in
     cc
+
+-- ---- and no two faults
+
+different : (r : Result (List Token) LexFault) (ts : List Token) (x : LexFault) → r ≡ Ok ts → r ≡ Err x → ⊥
+different r ts x h k = cc
+
+same_fault : (r : Result (List Token) LexFault) (x y : LexFault) → r ≡ Err x → r ≡ Err y → x ≡ y
+same_fault r x y h k = cc
+
+module _ (bytes : List ℕ) (ts us : List Token) (h : tokens_of bytes ≡ Ok ts) (i : tokens_of bytes ≡ Ok us) where
+  not_both : (t : HostTree) → ((t : HostTree) → IsHostShape ts [] t → ⊥) → IsHostShape us [] t → ⊥
+  not_both t none shape = none t (subst (λ (ts : List Token). IsHostShape ts [] t) (same_tokens (tokens_of bytes) us ts i h) shape)
+
+  tree_fault : (t u : HostTree) (e f : HostFault) → IsHostShape ts [] t → IsHostShape us [] u → first_fault t ≡ Some e → first_fault u ≡ Some f → e ≡ f
+  tree_fault t u e f p q a b =
+      let d : t ≡ u = same_tree ts us t u (same_tokens (tokens_of bytes) ts us h i) p q in
+      some_is e f (sym a ∙ ap first_fault d ∙ b)
+
+pub one_fault : (bytes : List ℕ) (e f : HostFault) → IsHostFault bytes e → IsHostFault bytes f → (e ≡ f) ⊎ AreSyntax e f
+one_fault bytes _ _ (spec.lex {e = x} h m) (spec.lex {e = y} i n) = inl (ap faults.Lex (same_fault (tokens_of bytes) x y h i))
+one_fault bytes _ _ (spec.lex {e = x} h m) (spec.syntax us i none within) = absurd (different (tokens_of bytes) us x i h)
+one_fault bytes _ f (spec.lex {e = x} h m) (spec.tree us u i shape fault) = absurd (different (tokens_of bytes) us x i h)
+one_fault bytes _ _ (spec.syntax ts h none within) (spec.lex {e = y} i n) = absurd (different (tokens_of bytes) ts y h i)
+one_fault bytes _ _ (spec.syntax {k = j} ts h none within) (spec.syntax {k = k} us i no_tree so) = inr (record { one = j; other = k; one_is = refl; other_is = refl })
+one_fault bytes _ f (spec.syntax ts h none within) (spec.tree us u i shape fault) = absurd (not_both bytes ts us h i u none shape)
+one_fault bytes e _ (spec.tree ts t h shape fault) (spec.lex {e = y} i n) = absurd (different (tokens_of bytes) ts y h i)
+one_fault bytes e _ (spec.tree ts t h shape fault) (spec.syntax us i none within) = absurd (not_both bytes us ts i h t none shape)
+one_fault bytes e f (spec.tree ts t h p a) (spec.tree us u i q b) = inl (tree_fault bytes ts us h i t u e f p q a b)

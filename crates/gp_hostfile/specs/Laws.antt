@@ -1,7 +1,8 @@
 -- What holds of host texts and of the texts of graphs.
-use Rattle.std.specs.Prelude.{◌≡◌, ℕ, List}
+use Rattle.std.specs.Prelude.{◌≡◌, ◌⊎◌, ℕ, List}
 use Rattle.gp_values.specs.Graph.{Graph, IsGraph}
 use Rattle.gp_hostfile.specs.declared.fault.HostFault.{HostFault}
+use Rattle.gp_hostfile.specs.declared.fault.HostFault.TheVariants as faults
 use Rattle.gp_hostfile.specs.Host.{IsHostText, IsHostFault}
 use Rattle.gp_hostfile.specs.GraphText.{IsGraphText}
 use Rattle.gp_hostfile.specs.Renumbered.{HasShortNumbers, IsRenumbered}
@@ -13,6 +14,17 @@ HostTextsHaveOneGraph = (bytes : List ℕ) (g h : Graph) → IsHostText bytes g 
 -- A text with a graph has no fault.
 abbrev pub HostTextsHaveNoFault : Type 0
 HostTextsHaveNoFault = (bytes : List ℕ) (g : Graph) (e : HostFault) → IsHostText bytes g → IsHostFault bytes e → ⊥
+
+-- both are that the tokens are no host
+pub record AreSyntax (e f : HostFault) : Type 0 where
+  pub one : ℕ
+  pub other : ℕ
+  pub one_is : e ≡ faults.Syntax one
+  pub other_is : f ≡ faults.Syntax other
+
+-- A text has at most one fault, but for the number of Syntax.
+abbrev pub HostTextsHaveOneFault : Type 0
+HostTextsHaveOneFault = (bytes : List ℕ) (e f : HostFault) → IsHostFault bytes e → IsHostFault bytes f → (e ≡ f) ⊎ AreSyntax e f
 
 -- A graph has a text, and no other.
 pub record GraphsHaveOneText : Type 0 where

@@ -1,7 +1,7 @@
 //! What holds of host texts and of the texts of graphs. Each function does nothing: its contract is the law.
 
 ghost use Rattle.gp_values.specs.Graph.{IsGraph};
-ghost use Rattle.gp_hostfile.specs.Laws.{HostTextsHaveOneGraph, HostTextsHaveNoFault, GraphsHaveOneText, GraphTextsAreReadBack};
+ghost use Rattle.gp_hostfile.specs.Laws.{HostTextsHaveOneGraph, HostTextsHaveNoFault, HostTextsHaveOneFault, GraphsHaveOneText, GraphTextsAreReadBack};
 ghost use Rattle.gp_hostfile.specs.Renumbered.{HasShortNumbers};
 
 use gp_graph::Graph;
@@ -11,9 +11,10 @@ pub fn host_texts_have_one_graph()
     ensures { HostTextsHaveOneGraph }
 {}
 
-/// A text of a graph has no fault.
-pub fn host_texts_have_no_fault()
-    ensures { HostTextsHaveNoFault }
+/// A text of a graph has no fault, and another text has one at most, but for the number of Syntax.
+pub fn host_texts_have_one_fault()
+    ensures none { HostTextsHaveNoFault }
+    ensures one { HostTextsHaveOneFault }
 {}
 
 /// A graph has one text.

@@ -202,6 +202,6 @@ fn edges_go_by_ends_mark_and_label_text(rt: HostRuntime) -> Result<(), Fail> {
 #[test]
 fn laws_hold() {
     laws::host_texts_have_one_graph();
-    laws::host_texts_have_no_fault();
+    laws::host_texts_have_one_fault();
     laws::graphs_have_one_text();
 }
