@@ -204,4 +204,15 @@ fn laws_hold() {
     laws::host_texts_have_one_graph();
     laws::host_texts_have_one_fault();
     laws::graphs_have_one_text();
+    laws::graph_texts_are_read_back();
+}
+
+#[test]
+fn a_written_graph_is_read_back(rt: HostRuntime) -> Result<(), Fail> {
+    let graph = pair(rt.alloc())?;
+    laws::graphs_have_short_numbers(&graph);
+    let text = written(rt.alloc(), &graph)?;
+    let again = read_host(rt.alloc(), text.as_bytes())?;
+    assert_eq!(rt; written(rt.alloc(), &again)?.as_str(), text.as_str());
+    Ok(())
 }
