@@ -31,18 +31,16 @@ const TWO_ONES: &str = "[ (a, 1) (b, 1) (c, 2) | ]";
 
 const USAGE: &str = "usage: gp2 run PROGRAM HOST [--bound N]\n";
 
-// What happens to the devices: the reads that fail, and the writes with what goes out before they do.
+// After how many bytes the first write on each sink fails, where it does.
 #[derive(Clone, Copy)]
-struct Faults<'a> {
-    reads: &'a [u64],
-    out: &'a [(u64, u64)],
-    err: &'a [(u64, u64)],
+struct Cuts {
+    out: Option<u64>,
+    err: Option<u64>,
 }
 
-const NO_FAULTS: Faults<'static> = Faults {
-    reads: &[],
-    out: &[],
-    err: &[],
+const NO_CUTS: Cuts = Cuts {
+    out: None,
+    err: None,
 };
 
 // Files p and h of these texts.
@@ -59,8 +57,12 @@ fn two_files(alloc: Global, program: &str, host: &str, failing: &[u64]) -> Resul
     Ok(MemFiles::new(files, failing.to_vec(alloc)?))
 }
 
-fn sink(alloc: Global, failing: &[(u64, u64)]) -> Result<MemSink, Fail> {
-    match MemSink::new(alloc, 4096, failing.to_vec(alloc)?) {
+fn sink(alloc: Global, cut: Option<u64>) -> Result<MemSink, Fail> {
+    let mut failing = Vec::new(alloc);
+    if let Some(count) = cut {
+        failing.push((0, count))?;
+    }
+    match MemSink::new(alloc, 4096, failing) {
         Ok(sink) => Ok(sink),
         Err(_) => Err(Fail::from("no room was made")),
     }
@@ -71,15 +73,15 @@ fn answer(
     rt: &HostRuntime,
     words: &[&str],
     files: &mut MemFiles,
-    faults: &Faults<'_>,
+    cuts: Cuts,
 ) -> Result<Vec<u8>, Fail> {
     let alloc = rt.alloc();
     let mut given = Vec::new(alloc);
     for word in words {
         given.push(String::from_str(alloc, word)?)?;
     }
-    let mut out = sink(alloc, faults.out)?;
-    let mut err = sink(alloc, faults.err)?;
+    let mut out = sink(alloc, cuts.out)?;
+    let mut err = sink(alloc, cuts.err)?;
     let status = gp2_main(rt, &given, files, &mut out, &mut err);
     let mut shown = Vec::new(alloc);
     shown.push(b'0'.wrapping_add(status))?;
@@ -90,58 +92,56 @@ fn answer(
     Ok(shown)
 }
 
-fn rules() -> [(&'static str, &'static str, &'static str); 10] {
-    [
-        (MAKE, "[ | ]", "0\t[\n  (n0, 0)\n|\n]\n\t"),
-        (
-            PAIR,
-            "[ (a, 1) (b, 2) | (x, a, b, empty) ]",
-            "0\t[\n  (n0, 1)\n|\n]\n\t",
-        ),
-        (
-            PAIR,
-            "[ (a, 1) (b, 2) | (x, a, b, empty) (y, b, a, empty) ]",
-            "1\tfail\n\t",
-        ),
-        (
-            LOOP,
-            "[ (x, 1) (y, 1) | (f, x, y, 5) (g, y, y, 5) ]",
-            "0\t[\n  (n0, 1)\n  (n1, 2)\n|\n  (e0, n0, n1, 5)\n]\n\t",
-        ),
-        (PARALLEL, "[ (a, 1) (b, 2) | (x, a, b, 3) ]", "1\tfail\n\t"),
-        (
-            PARALLEL,
-            "[ (a, 1) (b, 2) | (x, a, b, 3) (y, a, b, 3) ]",
-            "0\t[\n  (n0, 1)\n  (n1, 2)\n|\n]\n\t",
-        ),
-        (
-            TURN,
-            "[ (a, 1) (b, 2) | (x, a, b, 3) ]",
-            "0\t[\n  (n0, 1)\n  (n1, 2)\n|\n  (e0, n1, n0, 4)\n]\n\t",
-        ),
-        (
-            ZERO,
-            "[ (a(R), 1) (b, 1 # red) | ]",
-            "0\t[\n  (n0(R), 0)\n  (n1, 1 # red)\n|\n]\n\t",
-        ),
-        (
-            MAKE,
-            "[ (a, -170141183460469231731687303715884105728) | ]",
-            "0\t[\n  (n0, -170141183460469231731687303715884105728)\n  (n1, 0)\n|\n]\n\t",
-        ),
-        (
-            GROW,
-            "[ (x, 2) (y, 1) | ]",
-            "0\t[\n  (n1, 1)\n  (n2, 3)\n  (n3, -4)\n|\n  (e0, n2, n3, empty)\n]\n\t",
-        ),
-    ]
-}
+const RULES: [(&str, &str, &str); 10] = [
+    (MAKE, "[ | ]", "0\t[\n  (n0, 0)\n|\n]\n\t"),
+    (
+        PAIR,
+        "[ (a, 1) (b, 2) | (x, a, b, empty) ]",
+        "0\t[\n  (n0, 1)\n|\n]\n\t",
+    ),
+    (
+        PAIR,
+        "[ (a, 1) (b, 2) | (x, a, b, empty) (y, b, a, empty) ]",
+        "1\tfail\n\t",
+    ),
+    (
+        LOOP,
+        "[ (x, 1) (y, 1) | (f, x, y, 5) (g, y, y, 5) ]",
+        "0\t[\n  (n0, 1)\n  (n1, 2)\n|\n  (e0, n0, n1, 5)\n]\n\t",
+    ),
+    (PARALLEL, "[ (a, 1) (b, 2) | (x, a, b, 3) ]", "1\tfail\n\t"),
+    (
+        PARALLEL,
+        "[ (a, 1) (b, 2) | (x, a, b, 3) (y, a, b, 3) ]",
+        "0\t[\n  (n0, 1)\n  (n1, 2)\n|\n]\n\t",
+    ),
+    (
+        TURN,
+        "[ (a, 1) (b, 2) | (x, a, b, 3) ]",
+        "0\t[\n  (n0, 1)\n  (n1, 2)\n|\n  (e0, n1, n0, 4)\n]\n\t",
+    ),
+    (
+        ZERO,
+        "[ (a(R), 1) (b, 1 # red) | ]",
+        "0\t[\n  (n0(R), 0)\n  (n1, 1 # red)\n|\n]\n\t",
+    ),
+    (
+        MAKE,
+        "[ (a, -170141183460469231731687303715884105728) | ]",
+        "0\t[\n  (n0, -170141183460469231731687303715884105728)\n  (n1, 0)\n|\n]\n\t",
+    ),
+    (
+        GROW,
+        "[ (x, 2) (y, 1) | ]",
+        "0\t[\n  (n1, 1)\n  (n2, 3)\n  (n3, -4)\n|\n  (e0, n2, n3, empty)\n]\n\t",
+    ),
+];
 
 #[test]
 fn rules_make_the_graphs_that_were_worked_out_by_hand(rt: HostRuntime) -> Result<(), Fail> {
-    for (program, host, shown) in rules() {
+    for (program, host, shown) in RULES {
         let mut files = two_files(rt.alloc(), program, host, &[])?;
-        let found = answer(&rt, &["run", "p", "h"], &mut files, &NO_FAULTS)?;
+        let found = answer(&rt, &["run", "p", "h"], &mut files, NO_CUTS)?;
         assert_eq!(rt; found.as_slice(), shown.as_bytes());
     }
     Ok(())
@@ -169,7 +169,7 @@ fn loops_end_or_spend_their_bound(rt: HostRuntime) -> Result<(), Fail> {
     for (program, host, bound, shown) in bounds() {
         let mut files = two_files(rt.alloc(), program, host, &[])?;
         let words = ["run", "p", "h", "--bound", bound];
-        let found = answer(&rt, &words, &mut files, &NO_FAULTS)?;
+        let found = answer(&rt, &words, &mut files, NO_CUTS)?;
         assert_eq!(rt; found.as_slice(), shown.as_bytes());
     }
     Ok(())
@@ -187,42 +187,40 @@ fn texts_past_the_language_are_refused(rt: HostRuntime) -> Result<(), Fail> {
     ];
     for program in programs {
         let mut files = two_files(rt.alloc(), program, "[ | ]", &[])?;
-        let found = answer(&rt, &["run", "p", "h"], &mut files, &NO_FAULTS)?;
+        let found = answer(&rt, &["run", "p", "h"], &mut files, NO_CUTS)?;
         assert_eq!(rt; found.as_slice(), b"3\t\tprogram: NotYet\n".as_slice());
     }
     Ok(())
 }
 
-fn hosts() -> [(&'static str, &'static str); 10] {
-    [
-        ("[ (a, \"x", "OpenString 6"),
-        ("[ (a, 1)", "Syntax line 1"),
-        ("[ (a, 1)\n(b, 1) | ", "Syntax line 2"),
-        ("[ (a, 1) (a, 2) | ]", "TwoNodes a"),
-        ("[ (a, 1) | (e, a, a, 1) (e, a, a, 2) ]", "TwoEdges e"),
-        ("[ (a, 1) | (e, a, b, 1) ]", "NoSuchEnd b"),
-        ("[ (a, 1 # dashed) | ]", "WrongMark a"),
-        (
-            "[ (a, 170141183460469231731687303715884105728) | ]",
-            "NumberRange 6",
-        ),
-        (
-            "[ (a, 170141183460469231731687303715884105729) | ]",
-            "NumberTooLong 6",
-        ),
-        (
-            "[ (a, -170141183460469231731687303715884105729) | ]",
-            "NumberTooLong 7",
-        ),
-    ]
-}
+const HOSTS: [(&str, &str); 10] = [
+    ("[ (a, \"x", "OpenString 6"),
+    ("[ (a, 1)", "Syntax line 1"),
+    ("[ (a, 1)\n(b, 1) | ", "Syntax line 2"),
+    ("[ (a, 1) (a, 2) | ]", "TwoNodes a"),
+    ("[ (a, 1) | (e, a, a, 1) (e, a, a, 2) ]", "TwoEdges e"),
+    ("[ (a, 1) | (e, a, b, 1) ]", "NoSuchEnd b"),
+    ("[ (a, 1 # dashed) | ]", "WrongMark a"),
+    (
+        "[ (a, 170141183460469231731687303715884105728) | ]",
+        "NumberRange 6",
+    ),
+    (
+        "[ (a, 170141183460469231731687303715884105729) | ]",
+        "NumberTooLong 6",
+    ),
+    (
+        "[ (a, -170141183460469231731687303715884105729) | ]",
+        "NumberTooLong 7",
+    ),
+];
 
 #[test]
 fn refused_hosts_have_their_lines(rt: HostRuntime) -> Result<(), Fail> {
     let alloc = rt.alloc();
-    for (host, fault) in hosts() {
+    for (host, fault) in HOSTS {
         let mut files = two_files(alloc, MAKE, host, &[])?;
-        let found = answer(&rt, &["run", "p", "h"], &mut files, &NO_FAULTS)?;
+        let found = answer(&rt, &["run", "p", "h"], &mut files, NO_CUTS)?;
         let mut line = Vec::from_slice(alloc, b"4\t\thost: ")?;
         line.extend_from_slice(fault.as_bytes())?;
         line.push(b'\n')?;
@@ -250,7 +248,7 @@ fn other_words_are_refused(rt: HostRuntime) -> Result<(), Fail> {
     ];
     for words in rows {
         let mut files = two_files(rt.alloc(), MAKE, "[ | ]", &[])?;
-        let found = answer(&rt, words, &mut files, &NO_FAULTS)?;
+        let found = answer(&rt, words, &mut files, NO_CUTS)?;
         assert_eq!(rt; &found[..3], b"2\t\t".as_slice());
         assert_eq!(rt; &found[3..], USAGE.as_bytes());
     }
@@ -274,59 +272,43 @@ enum Asked {
     Limit(u64),
 }
 
-fn come_to(rt: &HostRuntime, asked: &Asked) -> Result<Vec<u8>, Fail> {
-    let alloc = rt.alloc();
-    let words = ["run", "p", "h"];
-    match asked {
-        Asked::Cut(count) => {
-            let faults = Faults {
-                out: &[(0, *count)],
-                ..NO_FAULTS
-            };
-            answer(
-                rt,
-                &words,
-                &mut two_files(alloc, MAKE, "[ | ]", &[])?,
-                &faults,
-            )
-        }
-        Asked::Unread(read) => answer(
-            rt,
-            &words,
-            &mut two_files(alloc, MAKE, "[ | ]", &[*read])?,
-            &NO_FAULTS,
-        ),
-        Asked::UnreadCut(count) => {
-            let faults = Faults {
-                err: &[(0, *count)],
-                ..NO_FAULTS
-            };
-            answer(
-                rt,
-                &words,
-                &mut two_files(alloc, MAKE, "[ | ]", &[0])?,
-                &faults,
-            )
-        }
-        Asked::Missing => answer(
-            rt,
-            &words,
-            &mut MemFiles::new(Vec::new(alloc), Vec::new(alloc)),
-            &NO_FAULTS,
-        ),
-        Asked::NoWords(count) => {
-            let faults = Faults {
-                err: &[(0, *count)],
-                ..NO_FAULTS
-            };
-            answer(rt, &[], &mut two_files(alloc, MAKE, "[ | ]", &[])?, &faults)
-        }
-        Asked::Limit(limit) => match two_files(alloc, "abcd", "", &[])?.read(alloc, "p", *limit) {
-            Ok(bytes) => Ok(bytes),
-            Err(ReadRefusal::TooLong) => Ok(b"TooLong".to_vec(alloc)?),
-            Err(_) => Err(Fail::from("the read failed")),
-        },
+fn read_four(alloc: Global, limit: u64) -> Result<Vec<u8>, Fail> {
+    match two_files(alloc, "abcd", "", &[])?.read(alloc, "p", limit) {
+        Ok(bytes) => Ok(bytes),
+        Err(ReadRefusal::TooLong) => Ok(b"TooLong".to_vec(alloc)?),
+        Err(_) => Err(Fail::from("the read failed")),
     }
+}
+
+fn come_to(rt: &HostRuntime, asked: Asked) -> Result<Vec<u8>, Fail> {
+    let alloc = rt.alloc();
+    let words: &[&str] = match asked {
+        Asked::NoWords(_) => &[],
+        _ => &["run", "p", "h"],
+    };
+    let mut files = match asked {
+        Asked::Limit(limit) => return read_four(alloc, limit),
+        Asked::Missing => MemFiles::new(Vec::new(alloc), Vec::new(alloc)),
+        Asked::Unread(read) => two_files(alloc, MAKE, "[ | ]", &[read])?,
+        Asked::UnreadCut(_) => two_files(alloc, MAKE, "[ | ]", &[0])?,
+        _ => two_files(alloc, MAKE, "[ | ]", &[])?,
+    };
+    let cuts = match asked {
+        Asked::Cut(count) => Cuts {
+            out: Some(count),
+            err: None,
+        },
+        Asked::UnreadCut(count) => Cuts {
+            out: None,
+            err: Some(count),
+        },
+        Asked::NoWords(count) => Cuts {
+            out: None,
+            err: Some(count),
+        },
+        _ => NO_CUTS,
+    };
+    answer(rt, words, &mut files, cuts)
 }
 
 // The first so many bytes of the text of the graph that `make` makes.
@@ -352,7 +334,7 @@ fn failing_devices_have_their_answers(rt: HostRuntime) -> Result<(), Fail> {
     rows.push((Asked::Limit(3), b"TooLong".to_vec(alloc)?))?;
     rows.push((Asked::Limit(4), b"abcd".to_vec(alloc)?))?;
     for (asked, shown) in &rows {
-        let found = come_to(&rt, asked)?;
+        let found = come_to(&rt, *asked)?;
         assert_eq!(rt; found.as_slice(), shown.as_slice());
     }
     Ok(())

@@ -8,5 +8,6 @@ mod plain;
 
 pub use kinds::{Comparison, NumberKind, VariableType};
 pub use plain::{
-    PlainLeftEdge, PlainLeftNode, PlainMain, PlainProgram, PlainRightEdge, PlainRightNode, PlainRule,
+    PlainLeftEdge, PlainLeftNode, PlainMain, PlainProgram, PlainRightEdge, PlainRightNode,
+    PlainRule,
 };

@@ -37,7 +37,9 @@ module _ {C Found Reason : Type 0} where
     pub one_known : OwnsRightly r → IsWhole gate.key r → (r.knows ≡ f ∷ []) × (r.own ≡ (0, f) ∷ []) × (r.table ≡ gate.table) × (r.key ≡ Some gate.key)
     one_known owns whole =
         let o = one_commit r.knows place f (subst (λ (l : List (ℕ × Found)). AllAt r.knows l) its_own owns.at_places)
-            (λ n. ap (λ (l : List (ℕ × Found)). times n l) (sym its_own) ∙ whole.each_once all_room n) in
-        (o.0, its_own ∙ ap (λ (n : ℕ). (n, f) ∷ []) o.1,
-         ap (λ (x : PassView (Key C) Found Reason). x.table) joined ∙ (ap (λ (x : PassView (Key C) Found Reason). x.table) turned ∙ ap (λ (x : PassView (Key C) Found Reason). x.table) is_p),
-         ap (λ (x : PassView (Key C) Found Reason). x.key) joined ∙ (ap (λ (x : PassView (Key C) Found Reason). x.key) turned ∙ ap (λ (x : PassView (Key C) Found Reason). x.key) is_p))
+        (λ n. ap (λ (l : List (ℕ × Found)). times n l) (sym its_own) ∙ whole.each_once all_room n) in (
+          o.0,
+          its_own ∙ ap (λ (n : ℕ). (n, f) ∷ []) o.1,
+          ap (λ (x : PassView (Key C) Found Reason). x.table) joined ∙ (ap (λ (x : PassView (Key C) Found Reason). x.table) turned ∙ ap (λ (x : PassView (Key C) Found Reason). x.table) is_p),
+          ap (λ (x : PassView (Key C) Found Reason). x.key) joined ∙ (ap (λ (x : PassView (Key C) Found Reason). x.key) turned ∙ ap (λ (x : PassView (Key C) Found Reason). x.key) is_p),
+        )
