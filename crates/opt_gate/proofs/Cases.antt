@@ -1,9 +1,7 @@
 -- One commit of a pass that has all the room.
-use Rattle.std.proofs.Common.{◌≡◌, ℕ, zero, suc, ◌+◌, ◌-◌, ◌==◌, List, [], ◌∷◌, ◌++◌, Option, Some, cond, nat_lt, length, refl, sym, ◌∙◌, ap, arith, subst}
+use Rattle.std.proofs.Common.{◌≡◌, ℕ, zero, suc, ◌+◌, ◌==◌, List, [], ◌∷◌, ◌++◌, Some, cond, length, refl, sym, ◌∙◌, ap, arith, subst}
 use Rattle.std.proofs.lemmas.Bool.Decides.{nat_tests}
-use mathlib.Core.Option.{some, some-injective, some-ne-none}
-use lib.ListN.{get_elem?}
-use Rattle.atomic_table.specs.Seated.{TableId}
+use mathlib.Core.Option.{some-injective, some-ne-none}
 use Rattle.opt_core.specs.declared.event.Reply.{Reply}
 use Rattle.opt_core.specs.declared.event.Reply.TheVariants as reply
 use Rattle.opt_gate.specs.declared.ask.Ask.TheVariants as ask
@@ -37,7 +35,9 @@ module _ {C Found Reason : Type 0} where
     pub one_known : OwnsRightly r → IsWhole gate.key r → (r.knows ≡ f ∷ []) × (r.own ≡ (0, f) ∷ []) × (r.table ≡ gate.table) × (r.key ≡ Some gate.key)
     one_known owns whole =
         let o = one_commit r.knows place f (subst (λ (l : List (ℕ × Found)). AllAt r.knows l) its_own owns.at_places)
-            (λ n. ap (λ (l : List (ℕ × Found)). times n l) (sym its_own) ∙ whole.each_once all_room n) in
-        (o.0, its_own ∙ ap (λ (n : ℕ). (n, f) ∷ []) o.1,
-         ap (λ (x : PassView (Key C) Found Reason). x.table) joined ∙ (ap (λ (x : PassView (Key C) Found Reason). x.table) turned ∙ ap (λ (x : PassView (Key C) Found Reason). x.table) is_p),
-         ap (λ (x : PassView (Key C) Found Reason). x.key) joined ∙ (ap (λ (x : PassView (Key C) Found Reason). x.key) turned ∙ ap (λ (x : PassView (Key C) Found Reason). x.key) is_p))
+        (λ n. ap (λ (l : List (ℕ × Found)). times n l) (sym its_own) ∙ whole.each_once all_room n) in (
+          o.0,
+          its_own ∙ ap (λ (n : ℕ). (n, f) ∷ []) o.1,
+          ap (λ (x : PassView (Key C) Found Reason). x.table) joined ∙ (ap (λ (x : PassView (Key C) Found Reason). x.table) turned ∙ ap (λ (x : PassView (Key C) Found Reason). x.table) is_p),
+          ap (λ (x : PassView (Key C) Found Reason). x.key) joined ∙ (ap (λ (x : PassView (Key C) Found Reason). x.key) turned ∙ ap (λ (x : PassView (Key C) Found Reason). x.key) is_p),
+        )

@@ -10,8 +10,8 @@ ghost use Rattle.opt_system.specs.Row.{row};
 mod joined;
 mod worker;
 
-use crate::{Ask, Gate, Pass};
 use crate::sharing::{gate_may_be_shared, pass_may_be_taken};
+use crate::{Ask, Gate, Pass};
 use joined::commit_and_join;
 use opt_core::{Core, Reply};
 use opt_system::{CellRow, Cells, CellsGoal, Mode, Never};
