@@ -1,6 +1,6 @@
 -- The Numbers and the Strings of a text.
 use Rattle.std.proofs.Common.{◌≡◌, ℕ, zero, suc, ◌<◌, ◌^◌, Bool, true, false, not, List, [], ◌∷◌, ◌++◌, length, Ok, refl, subst, arith, Some}
-use Rattle.std.specs.Prelude.{◌&&◌, Contains, slice_index_or, nat_le, ◌≤◌}
+use Rattle.std.specs.Prelude.{◌&&◌, Contains, slice_index_or}
 use Rattle.std.specs.List.{list_all}
 use Rattle.std.proofs.lemmas.Bool.{le-leb}
 use Rattle.std.proofs.lemmas.List.Elements.{All-nil, All-cons}
