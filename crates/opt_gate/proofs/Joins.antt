@@ -6,9 +6,9 @@ use Rattle.atomic_table.specs.Table.{Joins}
 use Rattle.atomic_table.proofs.Lists.{at_set, set_else}
 use Rattle.opt_core.specs.declared.event.Ending.{Ending}
 use Rattle.opt_gate.specs.declared.view.View.{View}
-use Rattle.opt_gate.specs.Lists.{total, times, StartsWith, by_length, longer, shorter}
+use Rattle.opt_gate.specs.Lists.{total, times, StartsWith, by_length, longer, shorter, first_of}
 use Rattle.opt_gate.specs.Rule.{has_ticket, At, Turns, Knows, Placed, Ruled}
-use Rattle.opt_gate.specs.Plays.{first_of, joined, spent}
+use Rattle.opt_gate.specs.Plays.{joined, spent}
 use Rattle.opt_gate.proofs.Sums.{total_set}
 use Rattle.opt_gate.proofs.Draws.{not_served, none_has, no_ending}
 use Rattle.opt_gate.proofs.Passes.{not_none, off_on}

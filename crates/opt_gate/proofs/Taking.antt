@@ -14,7 +14,8 @@ use Rattle.opt_gate.specs.declared.key.Key.{Key}
 use Rattle.opt_gate.specs.Plays.{waiting, serving, passed, Takes, Took, Tells}
 use Rattle.opt_gate.specs.Cores.{entries_of, ended_of, IsOfKey, passes_of}
 use Rattle.opt_gate.specs.Follow.{MayFollow}
-use Rattle.opt_gate.specs.Turn.{Acts, is_stop, stops_of}
+use Rattle.opt_gate.specs.Turn.{stops_of}
+use Rattle.opt_gate.specs.Seats.{Acts, is_stop}
 use Rattle.opt_gate.proofs.Follows.{follows}
 
 module _ {C : Type 0} where

@@ -22,7 +22,8 @@ use Rattle.opt_gate.specs.Lists.{StartsWith, placed_from}
 use Rattle.opt_gate.specs.Cores.{entries_of, ended_of, IsOfKey, passes_of}
 use Rattle.opt_gate.specs.Plays.{resting, serving, passed, Tells}
 use Rattle.opt_gate.specs.Pass.{PassView, IsWhole}
-use Rattle.opt_gate.specs.Turn.{event_of, stops_of, commits_of, news_of, entries_told, pass_after, told_after, told_and_handed, MayAsk, IsTrueEnding, IsOneEvent, Acts}
+use Rattle.opt_gate.specs.Turn.{event_of, stops_of, commits_of, news_of, entries_told, pass_after, told_after, MayAsk, IsTrueEnding, IsOneEvent}
+use Rattle.opt_gate.specs.Seats.{told_and_handed, Acts}
 use Rattle.opt_gate.proofs.Owns.{rest_is}
 use Rattle.opt_gate.proofs.Taking.{none_out}
 

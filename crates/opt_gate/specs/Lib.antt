@@ -5,3 +5,4 @@ pub mod Cores
 pub mod Follow
 pub mod Pass
 pub mod Turn
+pub mod Seats

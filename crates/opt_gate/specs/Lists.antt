@@ -1,5 +1,5 @@
 -- Lists of entries, and entries with their places.
-use Rattle.std.specs.Prelude.{◌≡◌, ℕ, ◌+◌, List, [], ◌∷◌, ◌++◌, cond, ◌==◌, nat_le, nat_lt, length}
+use Rattle.std.specs.Prelude.{◌≡◌, ℕ, ◌+◌, List, [], ◌∷◌, ◌++◌, Option, Some, None, cond, ◌==◌, nat_le, nat_lt, length}
 use mathlib.Core.Option.{some}
 use lib.ListN.{get_elem?}
 
@@ -38,6 +38,17 @@ module _ {A : Type 0} where
 
   abbrev pub shorter : List A → List A → List A
   shorter a b = by_length a b b a
+
+module _ {E : Type 0} where
+  -- the first of two that is there
+  abbrev pub first_of : Option E → Option E → Option E
+  first_of (Some x) y = Some x
+  first_of None y = y
+
+module _ {A E : Type 0} where
+  -- the ending of two that go with two lists, that of the longer list first
+  abbrev pub ending_of_both : List A → List A → Option E → Option E → Option E
+  ending_of_both a b x y = first_of (by_length a b x y) (by_length a b y x)
 
 -- 1 for a place below n, else 0
 abbrev pub once_below : ℕ → ℕ → ℕ

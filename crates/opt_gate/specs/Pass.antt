@@ -5,8 +5,7 @@ use Rattle.opt_core.specs.Core.{Core}
 use Rattle.opt_core.specs.declared.event.Ending.{Ending}
 use Rattle.opt_core.specs.declared.event.Ending.TheVariants as ending
 use Rattle.opt_gate.specs.declared.key.Key.{Key}
-use Rattle.opt_gate.specs.Lists.{AllAt, times, once_below, longer}
-use Rattle.opt_gate.specs.Plays.{ending_of_both}
+use Rattle.opt_gate.specs.Lists.{AllAt, times, once_below, longer, ending_of_both}
 
 pub record GateView (K : Type 0) : Type 0 where
   -- which gate it is

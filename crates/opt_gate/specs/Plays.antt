@@ -4,19 +4,8 @@ use Rattle.atomic_table.specs.Table.{Me, Step}
 use Rattle.opt_core.specs.declared.event.Ending.{Ending}
 use Rattle.opt_core.specs.declared.event.Ending.TheVariants as ending
 use Rattle.opt_gate.specs.declared.view.View.{View}
-use Rattle.opt_gate.specs.Lists.{StartsWith, AllAt, placed_from, times, once_below, by_length, longer, shorter}
+use Rattle.opt_gate.specs.Lists.{StartsWith, AllAt, placed_from, times, once_below, by_length, longer, shorter, ending_of_both}
 use Rattle.opt_gate.specs.Rule.{view}
-
-module _ {A : Type 0} where
-  -- the first of two that is there
-  abbrev pub first_of : Option A → Option A → Option A
-  first_of (Some x) y = Some x
-  first_of None y = y
-
-module _ {F R : Type 0} where
-  -- the endings that two passes know, that of the one with the longer list first
-  abbrev pub ending_of_both : List F → List F → Option (Ending R) → Option (Ending R) → Option (Ending R)
-  ending_of_both a b x y = first_of (by_length a b x y) (by_length a b y x)
 
 module _ {K F R : Type 0} where
   -- between turns

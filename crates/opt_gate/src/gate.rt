@@ -8,7 +8,8 @@ ghost use Rattle.opt_core.specs.declared.event.Ending.TheVariants.{Stopped};
 ghost use Rattle.opt_core.specs.declared.event.Reply.TheVariants.{Closed};
 ghost use Rattle.opt_gate.specs.Lists.{AllAt, StartsWith, times, once_below};
 ghost use Rattle.opt_gate.specs.Pass.{IsPassOf, IsWhole, OwnsRightly, first_pass, start_of};
-ghost use Rattle.opt_gate.specs.Turn.{MayAsk, IsOneEvent, IsTrueEnding, entries_told, news_of, pass_after, told_and_handed};
+ghost use Rattle.opt_gate.specs.Turn.{MayAsk, IsOneEvent, IsTrueEnding, entries_told, news_of, pass_after};
+ghost use Rattle.opt_gate.specs.Seats.{told_and_handed};
 
 use crate::ask::Ask;
 use crate::key::Key;

@@ -1,6 +1,6 @@
 //! Passes: who holds one may take turns at the gate.
 
-ghost use Rattle.std.specs.Prelude.{◌≡◌, ◌≤◌, ◌+◌, ℕ, Some};
+ghost use Rattle.std.specs.Prelude.{◌≡◌, ◌≤◌, ◌<◌, ◌+◌, ℕ, Some, length};
 ghost use Rattle.opt_core.specs.declared.event.Ending.{Ending};
 ghost use Rattle.opt_gate.specs.Lists.{StartsWith, times};
 ghost use Rattle.opt_gate.specs.Pass.{IsPassOf, IsWhole, OwnsRightly, pass_after_split, new_pass, joined_pass};
@@ -43,14 +43,16 @@ pub type Pass<S: System> = PassOf<Core<S>, S::Found, S::Reason>;
 impl<S: System> PassOf<Core<S>, S::Found, S::Reason> {
     /// The number of entries that were handed to it.
     pub fn told(&self) -> u64
-        ensures { result ≡ self.now.told }
+        ensures value { result ≡ self.now.told }
+        ensures known { self.now.told ≤ length self.now.knows }
     {
         self.told
     }
 
     /// The number of passes that it may become, itself counted.
     pub fn room(&self) -> u64
-        ensures { result ≡ self.now.room }
+        ensures value { result ≡ self.now.room }
+        ensures some { 0 < self.now.room }
     {
         self.room
     }

@@ -4,7 +4,7 @@ ghost use Rattle.opt_gate.specs.Plays.{resting, waiting, Takes, Took, passed, jo
 ghost use Rattle.opt_gate.specs.Cores.{entries_of, ended_of, IsOfKey, passes_of};
 ghost use Rattle.opt_gate.specs.Follow.{MayFollow};
 ghost use Rattle.opt_core.specs.Core.{Legal};
-ghost use Rattle.opt_gate.specs.Turn.{Acts, MayComeTo, is_stop};
+ghost use Rattle.opt_gate.specs.Seats.{Acts, MayComeTo, is_stop};
 
 use crate::key::Key;
 use crate::rule::{Draw, GateRule, JoinPasses, PassOn, PassOnStop, Tell, Watch};

@@ -70,7 +70,7 @@ fn answer<R: Wait>(
     ensures at { OnOk result (at.new ≡ reached cells_means (start_of gate.now).base (entries_told pass.new)) }
 {
     let Some(reply) = ask(rt, &Cells, gate, pass, at, asked) else {
-        return Err(Fail::from("may not be asked"));
+        return Err(Fail::from("it may not be asked, or memory was refused"));
     };
     text_of(alloc, &reply)
 }
