@@ -17,6 +17,7 @@ use Rattle.gp_cli.specs.declared.reply.Stop.TheVariants as stops
 use Rattle.gp_cli.specs.Statuses.{status_code}
 use Rattle.gp_cli.specs.CommandLine.{Command}
 use Rattle.gp_cli.specs.Answer.{Count, HasRisen, HasProgram, HasHost, HasLongFile, HasOtherProgram, HasHostFault, CannotRead, CanStep, limit, read_text, fail_text, bound_text, program_too_long, program_not_yet, host_too_long}
+use Rattle.gp_memory.specs.Free.{Free}
 
 -- ---- files
 
@@ -28,7 +29,7 @@ pub data StopsAtFile (told : Option Content) (files : Count) (name : Name) (refu
 abbrev pub ReadsFile : Option Content → Count → Name → ℕ → List ℕ → Result (Vec ℕ Global) Stop → Type 0
 ReadsFile told files name refused long (Ok v) = HasFile told name v.items × (length v.items ≤ limit)
 ReadsFile told files name refused long (Err (stops.Answered r)) = StopsAtFile told files name refused long (status_code r.status) r.out.items r.err.items
-ReadsFile told files name refused long (Err stops.NoMemory) = Unit {0}
+ReadsFile told files name refused long (Err stops.NoMemory) = Free
 
 -- the program is that of the file
 pub record HasPlainProgram (told : Option Content) (name : Name) (p : PlainProgram) : Type 0 where
@@ -42,7 +43,7 @@ pub data StopsAtProgram (told : Option Content) (files : Count) (name : Name) : 
 abbrev pub LoadsProgram : Option Content → Count → Name → Result PlainProgram Stop → Type 0
 LoadsProgram told files name (Ok p) = HasPlainProgram told name p
 LoadsProgram told files name (Err (stops.Answered r)) = StopsAtProgram told files name (status_code r.status) r.out.items r.err.items
-LoadsProgram told files name (Err stops.NoMemory) = Unit {0}
+LoadsProgram told files name (Err stops.NoMemory) = Free
 
 pub data StopsAtHost (told : Option Content) (files : Count) (name : Name) : ℕ → List ℕ → List ℕ → Type 0 where
   host_file : {status : ℕ} {o e : List ℕ} → StopsAtFile told files name 4 host_too_long status o e → StopsAtHost told files name status o e
@@ -51,7 +52,7 @@ pub data StopsAtHost (told : Option Content) (files : Count) (name : Name) : ℕ
 abbrev pub LoadsHost : Option Content → Count → Name → Result Graph Stop → Type 0
 LoadsHost told files name (Ok g) = HasHost told name g.graph
 LoadsHost told files name (Err (stops.Answered r)) = StopsAtHost told files name (status_code r.status) r.out.items r.err.items
-LoadsHost told files name (Err stops.NoMemory) = Unit {0}
+LoadsHost told files name (Err stops.NoMemory) = Free
 
 -- ---- the run
 
@@ -88,4 +89,4 @@ pub data RunsFilesTo (told : Option Content) (files : Count) (k : Command) : ℕ
 abbrev pub RunsFiles : Option Content → Count → Command → Result Reply Stop → Type 0
 RunsFiles told files k (Ok r) = RunsFilesTo told files k (status_code r.status) r.out.items r.err.items
 RunsFiles told files k (Err (stops.Answered r)) = RunsFilesTo told files k (status_code r.status) r.out.items r.err.items
-RunsFiles told files k (Err stops.NoMemory) = Unit {0}
+RunsFiles told files k (Err stops.NoMemory) = Free

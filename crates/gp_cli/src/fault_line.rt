@@ -5,8 +5,8 @@ ghost use Rattle.std.specs.Fmt.{decimal};
 ghost use Rattle.gp_cli.specs.FaultLines.{IsLexText, IsFaultText, IsHostLine};
 
 use gp_hostfile::HostFault;
+use gp_memory::NoMemory;
 use gp_tokens::{LexFault, Text, line_of_token};
-use gp_values::NoMemory;
 use itoa::Buffer;
 use std::alloc::Global;
 

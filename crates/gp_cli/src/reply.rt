@@ -4,7 +4,7 @@ ghost use Rattle.std.specs.Prelude.{◌≡◌, [], IfOk};
 ghost use Rattle.gp_cli.specs.declared.reply.Stop.TheVariants.{NoMemory as no_memory};
 
 use crate::status::Status;
-use gp_values::NoMemory;
+use gp_memory::NoMemory;
 use std::alloc::{AllocError, AllocFailed, Global};
 
 /// The status, and the bytes for standard output and standard error.

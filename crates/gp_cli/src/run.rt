@@ -8,8 +8,8 @@ ghost use Rattle.gp_cli.specs.Outcomes.{Calls, RunsTo, Executes};
 use crate::matching::{PlainFound, find_match};
 use crate::step::apply;
 use gp_graph::Graph;
+use gp_memory::NoMemory;
 use gp_syntax::{PlainMain, PlainProgram, PlainRule};
-use gp_values::NoMemory;
 use std::alloc::Global;
 
 /// What a run leaves a record of: a step, the beginning of a turn of a loop, and that so many of the last live steps

@@ -12,8 +12,8 @@ use crate::run::{End, Outcome, execute};
 use crate::status::Status;
 use gp_graph::Graph;
 use gp_hostfile::write_graph;
+use gp_memory::NoMemory;
 use gp_syntax::PlainProgram;
-use gp_values::NoMemory;
 use itoa::Buffer;
 use std::alloc::{AllocError, Global};
 

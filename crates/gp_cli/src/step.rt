@@ -10,8 +10,9 @@ ghost use Rattle.gp_cli.specs.Making.{AllNodes, AllEdges, EdgesRemoved, NodesRem
 
 use crate::matching::PlainFound;
 use gp_graph::Graph;
+use gp_memory::NoMemory;
 use gp_syntax::{PlainLeftNode, PlainRightEdge, PlainRightNode, PlainRule};
-use gp_values::{EdgeMark, NoMemory, NodeMark};
+use gp_values::{EdgeMark, NodeMark};
 use std::alloc::Global;
 
 // What every graph keeps, told to a caller.

@@ -12,7 +12,7 @@ use crate::show::run;
 use crate::status::Status;
 use crate::words::{Command, command_of};
 use gp_io::{Files, Sink};
-use gp_values::NoMemory;
+use gp_memory::NoMemory;
 use std::alloc::{AllocGlobal, Global};
 
 const USAGE: &[u8] = b"usage: gp2 run PROGRAM HOST [--bound N]\n";

@@ -11,6 +11,7 @@ use Rattle.gp_grammar.specs.declared.want.Want.{Want}
 use Rattle.gp_grammar.specs.declared.want.Want.TheVariants as want
 use Rattle.gp_grammar.specs.Wants.{meets}
 use Rattle.gp_grammar.specs.Shape.{second_of, list_of}
+use Rattle.gp_memory.specs.Free.{Free}
 
 -- a tree and the tokens behind it, or nothing where the tokens begin with no such tree
 abbrev pub Reader : Type 0 → Type 0
@@ -23,7 +24,7 @@ None >>= f = None
 
 -- Want of memory may come at any tokens, and the other error where nothing is read.
 abbrev pub Fails : {Y : Type 0} → ReadError → Option Y → Type 0
-Fails error.NoMemory read = Unit {0}
+Fails error.NoMemory read = Free
 Fails (error.Syntax left) read = read ≡ None
 
 -- the result is what is read

@@ -3,7 +3,7 @@
 ghost use Rattle.std.specs.Prelude.{◌≡◌};
 ghost use Rattle.gp_grammar.specs.declared.error.ReadError.TheVariants.{NoMemory};
 
-use gp_values::NoMemory as Refused;
+use gp_memory::NoMemory as Refused;
 use std::alloc::{AllocError, AllocFailed};
 
 /// Why tokens could not be read.

@@ -8,8 +8,9 @@ ghost use Rattle.gp_grammar.specs.GraphReading as spec;
 use crate::error::ReadError;
 use crate::read::{begins, number, token};
 use crate::want::Want;
+use gp_memory::NoMemory;
 use gp_tokens::{Keyword, Kind, Text, Token};
-use gp_values::{Atom, List, NoMemory};
+use gp_values::{Atom, List};
 use std::alloc::Global;
 
 /// The value of a number, and whether a minus stands before it.

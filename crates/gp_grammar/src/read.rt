@@ -6,8 +6,9 @@ ghost use Rattle.gp_grammar.specs.Reading as spec;
 
 use crate::error::ReadError;
 use crate::want::Want;
+use gp_memory::NoMemory;
 use gp_tokens::{Kind, Token};
-use gp_values::{Chars, NoMemory};
+use gp_values::Chars;
 use std::alloc::Global;
 
 /// The first token, where it is what is wanted, and those behind it.

@@ -6,7 +6,8 @@ ghost use Rattle.gp_graph.specs.Walks.{Walks, IsRoot, BeginsAt, EndsAt, GoesBetw
 
 use crate::slots::{EdgeSlot, NodeSlot, append, copy_of, look, put};
 use crate::walk::{Ends, Walk, over_edges, over_roots};
-use gp_values::{EdgeMark, List, NoMemory, NodeMark};
+use gp_memory::NoMemory;
+use gp_values::{EdgeMark, List, NodeMark};
 use std::alloc::Global;
 use std::marker::Model;
 

@@ -5,7 +5,8 @@ ghost use Rattle.std.specs.Option.{option_copied};
 ghost use Rattle.gp_values.specs.Atoms.{AreAtoms};
 ghost use Rattle.gp_graph.specs.Slots.{slot_in};
 
-use gp_values::{EdgeMark, List, NoMemory, NodeMark};
+use gp_memory::NoMemory;
+use gp_values::{EdgeMark, List, NodeMark};
 use std::alloc::Global;
 use std::mem;
 

@@ -6,7 +6,8 @@ ghost use Rattle.gp_graph.specs.Walks.{BeginsAt, EndsAt};
 
 use crate::graph::Graph;
 use crate::walk::Walk;
-use gp_values::{Atom, EdgeMark, List, NoMemory, NodeMark};
+use gp_memory::NoMemory;
+use gp_values::{Atom, EdgeMark, List, NodeMark};
 use std::alloc::Global;
 use std::test::Fail;
 

@@ -15,12 +15,13 @@ use Rattle.gp_hostfile.specs.declared.fault.HostFault.TheVariants as faults
 use Rattle.gp_hostfile.specs.Grammar.{HostTree}
 use Rattle.gp_hostfile.specs.Host.{atoms_of, node_mark, edge_mark, unless, first_told, out_of_range}
 use Rattle.gp_hostfile.specs.Reading.{host}
+use Rattle.gp_memory.specs.Free.{Free}
 
 -- ---- answers
 
 -- this is the fault; want of memory may come at any text
 abbrev pub Refuses : HostFault → Option HostFault → Type 0
-Refuses faults.NoMemory fault = Unit {0}
+Refuses faults.NoMemory fault = Free
 Refuses (faults.Lex e) fault = fault ≡ Some (faults.Lex e)
 Refuses (faults.Syntax k) fault = fault ≡ Some (faults.Syntax k)
 Refuses (faults.NumberRange at) fault = fault ≡ Some (faults.NumberRange at)
@@ -41,7 +42,7 @@ Finds (Err e) found fault = Refuses e (unless fault found)
 
 -- nothing is made, but for want of memory
 abbrev pub Fails : {Y : Type 0} → HostFault → Option Y → Type 0
-Fails faults.NoMemory made = Unit {0}
+Fails faults.NoMemory made = Free
 Fails (faults.Lex e) made = made ≡ None
 Fails (faults.Syntax k) made = made ≡ None
 Fails (faults.NumberRange at) made = made ≡ None
@@ -69,7 +70,7 @@ all_read None = None
 -- the answer is the tree of all tokens, or a place where there is none
 abbrev pub ReadsTree : List Token → Result HeldTree HostFault → Type 0
 ReadsTree tokens (Ok t) = all_read (host tokens) ≡ Some (tree_in t)
-ReadsTree tokens (Err faults.NoMemory) = Unit {0}
+ReadsTree tokens (Err faults.NoMemory) = Free
 ReadsTree tokens (Err (faults.Lex e)) = ⊥
 ReadsTree tokens (Err (faults.Syntax k)) = (all_read (host tokens) ≡ None) × (k ≤ length tokens)
 ReadsTree tokens (Err (faults.NumberRange at)) = ⊥

@@ -24,6 +24,7 @@ use Rattle.gp_hostfile.specs.declared.tree.EdgeTree.{EdgeTree}
 use Rattle.gp_hostfile.specs.declared.fault.HostFault.{HostFault}
 use Rattle.gp_hostfile.specs.declared.fault.HostFault.TheVariants as faults
 use Rattle.gp_hostfile.specs.Grammar.{HostTree, IsHostShape}
+use Rattle.gp_memory.specs.Free.{Free}
 
 -- ---- values
 
@@ -153,7 +154,7 @@ pub record IsHostText (bytes : List ℕ) (g : HostGraph) : Type 0 where
 
 -- a fault is the first of the text; want of memory may come at any text
 abbrev pub IsRefusal : List ℕ → HostFault → Type 0
-IsRefusal bytes faults.NoMemory = Unit {0}
+IsRefusal bytes faults.NoMemory = Free
 IsRefusal bytes (faults.Lex e) = IsHostFault bytes (faults.Lex e)
 IsRefusal bytes (faults.Syntax k) = IsHostFault bytes (faults.Syntax k)
 IsRefusal bytes (faults.NumberRange at) = IsHostFault bytes (faults.NumberRange at)

@@ -1,7 +1,7 @@
 //! Why a host text gave no graph.
 
+use gp_memory::NoMemory;
 use gp_tokens::{LexFault, Text};
-use gp_values::NoMemory;
 use std::alloc::AllocError;
 use thiserror::Error;
 

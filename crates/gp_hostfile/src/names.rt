@@ -3,7 +3,7 @@
 ghost use Rattle.std.specs.Prelude.{◌≡◌, ◌∷◌, [], ◌++◌, not, if◌then◌else◌, IfOk, OnOk};
 ghost use Rattle.gp_values.specs.Names.{has_name, place_of};
 
-use gp_values::NoMemory;
+use gp_memory::NoMemory;
 use indexmap::IndexSet;
 use std::alloc::Global;
 use std::marker::Model;

@@ -2,7 +2,8 @@
 
 use crate::{laws, read_host, write_graph};
 use gp_graph::Graph;
-use gp_values::{Atom, Chars, EdgeMark, List, NoMemory, NodeMark};
+use gp_memory::NoMemory;
+use gp_values::{Atom, Chars, EdgeMark, List, NodeMark};
 use std::alloc::Global;
 use std::test::Fail;
 

@@ -8,7 +8,8 @@ ghost use Rattle.gp_hostfile.specs.GraphText.{IsGraphText, WritesGraph, BeginsGr
 ghost use Rattle.gp_hostfile.specs.Lines.{line_key, line_keys, entry_keys, key_line, key_lines};
 
 use gp_graph::Graph;
-use gp_values::{EdgeMark, List, NoMemory, NodeMark};
+use gp_memory::NoMemory;
+use gp_values::{EdgeMark, List, NodeMark};
 use itoa::Buffer;
 use std::alloc::Global;
 

@@ -3,8 +3,9 @@
 ghost use Rattle.std.specs.Prelude.{◌≡◌, [], ◌∷◌, ◌++◌, OnOk};
 
 use gp_grammar::Numeral;
+use gp_memory::NoMemory;
 use gp_tokens::Text;
-use gp_values::{Chars, NoMemory};
+use gp_values::Chars;
 use std::alloc::Global;
 use std::marker::Model;
 

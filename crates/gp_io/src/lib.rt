@@ -10,7 +10,7 @@ mod std_sink;
 pub use disk_files::DiskFiles;
 pub use mem_files::MemFiles;
 pub use mem_sink::MemSink;
-pub use outside::{Failed, Files, NoMemory, ReadRefusal, Sink};
+pub use outside::{Failed, Files, ReadRefusal, Sink};
 pub use std_sink::StdSink;
 
 #[cfg(test)]

@@ -4,7 +4,8 @@ ghost use Rattle.std.specs.Prelude.{◌≡◌, ◌≤◌, ◌↔◌, ◌++◌, [
 ghost use Rattle.gp_io.specs.Outside.{WriteAnswers, raised};
 ghost use Rattle.gp_io.specs.Stored.{bytes_before_failure, bytes_let_out, room_left};
 
-use crate::outside::{Failed, NoMemory, Sink};
+use crate::outside::{Failed, Sink};
+use gp_memory::NoMemory;
 use std::alloc::Global;
 use std::marker::Model;
 

@@ -29,10 +29,6 @@ impl From<AllocError> for ReadRefusal {
 #[derive(Clone, Copy, Debug, PartialEq, Eq)]
 pub struct Failed;
 
-/// Memory was refused.
-#[derive(Clone, Copy, Debug, PartialEq, Eq)]
-pub struct NoMemory;
-
 /// Files that are read whole, by their names.
 pub trait Files {
     /// The bytes of the files by their names, where that is told. No call changes it.

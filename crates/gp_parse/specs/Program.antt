@@ -16,11 +16,12 @@ use Rattle.gp_syntax.specs.Run.{Program}
 use Rattle.gp_syntax.specs.Plain.{plain_rule, IsPlain, of_one_rule, plain_program}
 use Rattle.gp_parse.specs.declared.program.ProgramRefusal.{ProgramRefusal}
 use Rattle.gp_parse.specs.declared.program.ProgramRefusal.TheVariants as refusals
-use Rattle.gp_values.specs.declared.memory.NoMemory.{NoMemory}
+use Rattle.gp_memory.specs.declared.refusal.NoMemory.{NoMemory}
 use Rattle.gp_parse.specs.declared.reading.ProgramTree.{ProgramTree}
 use Rattle.gp_parse.specs.Grammar.{RuleDrawing, ProgramDrawing, IsProgramDrawing}
 use Rattle.gp_parse.specs.Seen.{program_seen}
 use Rattle.gp_parse.specs.Keeps.{KeepsOrigins}
+use Rattle.gp_memory.specs.Free.{Free}
 
 -- ---- from the drawing to the declaration
 
@@ -71,7 +72,7 @@ pub record IsReadProgram (bytes : List ℕ) (p : PlainProgram) : Type 0 where
 abbrev pub ReadsProgram : List ℕ → Result PlainProgram ProgramRefusal → Type 0
 ReadsProgram bytes (Ok p) = IsReadProgram bytes p
 ReadsProgram bytes (Err refusals.NotYet) = (p : Program) → IsProgramText bytes p → ⊥
-ReadsProgram bytes (Err refusals.NoMemory) = Unit {0}
+ReadsProgram bytes (Err refusals.NoMemory) = Free
 
 -- ---- what the parts of the reader do
 
@@ -84,7 +85,7 @@ pub record IsDrawnBy (bytes : List ℕ) (p : ProgramDrawing) : Type 0 where
 abbrev pub ReadsDrawing : List ℕ → Result ProgramTree ProgramRefusal → Type 0
 ReadsDrawing bytes (Ok t) = IsDrawnBy bytes (program_seen t)
 ReadsDrawing bytes (Err refusals.NotYet) = (p : ProgramDrawing) → IsDrawnBy bytes p → ⊥
-ReadsDrawing bytes (Err refusals.NoMemory) = Unit {0}
+ReadsDrawing bytes (Err refusals.NoMemory) = Free
 
 -- the rule is that of the drawing
 pub record IsBuilt (d : RuleDrawing) (r : PlainRule) : Type 0 where

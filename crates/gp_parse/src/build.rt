@@ -14,9 +14,10 @@ ghost use Rattle.gp_parse.specs.Seen.{rule_seen};
 use crate::names::{has_name, place_of};
 use crate::reading::RuleTree;
 use gp_grammar::{EdgeTree, NodeTree, Numeral, label_list};
+use gp_memory::NoMemory;
 use gp_syntax::{PlainLeftEdge, PlainLeftNode, PlainRightEdge, PlainRightNode};
 use gp_tokens::Text;
-use gp_values::{List, NoMemory};
+use gp_values::List;
 use std::alloc::Global;
 
 fn label(alloc: Global, label: &Option<Numeral>) -> Result<List, NoMemory>

@@ -9,9 +9,9 @@ use crate::accept::is_accepted;
 use crate::build::{left_edges, left_nodes, right_edges, right_nodes};
 use crate::reading::{ProgramTree, RuleTree, read_tree};
 use gp_grammar::ReadError;
+use gp_memory::NoMemory;
 use gp_syntax::{PlainProgram, PlainRule};
 use gp_tokens::{LexFault, lex};
-use gp_values::NoMemory;
 use std::alloc::Global;
 
 /// Why a text is not run as a program.

@@ -6,6 +6,7 @@ use Rattle.gp_tokens.specs.declared.fault.LexFault.{LexFault}
 use Rattle.gp_tokens.specs.declared.fault.LexFault.TheVariants as fault
 use Rattle.gp_tokens.specs.declared.token.Token.{Token}
 use Rattle.gp_tokens.specs.Front.{front}
+use Rattle.gp_memory.specs.Free.{Free}
 
 -- the tokens, or the fault
 abbrev pub Outcome : Type 0
@@ -32,7 +33,7 @@ tokens_of text = lexed 0 0 text
 
 -- this fault is the outcome, and want of memory may come at any text
 abbrev pub Fails : LexFault → Outcome → Type 0
-Fails fault.NoMemory outcome = Unit {0}
+Fails fault.NoMemory outcome = Free
 Fails (fault.BadByte at) outcome = outcome ≡ Err (fault.BadByte at)
 Fails (fault.OpenString at) outcome = outcome ≡ Err (fault.OpenString at)
 Fails (fault.OpenComment at) outcome = outcome ≡ Err (fault.OpenComment at)

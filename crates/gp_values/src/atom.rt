@@ -4,7 +4,7 @@ ghost use Rattle.std.specs.Prelude.{◌≡◌, ◌↔◌, IfOk, IsTrue};
 ghost use Rattle.gp_values.specs.Atoms.{IsAtom};
 
 use crate::chars::Chars;
-use crate::memory::NoMemory;
+use gp_memory::NoMemory;
 use std::alloc::Global;
 use std::cmp::Ordering;
 

@@ -3,7 +3,7 @@
 ghost use Rattle.std.specs.Prelude.{◌≡◌, ◌↔◌, IfOk, IsTrue, IfSome, IfNone, OnSome};
 ghost use Rattle.gp_values.specs.Texts.{IsCharacter, IsText};
 
-use crate::memory::NoMemory;
+use gp_memory::NoMemory;
 use std::alloc::Global;
 use std::cmp::Ordering;
 use std::marker::Model;

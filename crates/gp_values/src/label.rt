@@ -7,7 +7,7 @@ ghost use Rattle.gp_values.specs.Texts.{IsBegun};
 
 use crate::atom::Atom;
 use crate::list::List;
-use crate::memory::NoMemory;
+use gp_memory::NoMemory;
 use itoa::Buffer;
 
 impl List {

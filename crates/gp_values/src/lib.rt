@@ -7,7 +7,6 @@ mod label;
 pub mod laws;
 mod list;
 mod marks;
-mod memory;
 #[cfg(test)]
 mod tests;
 
@@ -15,4 +14,3 @@ pub use atom::Atom;
 pub use chars::Chars;
 pub use list::List;
 pub use marks::{EdgeMark, NodeMark};
-pub use memory::NoMemory;

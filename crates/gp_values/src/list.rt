@@ -4,7 +4,7 @@ ghost use Rattle.std.specs.Prelude.{◌≡◌, ◌↔◌, [], ◌∷◌, ◌++�
 ghost use Rattle.gp_values.specs.Atoms.{AreAtoms};
 
 use crate::atom::Atom;
-use crate::memory::NoMemory;
+use gp_memory::NoMemory;
 use smallvec::SmallVec;
 use std::alloc::Global;
 use std::cmp::Ordering;

@@ -2,7 +2,7 @@
 
 ghost use Rattle.std.specs.Prelude.{◌≡◌, [], ◌∷◌, ◌++◌, OnOk, OnErr};
 
-use opt_system::NoMemory;
+use gp_memory::NoMemory;
 use std::alloc::Global;
 use std::marker::Model;
 

@@ -9,7 +9,8 @@ ghost use Rattle.opt_core.specs.Steps.{MayCome, Answers, AnswersLook, AnswersOff
 use crate::entries::Entries;
 use crate::event::{Ending, Event, Reply};
 use crate::shares::{are_all_quiet, empty, task_from};
-use opt_system::{Mode, NoMemory, System, Verdict};
+use gp_memory::NoMemory;
+use opt_system::{Mode, System, Verdict};
 use std::alloc::Global;
 use std::marker::Model;
 use std::snapshot::Snapshot;

@@ -3,7 +3,7 @@
 ghost use Rattle.std.specs.Prelude.{◌≡◌, ℕ, ◌<◌, ◌∷◌, [], length, slice_index_or, slice_set, false, true, OnOk, OnErr, IfSome, IfNone};
 ghost use Rattle.opt_system.specs.Row.{row, undone_of, IsLeastTrue, NoneTrue};
 
-use crate::memory::NoMemory;
+use gp_memory::NoMemory;
 use std::alloc::Global;
 use std::marker::Model;
 

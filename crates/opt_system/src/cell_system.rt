@@ -7,8 +7,8 @@ ghost use Rattle.opt_system.specs.Cells.{cells_means, IsLeastSought};
 use crate::answers::{Mode, Sought, Verdict};
 use crate::cell_row::CellRow;
 use crate::cells_goal::{CellsGoal, Never};
-use crate::memory::NoMemory;
 use crate::system::System;
+use gp_memory::NoMemory;
 
 /// The system of rows of cells. Share j of S holds the places that are j modulo S, and no match is faulty.
 #[derive(Clone, Copy, Debug)]

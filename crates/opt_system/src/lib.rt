@@ -5,14 +5,12 @@ mod answers;
 mod cell_row;
 mod cell_system;
 mod cells_goal;
-mod memory;
 mod system;
 
 pub use answers::{Mode, Sought, Verdict};
 pub use cell_row::CellRow;
 pub use cell_system::Cells;
 pub use cells_goal::{CellsGoal, Never};
-pub use memory::NoMemory;
 pub use system::System;
 
 #[cfg(test)]

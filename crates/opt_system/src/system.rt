@@ -5,7 +5,7 @@ ghost use Rattle.opt_system.specs.Meaning.{Meaning, IsLawful, applies, undone_by
 ghost use Rattle.opt_system.specs.Answers.{IsVerdictOf, IsSoughtIn};
 
 use crate::answers::{Mode, Sought, Verdict};
-use crate::memory::NoMemory;
+use gp_memory::NoMemory;
 
 /// A system of states, in which matches of goals apply.
 ///

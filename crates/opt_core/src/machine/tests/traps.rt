@@ -3,7 +3,8 @@
 ghost use Rattle.std.proofs.Common.{rules};
 ghost use Rattle.opt_core.specs.Traps.{traps_means};
 
-use opt_system::{Mode, NoMemory, Sought, System, Verdict};
+use gp_memory::NoMemory;
+use opt_system::{Mode, Sought, System, Verdict};
 
 // A state is the number of steps made.
 pub(crate) struct Traps;

@@ -1,4 +1,4 @@
-//! The refusal of memory.
+//! What is answered where memory is refused.
 
 use std::alloc::{AllocError, AllocFailed};
 
