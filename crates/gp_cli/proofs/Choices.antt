@@ -9,7 +9,7 @@ use Rattle.gp_values.specs.Graph.{Graph, IsGraph}
 use Rattle.gp_syntax.specs.declared.plain.PlainRule.{PlainRule}
 use Rattle.gp_syntax.specs.declared.plain.PlainLeftNode.{PlainLeftNode}
 use Rattle.gp_syntax.specs.declared.plain.PlainLeftEdge.{PlainLeftEdge}
-use Rattle.gp_syntax.specs.Match.{AreApart}
+use Rattle.gp_values.specs.Apart.{AreApart}
 use Rattle.gp_cli.specs.PlainMatch.{PlainMatch, IsNodeWith, IsEdgeWith}
 use Rattle.gp_cli.proofs.Constants.{got}
 use Rattle.gp_cli.specs.Search.{size_of, IsChoice, NoneBehind, LastNodeFits, LastEdgeFits}

@@ -8,7 +8,7 @@ use Rattle.gp_values.specs.Graph.{Graph, Node, Edge, HasNoEdges, node_at, edge_a
 use Rattle.gp_syntax.specs.declared.plain.PlainLeftNode.{PlainLeftNode}
 use Rattle.gp_syntax.specs.declared.plain.PlainRightNode.{PlainRightNode}
 use Rattle.gp_syntax.specs.declared.plain.PlainRightEdge.{PlainRightEdge}
-use Rattle.gp_syntax.specs.Match.{AreApart}
+use Rattle.gp_values.specs.Apart.{AreApart}
 
 -- each of these numbers is a node's, or an edge's
 pub record AllNodes (g : Graph) (ns : List ℕ) : Type 0 where

@@ -2,7 +2,7 @@
 
 ghost use Rattle.std.specs.Prelude.{◌≡◌, ◌<◌, [], ◌∷◌, length, false, Some, None, IsSome, slice_index, IfOk, IfSome, IfNone, OnOk};
 ghost use Rattle.gp_values.specs.Graph.{IsGraph, HasNoEdges, node_at, without_node};
-ghost use Rattle.gp_syntax.specs.Match.{AreApart};
+ghost use Rattle.gp_values.specs.Apart.{AreApart};
 ghost use Rattle.gp_syntax.specs.Step.{Applies, Step};
 ghost use Rattle.gp_syntax.specs.Plain.{plain_rule, IsPlain};
 ghost use Rattle.gp_cli.specs.Found.{found_of};

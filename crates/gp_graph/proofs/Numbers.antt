@@ -4,7 +4,8 @@ use Rattle.std.specs.Prelude.{◌⊎◌, ◌↔◌, Contains}
 use Rattle.std.proofs.lemmas.Bool.{eqb-true, eq-eqb}
 use Rattle.std.proofs.lemmas.List.{get_or_default}
 use Rattle.std.proofs.lemmas.List.Elements.{Contains-get_or}
-use Rattle.gp_graph.specs.Walks.{AreApart, Walks}
+use Rattle.gp_values.specs.Apart.{AreApart}
+use Rattle.gp_graph.specs.Walks.{Walks}
 
 pub here : (y : ℕ) (ys : List ℕ) (k : ℕ) → y ≡ k → Contains (y ∷ ys) k
 here y ys k e = (0, omega arith, e)

@@ -13,7 +13,8 @@ use Rattle.gp_syntax.specs.declared.kinds.VariableType.TheVariants as types
 use Rattle.gp_syntax.specs.Expression.{Variable}
 use Rattle.gp_syntax.specs.Value.{Assignment, is_of}
 use Rattle.gp_syntax.specs.Rule.{LeftNode, LeftEdge, RightNode, Found}
-use Rattle.gp_syntax.specs.Match.{MatchBy, FitsNode, FitsEdge, AreApart, setting_of}
+use Rattle.gp_values.specs.Apart.{AreApart}
+use Rattle.gp_syntax.specs.Match.{MatchBy, FitsNode, FitsEdge, setting_of}
 use Rattle.gp_syntax.specs.Step.{MakesNode, StepBy, new_before}
 use Rattle.gp_syntax.specs.Rows.{par, two_nodes, plain, edge, left, unmarked, found, ParallelEdgesMatch}
 use Rattle.gp_syntax.proofs.Small.{at_none}

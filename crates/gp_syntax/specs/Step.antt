@@ -11,7 +11,8 @@ use Rattle.gp_syntax.specs.Expression.{Expression, MarkPattern, Marked, AnyMark}
 use Rattle.gp_syntax.specs.Value.{Assignment, Setting, Valued, Value, NoValue, value_of}
 use Rattle.gp_syntax.specs.Truth.{truth_of}
 use Rattle.gp_syntax.specs.Rule.{Rule, LeftNode, RightNode, RightEdge, Found}
-use Rattle.gp_syntax.specs.Match.{MatchBy, AreApart, setting_of}
+use Rattle.gp_values.specs.Apart.{AreApart}
+use Rattle.gp_syntax.specs.Match.{MatchBy, setting_of}
 
 -- ---- applying and faulty matches
 

@@ -6,6 +6,7 @@ pub mod Compare
 pub mod CompareLaws
 pub mod Labels
 pub mod Names
+pub mod Apart
 pub mod Marks
 pub mod Graph
 pub mod Laws
