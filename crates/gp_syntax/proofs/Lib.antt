@@ -8,3 +8,4 @@ pub mod Commands
 pub mod Loops
 pub mod Declarations
 pub mod Constants
+pub mod Assignments
