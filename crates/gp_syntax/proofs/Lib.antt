@@ -9,3 +9,4 @@ pub mod Loops
 pub mod Declarations
 pub mod Constants
 pub mod Assignments
+pub mod Trees

@@ -79,8 +79,12 @@ expression_step (Expr-F.Product e ts) = product e ts
 expression_step (Expr-F.Dot e xs) = dots e xs
 expression_step (Expr-F.Join e xs) = joins e xs
 
-abbrev pub expression_of : {Ref : Type 0} → Expr Ref → Expression Ref
+unfoldable pub expression_of : {Ref : Type 0} → Expr Ref → Expression Ref
 expression_of {Ref} = fold-Expr Ref (Expression Ref) expression_step
+
+-- further operands, each with its sign
+abbrev pub operands_of : {Sign Ref : Type 0} → List (Signed Sign (Expr Ref)) → List (Signed Sign (Expression Ref))
+operands_of {Sign} {Ref} ts = map (λ (t : Signed Sign (Expr Ref)). record { sign = t.sign; operand = expression_of t.operand }) ts
 
 abbrev pub label_step : SimpleLabel-F (Expression ℕ) → Expression ℕ
 label_step (SimpleLabel-F.Number z) = Number z
@@ -91,7 +95,7 @@ label_step SimpleLabel-F.Empty = Empty
 label_step (SimpleLabel-F.Dot e xs) = dots e xs
 label_step (SimpleLabel-F.Join e xs) = joins e xs
 
-abbrev pub label_of : SimpleLabel → Expression ℕ
+unfoldable pub label_of : SimpleLabel → Expression ℕ
 label_of = fold-SimpleLabel (Expression ℕ) label_step
 
 -- ---- conditions
@@ -114,7 +118,7 @@ condition_step mark (Cond-F.And c ds) = ands c ds
 condition_step mark (Cond-F.Or c ds) = ors c ds
 
 -- mark: what the mark of an edge's label stands for
-abbrev pub condition_of : {Ref M Mark : Type 0} → (M → Mark) → Cond Ref M → Condition Ref Mark
+unfoldable pub condition_of : {Ref M Mark : Type 0} → (M → Mark) → Cond Ref M → Condition Ref Mark
 condition_of {Ref} {M} {Mark} mark = fold-Cond Ref M (Condition Ref Mark) (condition_step mark)
 
 -- true, where none is written
@@ -204,7 +208,7 @@ command_step Command-F.Fail = meant_run.Fail
 command_step Command-F.Break = meant_run.Break
 command_step (Command-F.Proc k) = meant_run.Procedure k
 
-abbrev pub command_of : Command → meant_run.Command
+unfoldable pub command_of : Command → meant_run.Command
 command_of = fold-Command meant_run.Command command_step
 
 abbrev pub program_of_tree : ProgramParts → meant_run.Program
