@@ -10,3 +10,4 @@ pub mod Declarations
 pub mod Constants
 pub mod Assignments
 pub mod Trees
+pub mod Smallest

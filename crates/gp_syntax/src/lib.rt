@@ -12,6 +12,8 @@ pub mod laws;
 mod name;
 mod plain;
 mod rule;
+#[cfg(test)]
+mod tests;
 mod tree;
 
 pub use assignment::Assignment;
