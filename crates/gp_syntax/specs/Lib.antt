@@ -8,6 +8,9 @@ pub mod Run
 pub mod Replay
 pub mod Share
 pub mod Declaration
+pub mod Typing
+pub mod Simple
+pub mod WellFormed
 pub mod Constant
 pub mod Plain
 pub mod Laws
