@@ -16,3 +16,8 @@ pub mod Constant
 pub mod Plain
 pub mod Laws
 pub mod Rows
+pub mod Tree
+pub mod Checked
+pub mod Scoped
+pub mod Images
+pub mod Assigned
