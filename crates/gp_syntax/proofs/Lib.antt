@@ -8,3 +8,5 @@ pub mod Commands
 pub mod Loops
 pub mod Declarations
 pub mod Constants
+pub mod Simples
+pub mod Kept
