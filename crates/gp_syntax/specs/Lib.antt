@@ -5,6 +5,7 @@ pub mod Rule
 pub mod Match
 pub mod Step
 pub mod Run
+pub mod Transition
 pub mod Replay
 pub mod Share
 pub mod Declaration
