@@ -10,3 +10,5 @@ pub mod Declarations
 pub mod Constants
 pub mod Assignments
 pub mod Trees
+pub mod Simples
+pub mod Kept
