@@ -11,3 +11,5 @@ pub mod Constants
 pub mod Assignments
 pub mod Trees
 pub mod Smallest
+pub mod Simples
+pub mod Kept

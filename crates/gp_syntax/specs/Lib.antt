@@ -5,9 +5,13 @@ pub mod Rule
 pub mod Match
 pub mod Step
 pub mod Run
+pub mod Transition
 pub mod Replay
 pub mod Share
 pub mod Declaration
+pub mod Typing
+pub mod Simple
+pub mod WellFormed
 pub mod Constant
 pub mod Plain
 pub mod Laws

@@ -1,6 +1,9 @@
 //! What holds of the definitions: laws, and worked examples. Each function does nothing: its contract is the law.
 
 ghost use Rattle.gp_syntax.specs.Laws.{StepIsUnique, StepWithoutVariablesIsUnique, RunsReplay, RulesOfDeclarationsFit, ConstantsHaveTheirValue, FaultlessRulesApply};
+ghost use Rattle.gp_syntax.specs.Simple.{SimpleLabelsAreThese};
+ghost use Rattle.gp_values.specs.Names.{Name};
+ghost use Rattle.std.specs.Prelude.{ℕ};
 ghost use Rattle.gp_syntax.specs.Rows.{DanglingEdgeBlocks, IsolatedNodeIsDeleted, OneEdgeIsNotTwo, ParallelEdgesMatch, RootWantsRoot, RootIsTakenAway, RootStays, AnyKeepsMark, IfTakesBack, TryTakesBack, FailedBodyIsTakenBack, BreakKeepsBody, EmptySetEndsLoop, SkipLoopStands};
 
 /// A match leads, by its assignment, to one graph.
@@ -17,6 +20,12 @@ pub fn runs_replay()
 /// The rule of a well named declaration has its nodes and edges, and names places that are there.
 pub fn rules_of_declarations_fit()
     ensures { RulesOfDeclarationsFit }
+{}
+
+/// Simple labels are the well typed ones that the static clause on left labels lets pass, by names and by places.
+pub fn simple_labels_are_these()
+    ensures names { SimpleLabelsAreThese Name }
+    ensures places { SimpleLabelsAreThese ℕ }
 {}
 
 /// Numbers, strings and lists of these have the value that is written, wherever they stand.
@@ -58,21 +67,3 @@ pub fn command_examples()
     ensures empty_set { EmptySetEndsLoop }
     ensures standing { SkipLoopStands }
 {}
-
-#[cfg(test)]
-mod tests {
-    use super::*;
-
-    #[test]
-    fn laws_can_be_called() {
-        step_is_unique();
-        runs_replay();
-        rules_of_declarations_fit();
-        constants_have_their_value();
-        faultless_rules_apply();
-        dangling_examples();
-        parallel_edge_examples();
-        root_and_mark_examples();
-        command_examples();
-    }
-}
