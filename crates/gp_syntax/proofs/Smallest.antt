@@ -5,6 +5,7 @@ use Rattle.gp_syntax.specs.Expression.{Holds}
 use Rattle.gp_syntax.specs.Rule.{Rule}
 use Rattle.gp_syntax.specs.Run.{Command, Skip, Program}
 use Rattle.gp_syntax.specs.Declaration.{Declaration, Side}
+use Rattle.gp_syntax.specs.Fault.{fault_of}
 use Rattle.gp_syntax.specs.Checked.{IsChecked}
 use Rattle.gp_syntax.specs.Scoped.{IsScoped, CallsProcedure, IsChain, ReachesProcedure, directly, further, MayBreak, breaks, seq_first, seq_second, if_condition, if_then, if_else, try_condition, try_then, try_else, or_first, or_second, procedure, calls_in, procedures_in, conditions_in}
 
@@ -15,15 +16,10 @@ abbrev pub empty_rule : Rule
 empty_rule = record { types = []; left_nodes = []; left_edges = []; right_nodes = []; right_edges = []; condition = Holds }
 
 pub empty_is_checked : IsChecked empty_rule
+unfolding fault_of
 empty_is_checked = record {
   declaration = record { name = []; variables = []; left = no_side; right = no_side; interface = []; condition = Holds };
-  no_fault = record {
-    left_small = record { nodes = omega arith; edges = omega arith };
-    right_small = record { nodes = omega arith; edges = omega arith };
-    once = record { variables = refl; left_nodes = refl; left_edges = refl; right_nodes = refl; right_edges = refl; interface = refl };
-    nodes = record { left_ends = refl; right_ends = refl; degrees = refl; tests = refl };
-    interface = record { left = refl; right = refl };
-  };
+  no_fault = refl;
   is_rule = refl;
 }
 
