@@ -10,3 +10,6 @@ pub mod Declarations
 pub mod Constants
 pub mod Simples
 pub mod Kept
+pub mod Values
+pub mod OneEdge
+pub mod Patterns

@@ -16,3 +16,4 @@ pub mod Constant
 pub mod Plain
 pub mod Laws
 pub mod Rows
+pub mod ValueRows
