@@ -13,3 +13,5 @@ pub mod Kept
 pub mod Values
 pub mod OneEdge
 pub mod Patterns
+pub mod Assignments
+pub mod Trees

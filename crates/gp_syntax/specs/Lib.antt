@@ -17,3 +17,8 @@ pub mod Plain
 pub mod Laws
 pub mod Rows
 pub mod ValueRows
+pub mod Tree
+pub mod Checked
+pub mod Scoped
+pub mod Images
+pub mod Assigned

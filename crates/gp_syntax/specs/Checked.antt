@@ -1,0 +1,10 @@
+-- What a checked rule keeps.
+use Rattle.std.specs.Prelude.{◌≡◌}
+use Rattle.gp_syntax.specs.Declaration.{Declaration, IsWellNamed, rule_of}
+use Rattle.gp_syntax.specs.Rule.{Rule}
+
+-- it is the rule of a declaration without a fault
+pub record IsChecked (r : Rule) : Type 0 where
+  pub declaration : Declaration
+  pub no_fault : IsWellNamed declaration
+  pub is_rule : r ≡ rule_of declaration
