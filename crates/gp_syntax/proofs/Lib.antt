@@ -13,3 +13,6 @@ pub mod Trees
 pub mod Smallest
 pub mod Simples
 pub mod Kept
+pub mod Values
+pub mod OneEdge
+pub mod Patterns

@@ -17,6 +17,7 @@ pub mod Plain
 pub mod Laws
 pub mod Rows
 pub mod Fault
+pub mod ValueRows
 pub mod Tree
 pub mod Checked
 pub mod Scoped

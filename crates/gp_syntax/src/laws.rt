@@ -4,7 +4,8 @@ ghost use Rattle.gp_syntax.specs.Laws.{StepIsUnique, StepWithoutVariablesIsUniqu
 ghost use Rattle.gp_syntax.specs.Simple.{SimpleLabelsAreThese};
 ghost use Rattle.gp_values.specs.Names.{Name};
 ghost use Rattle.std.specs.Prelude.{ℕ};
-ghost use Rattle.gp_syntax.specs.Rows.{DanglingEdgeBlocks, IsolatedNodeIsDeleted, OneEdgeIsNotTwo, ParallelEdgesMatch, RootWantsRoot, RootIsTakenAway, RootStays, AnyKeepsMark, IfTakesBack, TryTakesBack, FailedBodyIsTakenBack, BreakKeepsBody, EmptySetEndsLoop, SkipLoopStands};
+ghost use Rattle.gp_syntax.specs.Rows.{DanglingEdgeBlocks, IsolatedNodeIsDeleted, OneEdgeIsNotTwo, ParallelEdgesMatch, RootWantsRoot, RootIsTakenAway, RootStays, AnyKeepsMark, IfTakesBack, TryTakesBack, FailedBodyIsTakenBack, BreakKeepsBody, EmptySetEndsLoop, SkipLoopStands, ThenBegins, OrTakesEither, ProceduresRun, StringPatterns, DirectionIsKept, AnyKeepsMarkOfEdge, SharesGoByFirstNode};
+ghost use Rattle.gp_syntax.specs.ValueRows.{ArithmeticHasEnds, DivisionTruncates, FirstKindIsTold, LengthGoesByType, DegreesCountLoops, ChainsJoin, SecondPartWaits, EdgeTests, OtherTests};
 
 /// A match leads, by its assignment, to one graph.
 pub fn step_is_unique()
@@ -66,4 +67,44 @@ pub fn command_examples()
     ensures broken_body { BreakKeepsBody }
     ensures empty_set { EmptySetEndsLoop }
     ensures standing { SkipLoopStands }
+    ensures then_begins { ThenBegins }
+    ensures either { OrTakesEither }
+    ensures procedures { ProceduresRun }
+{}
+
+/// Which matches a share has.
+pub fn share_examples()
+    ensures { SharesGoByFirstNode }
+{}
+
+/// A string matched by its pattern, and what is none.
+pub fn string_pattern_examples()
+    ensures { StringPatterns }
+{}
+
+/// What a made edge keeps of the one that was found: with `(B)` its direction, with `any` its mark.
+pub fn kept_edge_examples()
+    ensures direction { DirectionIsKept }
+    ensures any { AnyKeepsMarkOfEdge }
+{}
+
+/// Integers of 128 bits, division, and the kind that is met first.
+pub fn arithmetic_examples()
+    ensures ends { ArithmeticHasEnds }
+    ensures division { DivisionTruncates }
+    ensures first_kind { FirstKindIsTold }
+{}
+
+/// Chains, lengths and degrees.
+pub fn value_examples()
+    ensures chains { ChainsJoin }
+    ensures lengths { LengthGoesByType }
+    ensures degrees { DegreesCountLoops }
+{}
+
+/// What conditions test, and what they value.
+pub fn condition_examples()
+    ensures second_part { SecondPartWaits }
+    ensures edges { EdgeTests }
+    ensures others { OtherTests }
 {}
