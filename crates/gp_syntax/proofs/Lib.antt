@@ -13,3 +13,7 @@ pub mod Trees
 pub mod Smallest
 pub mod Simples
 pub mod Kept
+pub mod Told
+pub mod CheckedLabels
+pub mod CheckedNames
+pub mod CheckedRules
