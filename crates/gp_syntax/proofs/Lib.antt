@@ -16,3 +16,7 @@ pub mod Kept
 pub mod Values
 pub mod OneEdge
 pub mod Patterns
+pub mod Told
+pub mod CheckedLabels
+pub mod CheckedNames
+pub mod CheckedRules

@@ -1,10 +1,10 @@
 -- The rule without nodes, and a program that only skips.
-use Rattle.std.proofs.Common.{◌≡◌, ℕ, zero, suc, ◌<◌, ◌≤◌, List, [], ◌∷◌, length, refl, sym, ap, subst, arith}
-use Rattle.std.specs.Prelude.{Option, Some, None, slice_get, Contains}
+use Rattle.std.proofs.Common.{◌≡◌, ℕ, zero, suc, ◌<◌, ◌≤◌, List, [], ◌∷◌, length, refl, sym, subst, arith}
+use Rattle.std.specs.Prelude.{Some, None, Contains}
 use Rattle.gp_syntax.specs.Expression.{Holds}
 use Rattle.gp_syntax.specs.Rule.{Rule}
 use Rattle.gp_syntax.specs.Run.{Command, Skip, Program}
-use Rattle.gp_syntax.specs.Declaration.{Declaration, Side}
+use Rattle.gp_syntax.specs.Declaration.{Side}
 use Rattle.gp_syntax.specs.Fault.{fault_of}
 use Rattle.gp_syntax.specs.Checked.{IsChecked}
 use Rattle.gp_syntax.specs.Scoped.{IsScoped, CallsProcedure, IsChain, ReachesProcedure, directly, further, MayBreak, breaks, seq_first, seq_second, if_condition, if_then, if_else, try_condition, try_then, try_else, or_first, or_second, procedure, calls_in, procedures_in, conditions_in}

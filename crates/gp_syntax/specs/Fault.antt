@@ -2,9 +2,9 @@
 -- conditions on rule declarations). Where a clause names what breaks it, that is the first such name in text order: the
 -- variables; the left side, its nodes, then its edges, each with its name, its ends, its label and its mark; the right
 -- side; the interface; the condition.
-use Rattle.std.specs.Prelude.{◌≡◌, ℕ, nat_lt, nat_le, ◌+◌, ◌&&◌, ◌||◌, not, Bool, true, false, if◌then◌else◌, List, [], ◌∷◌, ◌++◌, map, flat_map, length, codes, Option, Some, None, option_map, is_some}
+use Rattle.std.specs.Prelude.{nat_lt, nat_le, ◌+◌, ◌&&◌, ◌||◌, not, Bool, true, false, if◌then◌else◌, List, [], ◌∷◌, ◌++◌, map, flat_map, length, codes, Option, Some, None, option_map, is_some}
 use Rattle.std.specs.Option.{option_or, option_map_or}
-use Rattle.std.specs.List.{list_all, list_any}
+use Rattle.std.specs.List.{list_all}
 use Rattle.gp_values.specs.Names.{Name, same_name, has_name, place_of, first_doubled, first_unknown}
 use Rattle.gp_values.specs.Marks.{node_mark_named, edge_mark_named}
 use Rattle.gp_syntax.specs.declared.kinds.VariableType.{VariableType}

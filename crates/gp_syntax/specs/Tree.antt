@@ -1,5 +1,5 @@
 -- What the trees of programs and rules stand for. A chain of one operator groups from the left.
-use Rattle.std.specs.Prelude.{ℕ, List, [], ◌∷◌, map, flat_map, fold, Option, Some, None}
+use Rattle.std.specs.Prelude.{ℕ, List, ◌∷◌, map, flat_map, fold, Option, Some, None}
 use Rattle.gp_values.specs.Names.{Name}
 use Rattle.gp_syntax.specs.declared.expression.Signed.{Signed}
 use Rattle.gp_syntax.specs.declared.expression.SumSign.{SumSign}
