@@ -16,5 +16,5 @@ pub use cut::lex;
 pub use fault::LexFault;
 pub use keyword::{Keyword, RESERVED, is_reserved};
 pub use line::line_of_token;
-pub use text::Text;
+pub use text::{Slice, Text};
 pub use token::{Kind, Token};
