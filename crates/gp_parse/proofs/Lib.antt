@@ -1,4 +1,3 @@
-pub mod Items
 pub mod Laws
 pub mod Accepts
 pub mod Builds

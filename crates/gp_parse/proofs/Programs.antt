@@ -16,8 +16,8 @@ use Rattle.gp_syntax.specs.Plain.{left_edge_of, right_node_of, right_edge_of, pl
 use Rattle.gp_syntax.proofs.Declarations.{from_map, fits_declaration}
 use Rattle.gp_parse.specs.declared.program.ProgramRefusal.{ProgramRefusal}
 use Rattle.gp_parse.specs.declared.program.ProgramRefusal.TheVariants as refusals
-use Rattle.gp_parse.specs.Grammar.{ProgramDrawing, IsProgramDrawing}
-use Rattle.gp_parse.specs.Reading.{program}
+use Rattle.gp_parse.specs.Grammar.{ProgramDrawing, IsProgramDrawing, program}
+use Rattle.gp_grammar.specs.inside.Reading.{reader_of}
 use Rattle.gp_parse.specs.Keeps.{HasOrigin, KeepsOrigins}
 use Rattle.gp_parse.specs.Program.{declaration_of, IsProgramText, IsReadProgram, IsDrawnBy, IsBuilt, ReadsProgram, ReadsDrawing}
 use Rattle.gp_parse.specs.Accepted.{is_accepted}
@@ -51,16 +51,16 @@ something_left b [] e h n = absurd cc
 something_left b (t ∷ ts) e h n = absurd cc
 
 -- what the tokens are read as is what the text is drawn by
-read_again : (bytes : List ℕ) (tokens : List Token) (p : ProgramDrawing) → tokens_of bytes ≡ Ok tokens → IsDrawnBy bytes p → program tokens ≡ Some (p, [])
-read_again bytes tokens p e d = subst (λ (ts : List Token). program ts ≡ Some (p, [])) (same_tokens bytes d.tokens tokens d.lexed e) (program_again d.tokens [] p d.shape tt)
+read_again : (bytes : List ℕ) (tokens : List Token) (p : ProgramDrawing) → tokens_of bytes ≡ Ok tokens → IsDrawnBy bytes p → reader_of program tokens ≡ Some (p, [])
+read_again bytes tokens p e d = subst (λ (ts : List Token). reader_of program ts ≡ Some (p, [])) (same_tokens bytes d.tokens tokens d.lexed e) (program_again d.tokens [] p d.shape tt)
 
-pub drawn : (bytes : List ℕ) (tokens rest : List Token) (p : ProgramDrawing) → tokens_of bytes ≡ Ok tokens → program tokens ≡ Some (p, rest) → rest ≡ [] → IsDrawnBy bytes p
+pub drawn : (bytes : List ℕ) (tokens rest : List Token) (p : ProgramDrawing) → tokens_of bytes ≡ Ok tokens → reader_of program tokens ≡ Some (p, rest) → rest ≡ [] → IsDrawnBy bytes p
 drawn bytes tokens rest p e h n = record { tokens = tokens; lexed = e; shape = subst (λ (ts : List Token). IsProgramDrawing tokens ts p) n (program_sound tokens (p, rest) h) }
 
-pub left_over : (bytes : List ℕ) (tokens rest : List Token) (p q : ProgramDrawing) → tokens_of bytes ≡ Ok tokens → program tokens ≡ Some (p, rest) → rest ≢ [] → IsDrawnBy bytes q → ⊥
+pub left_over : (bytes : List ℕ) (tokens rest : List Token) (p q : ProgramDrawing) → tokens_of bytes ≡ Ok tokens → reader_of program tokens ≡ Some (p, rest) → rest ≢ [] → IsDrawnBy bytes q → ⊥
 left_over bytes tokens rest p q e h n d = n (same_rest (p, rest) (q, []) (sym h ∙ read_again bytes tokens q e d))
 
-pub unread : (bytes : List ℕ) (tokens : List Token) (q : ProgramDrawing) → tokens_of bytes ≡ Ok tokens → program tokens ≡ None → IsDrawnBy bytes q → ⊥
+pub unread : (bytes : List ℕ) (tokens : List Token) (q : ProgramDrawing) → tokens_of bytes ≡ Ok tokens → reader_of program tokens ≡ None → IsDrawnBy bytes q → ⊥
 unread bytes tokens q e h d = let k = read_again bytes tokens q e d in absurd cc
 
 pub no_tokens : (bytes : List ℕ) (fault : LexFault) (q : ProgramDrawing) → tokens_of bytes ≡ Err fault → IsDrawnBy bytes q → ⊥

@@ -3,11 +3,12 @@ use Rattle.std.specs.Prelude.{◌≡◌, ℕ, ℤ, true, false, List, [], map, c
 use Rattle.gp_values.specs.Names.{Name}
 use Rattle.gp_tokens.specs.declared.token.Token.{Token}
 use Rattle.gp_tokens.specs.Lexed.{tokens_of}
-use Rattle.gp_grammar.specs.declared.graph.Numeral.{Numeral}
-use Rattle.gp_grammar.specs.declared.graph.NodeTree.{NodeTree}
-use Rattle.gp_grammar.specs.declared.graph.EdgeTree.{EdgeTree}
-use Rattle.gp_grammar.specs.Graph.{Drawing}
-use Rattle.gp_grammar.specs.Labels.{integer_of, has_labels}
+use Rattle.gp_grammar.specs.declared.numeral.Numeral.{Numeral}
+use Rattle.gp_parse.specs.declared.graph.NodeTree.{NodeTree}
+use Rattle.gp_parse.specs.declared.graph.EdgeTree.{EdgeTree}
+use Rattle.gp_parse.specs.Graph.{Drawing}
+use Rattle.gp_parse.specs.Labels.{has_labels}
+use Rattle.gp_grammar.specs.Numerals.{integer_of}
 use Rattle.gp_syntax.specs.declared.plain.PlainRule.{PlainRule}
 use Rattle.gp_syntax.specs.declared.plain.PlainProgram.{PlainProgram}
 use Rattle.gp_syntax.specs.Expression.{Expression, Number, Empty, Holds}

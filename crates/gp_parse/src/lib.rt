@@ -3,6 +3,7 @@
 
 mod accept;
 mod build;
+mod graph;
 mod names;
 mod program;
 mod reading;

@@ -8,7 +8,7 @@ ghost use Rattle.gp_parse.specs.Seen.{rule_seen, program_seen};
 use crate::accept::is_accepted;
 use crate::build::{left_edges, left_nodes, right_edges, right_nodes};
 use crate::reading::{ProgramTree, RuleTree, read_tree};
-use gp_grammar::ReadError;
+use gp_grammar::{ReadError, Tokens};
 use gp_memory::NoMemory;
 use gp_syntax::{PlainProgram, PlainRule};
 use gp_tokens::{LexFault, lex};
@@ -32,8 +32,9 @@ fn read_drawing(alloc: Global, text: &[u8]) -> Result<ProgramTree, ProgramRefusa
         Err(LexFault::NoMemory) => return Err(ProgramRefusal::NoMemory),
         Err(_) => return Err(ProgramRefusal::NotYet),
     };
-    match read_tree(alloc, &tokens) {
-        Ok((tree, rest)) if rest.is_empty() => Ok(tree),
+    let mut cursor = Tokens::new(alloc, &tokens);
+    match read_tree(&mut cursor) {
+        Ok(tree) if cursor.count() == 0 => Ok(tree),
         Ok(_) => Err(ProgramRefusal::NotYet),
         Err(ReadError::NoMemory) => Err(ProgramRefusal::NoMemory),
         Err(ReadError::Syntax(_)) => Err(ProgramRefusal::NotYet),
