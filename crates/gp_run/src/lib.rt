@@ -1,0 +1,4 @@
+//! Runs of programs.
+#![tactic(auto)]
+
+pub mod laws;
