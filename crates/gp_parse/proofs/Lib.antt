@@ -2,3 +2,4 @@ pub mod Laws
 pub mod Accepts
 pub mod Builds
 pub mod Programs
+pub mod Depths

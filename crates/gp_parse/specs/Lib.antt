@@ -1,3 +1,4 @@
+pub mod Depth
 pub mod Graph
 pub mod Labels
 pub mod Grammar
@@ -7,3 +8,4 @@ pub mod Accepted
 pub mod Build
 pub mod Keeps
 pub mod Program
+pub mod inside

@@ -1,7 +1,7 @@
 //! Program texts.
 
 ghost use Rattle.std.specs.Prelude.{◌≡◌, true};
-ghost use Rattle.gp_parse.specs.Program.{ReadsProgram, ReadsDrawing, BuildsRule, IsAccepted};
+ghost use Rattle.gp_parse.specs.Program.{ReadsProgram, ReadsDrawing, ReadsTokens, BuildsRule, IsAccepted};
 ghost use Rattle.gp_parse.specs.Accepted as spec;
 ghost use Rattle.gp_parse.specs.Seen.{rule_seen, program_seen};
 
@@ -11,7 +11,7 @@ use crate::reading::{ProgramTree, RuleTree, read_tree};
 use gp_grammar::{ReadError, Tokens};
 use gp_memory::NoMemory;
 use gp_syntax::{PlainProgram, PlainRule};
-use gp_tokens::{LexFault, lex};
+use gp_tokens::{LexFault, Token, lex};
 use std::alloc::Global;
 
 /// Why a text is not run as a program.
@@ -32,7 +32,14 @@ fn read_drawing(alloc: Global, text: &[u8]) -> Result<ProgramTree, ProgramRefusa
         Err(LexFault::NoMemory) => return Err(ProgramRefusal::NoMemory),
         Err(_) => return Err(ProgramRefusal::NotYet),
     };
-    let mut cursor = Tokens::new(alloc, &tokens);
+    tree_of_tokens(alloc, &tokens)
+}
+
+// The tree of all tokens.
+fn tree_of_tokens(alloc: Global, tokens: &[Token<'_>]) -> Result<ProgramTree, ProgramRefusal>
+    ensures { ReadsTokens tokens.now result }
+{
+    let mut cursor = Tokens::new(alloc, tokens);
     match read_tree(&mut cursor) {
         Ok(tree) if cursor.count() == 0 => Ok(tree),
         Ok(_) => Err(ProgramRefusal::NotYet),
