@@ -1,4 +1,4 @@
--- The turns of the loops that make a graph.
+-- The loops that make a graph, one item after the other.
 use Rattle.std.proofs.Common.{◌≡◌, ℕ, suc, ◌+◌, ◌<◌, ◌≤◌, List, ◌∷◌, length, get_or, drop, Option, Some, refl, sym, ap, ◌∙◌, add-one, drop-cons}
 use Rattle.std.proofs.Math.ListN.{drop_of_length-le}
 use Rattle.gp_grammar.specs.inside.Reading.{◌>>=◌}

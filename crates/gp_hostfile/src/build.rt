@@ -14,7 +14,11 @@ use gp_values::{Atom, List};
 use std::alloc::Global;
 
 /// The graph of a tree, by the names of its nodes. Where the tree has no fault, only memory can be wanting.
-pub(crate) fn build(alloc: Global, tree: &HostTree<'_>, nodes: &NameTable) -> Result<Graph, HostFault>
+pub(crate) fn build(
+    alloc: Global,
+    tree: &HostTree<'_>,
+    nodes: &NameTable,
+) -> Result<Graph, HostFault>
     requires { nodes.now ≡ node_names (tree_in tree.now) }
     ensures made { Makes (λ g. g.graph) result (graph_made nodes.now (tree_in tree.now)) }
     ensures graph { IfOk result (λ g. IsGraph g.graph) }

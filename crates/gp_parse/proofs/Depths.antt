@@ -8,7 +8,7 @@ use Rattle.gp_parse.specs.Depth.{Nesting, behind, outside, depth, IsTooDeep, IsS
 use Rattle.gp_parse.specs.inside.Deep.{too_deep_from, GivesPlace}
 
 -- the depth at the last of these tokens, behind tokens of this nesting
-depth_behind : Nesting → List Token → ℕ
+abbrev depth_behind : Nesting → List Token → ℕ
 depth_behind n ts = sum (fold behind n ts).still + (fold behind n ts).run.len
 
 record FirstDeep (n : Nesting) (ts : List Token) (k : ℕ) : Type 0 where
@@ -43,7 +43,7 @@ found n (t ∷ ts) k h = by (nat_lt 64 (sum (behind n t).still + (behind n t).ru
 
 none_found : (n : Nesting) (ts : List Token) → too_deep_from n ts ≡ None → (j : ℕ) → j < length ts → depth_behind n (take (suc j) ts) ≤ 64
 none_found n [] h j lt = absurd (omega arith)
-none_found n (t ∷ ts) h = by (nat_lt 64 (sum (behind n t).still + (behind n t).run.len)) refl h (λ e. none_found (behind n t) ts e)
+none_found n (t ∷ ts) h j lt = by (nat_lt 64 (sum (behind n t).still + (behind n t).run.len)) refl h (λ e i l. none_found (behind n t) ts e i l) j lt
   where
     unmapped : (o : Option ℕ) → option_map suc o ≡ None → o ≡ None
     unmapped None h = refl

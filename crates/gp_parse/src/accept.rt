@@ -8,9 +8,9 @@ ghost use Rattle.gp_parse.specs.Ends.{end_names};
 ghost use Rattle.gp_parse.specs.Accepted as spec;
 ghost use Rattle.gp_parse.specs.Seen.{graph_seen, rule_seen, program_seen};
 
+use crate::graph::{EdgeTree, GraphTree, NodeTree};
 use crate::names::{are_known, ends_are_known, have_names_once};
 use crate::reading::{ProgramTree, RuleTree};
-use crate::graph::{EdgeTree, GraphTree, NodeTree};
 use gp_grammar::Numeral;
 
 /// The greatest numbers of nodes and of edges of a side.

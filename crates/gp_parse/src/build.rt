@@ -11,9 +11,9 @@ ghost use Rattle.gp_parse.specs.Build as spec;
 ghost use Rattle.gp_parse.specs.Keeps.{HasOrigin, KeepsOrigins};
 ghost use Rattle.gp_parse.specs.Seen.{rule_seen};
 
+use crate::graph::{EdgeTree, NodeTree, label_list};
 use crate::names::{has_name, place_of};
 use crate::reading::RuleTree;
-use crate::graph::{EdgeTree, NodeTree, label_list};
 use gp_grammar::Numeral;
 use gp_memory::NoMemory;
 use gp_syntax::{PlainLeftEdge, PlainLeftNode, PlainRightEdge, PlainRightNode};

@@ -95,7 +95,10 @@ fn read_main(tokens: &mut Tokens<'_, '_>) -> Result<PlainMain, ReadError>
 pub(crate) fn read_tree(tokens: &mut Tokens<'_, '_>) -> Result<ProgramTree, ReadError>
     ensures { ReadsAs program_seen (reader_of spec.program tokens.old) result tokens.new }
 {
-    let name = tokens.expect(Want::ProcedureName)?.text.copy(tokens.alloc())?;
+    let name = tokens
+        .expect(Want::ProcedureName)?
+        .text
+        .copy(tokens.alloc())?;
     tokens.expect(Want::Kind(Kind::Equal))?;
     let call = tokens.expect(Want::RuleName)?.text.copy(tokens.alloc())?;
     let main = read_main(tokens)?;
