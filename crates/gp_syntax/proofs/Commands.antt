@@ -5,8 +5,8 @@ use Rattle.gp_values.specs.declared.marks.NodeMark.TheVariants as node_marks
 use Rattle.gp_syntax.specs.declared.kinds.VariableType.TheVariants as types
 use Rattle.gp_syntax.specs.Expression.{Marked, Variable, Number, Plus}
 use Rattle.gp_syntax.specs.Step.{Step}
-use Rattle.gp_syntax.specs.Run.{Run, Call, Stepped, Gives, Fails, call_steps, call_fails, seq, if_then, try_else, loop_stands, loop_goes_on, loop_ends, loop_breaks, skips, fails, breaks}
-use Rattle.gp_syntax.specs.Rows.{plain, del, inc, program, start, raised, no_nodes, at_first, IfTakesBack, TryTakesBack, FailedBodyIsTakenBack, BreakKeepsBody, EmptySetEndsLoop, SkipLoopStands}
+use Rattle.gp_syntax.specs.Run.{Run, Call, Stepped, Gives, Fails, call_steps, call_fails, seq, if_then, try_then, try_else, or_first, or_second, procedure, loop_stands, loop_goes_on, loop_ends, loop_breaks, skips, fails, breaks}
+use Rattle.gp_syntax.specs.Rows.{plain, del, inc, program, start, raised, no_nodes, at_first, IfTakesBack, TryTakesBack, FailedBodyIsTakenBack, BreakKeepsBody, EmptySetEndsLoop, SkipLoopStands, raised_twice, ThenBegins, OrTakesEither, ProceduresRun}
 use Rattle.gp_syntax.proofs.Small.{step_deleted, step_kept, blocked_nothing}
 use Rattle.gp_syntax.proofs.Blocked.{red_blocked}
 
@@ -53,3 +53,19 @@ empty_set_ends_loop = loop_ends (call_fails refl (blocked_nothing program.rules 
 -- after a turn that does nothing the next one is due
 pub skip_loop_stands : SkipLoopStands
 skip_loop_stands = loop_goes_on skips loop_stands refl refl
+
+-- `inc` once more
+raises_again : Step inc raised (at_first 1) raised_twice
+raises_again = step_kept types.Int (Marked node_marks.None) false (Plus (Variable 0) (Number (pos 1))) (Marked node_marks.None) false (plain (pos 2)) (plain (pos 3)) 1 refl refl (λ h. h) refl refl refl
+
+second_call : Run program (Call 1) raised [] (Stepped (at_first 1) ∷ []) (Gives raised_twice)
+second_call = call_steps refl (record { in_set = (0, let l : 0 < 1 = omega arith in l, refl); rule = inc; is_rule = refl; step = raises_again })
+
+pub then_begins : ThenBegins
+then_begins = record { of_try = try_then inc_call second_call refl refl; of_if = if_then inc_call inc_call refl refl }
+
+pub or_takes_either : OrTakesEither
+or_takes_either = record { first = or_first skips refl; second = or_second fails refl }
+
+pub procedures_run : ProceduresRun
+procedures_run = record { called = procedure refl inc_call; breaks = loop_breaks (procedure refl (seq skips breaks refl refl)) refl }

@@ -8,3 +8,15 @@ pub mod Commands
 pub mod Loops
 pub mod Declarations
 pub mod Constants
+pub mod Assignments
+pub mod Trees
+pub mod Smallest
+pub mod Simples
+pub mod Kept
+pub mod Values
+pub mod OneEdge
+pub mod Patterns
+pub mod Told
+pub mod CheckedLabels
+pub mod CheckedNames
+pub mod CheckedRules

@@ -3,7 +3,7 @@ use Rattle.std.proofs.Common.{◌≡◌, ℕ, Bool, List, [], ◌∷◌, ◌++�
 use Rattle.gp_values.specs.Graph.{Graph}
 use Rattle.gp_syntax.specs.Rule.{Found}
 use Rattle.gp_syntax.specs.Step.{CallsTo, Blocked}
-use Rattle.gp_syntax.specs.Run.{Command, Call, Loop, Program, Item, Stepped, Turned, Back, Ending, Gives, Fails, Breaks, At, AtTurn, undone, Stands, at_call, Run, call_steps, call_fails, call_stands, loop_stands, loop_goes_on, loop_ends, loop_breaks, loop_body_stands}
+use Rattle.gp_syntax.specs.Run.{Command, Call, Loop, Program, Item, Stepped, Turned, Back, Ending, Gives, At, AtTurn, at_call, Run, call_steps, call_fails, call_stands, loop_stands, loop_goes_on, loop_ends, loop_body_stands}
 
 -- After these picks and items of the loop `p!` it stands at a turn with the graph h: whatever it does from there, it
 -- does from g.
@@ -26,18 +26,6 @@ one_turn {program} {p} {g} {h} {k} {a} {b} {t} {s} f r = record {
 pub one_step : {program : Program} {c : ℕ} {set : List ℕ} {g h k : Graph} {m : Found} {a : List Bool} {t : List Item} → SoFar program (Call c) g a t h → slice_get program.sets c ≡ Some set → CallsTo program.rules set h m k →
     SoFar program (Call c) g a (t ++ Turned ∷ Stepped m ∷ []) k
 one_step {program} {c} {g = g} {k = k} {m = m} {a = a} {t = t} f s h = subst (λ (z : List Bool). SoFar program (Call c) g z (t ++ Turned ∷ Stepped m ∷ []) k) (append-nil a) (one_turn f (call_steps s h))
-
--- the body fails: the loop ends with the graph from before it
-pub body_failed : {program : Program} {p : Command} {g h k : Graph} {a b : List Bool} {t s : List Item} → SoFar program p g a t h → Run program p h b s (Fails k) → Run program (Loop p) g (a ++ b) (t ++ Turned ∷ undone s) (Gives h)
-body_failed {b = b} {s = s} f r = f.onward b _ (Turned ∷ undone s) _ _ refl refl (loop_ends r refl)
-
--- the body breaks: the loop ends with the graph that was reached
-pub body_broke : {program : Program} {p : Command} {g h k : Graph} {a b : List Bool} {t s : List Item} → SoFar program p g a t h → Run program p h b s (Breaks k) → Run program (Loop p) g (a ++ b) (t ++ Turned ∷ s) (Gives k)
-body_broke {b = b} {s = s} f r = f.onward b _ (Turned ∷ s) _ _ refl refl (loop_breaks r refl)
-
--- the body stands before a call or a turn
-pub body_stands : {program : Program} {p : Command} {g h : Graph} {a b : List Bool} {t s : List Item} {x : Ending} → SoFar program p g a t h → Run program p h b s x → Stands x → Run program (Loop p) g (a ++ b) (t ++ Turned ∷ s) x
-body_stands {b = b} {s = s} f r z = f.onward b _ (Turned ∷ s) _ _ refl refl (loop_body_stands r z refl)
 
 -- the loop stands before its next turn
 pub at_turn_now : {program : Program} {p : Command} {g h : Graph} {a : List Bool} {t : List Item} → SoFar program p g a t h → Run program (Loop p) g a t (AtTurn h)

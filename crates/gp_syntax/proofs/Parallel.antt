@@ -23,13 +23,13 @@ use Rattle.gp_syntax.proofs.Blocked.{between}
 -- ---- lists and maps of two
 
 -- what holds of both elements, at their places, holds at each place
-at_both : {X : Type 0} (P : ℕ → X → Type 0) (x y : X) → P 0 x → P 1 y → (i : ℕ) (z : X) → slice_get (x ∷ y ∷ []) i ≡ Some z → P i z
+pub at_both : {X : Type 0} (P : ℕ → X → Type 0) (x y : X) → P 0 x → P 1 y → (i : ℕ) (z : X) → slice_get (x ∷ y ∷ []) i ≡ Some z → P i z
 at_both P x y h k zero z e = subst (P 0) (same_Some x z e) h
 at_both P x y h k (suc zero) z e = subst (P 1) (same_Some y z e) k
 at_both P x y h k (suc (suc i)) z e = absurd (none-some z e)
 
 -- 0 and 1 are apart
-two_apart : AreApart (0 ∷ 1 ∷ [])
+pub two_apart : AreApart (0 ∷ 1 ∷ [])
 two_apart zero zero l h e = omega arith
 two_apart zero (suc zero) l h e = cc
 two_apart zero (suc (suc j)) l h e = omega arith
@@ -38,15 +38,15 @@ two_apart (suc i) (suc zero) l h e = omega arith
 two_apart (suc i) (suc (suc j)) l h e = omega arith
 
 -- what stands at 0
-at_first_of_two : {X : Type 0} (x y : X) → map.get (map.from_sorted {R = nat_cmp} ((0, x) ∷ (1, y) ∷ [])) 0 ≡ Some x
+pub at_first_of_two : {X : Type 0} (x y : X) → map.get (map.from_sorted {R = nat_cmp} ((0, x) ∷ (1, y) ∷ [])) 0 ≡ Some x
 at_first_of_two x y = map.get-from_sorted nat_cmp ((0, x) ∷ (1, y) ∷ []) 0 tt
 
 -- what stands at 1
-at_second_of_two : {X : Type 0} (x y : X) → map.get (map.from_sorted {R = nat_cmp} ((0, x) ∷ (1, y) ∷ [])) 1 ≡ Some y
+pub at_second_of_two : {X : Type 0} (x y : X) → map.get (map.from_sorted {R = nat_cmp} ((0, x) ∷ (1, y) ∷ [])) 1 ≡ Some y
 at_second_of_two x y = map.get-from_sorted nat_cmp ((0, x) ∷ (1, y) ∷ []) 1 tt
 
 -- and nowhere else does anything
-past_two : {X : Type 0} (x y : X) (n : ℕ) → (0 ≡ n → ⊥) → (1 ≡ n → ⊥) → map.get (map.from_sorted {R = nat_cmp} ((0, x) ∷ (1, y) ∷ [])) n ≡ None
+pub past_two : {X : Type 0} (x y : X) (n : ℕ) → (0 ≡ n → ⊥) → (1 ≡ n → ⊥) → map.get (map.from_sorted {R = nat_cmp} ((0, x) ∷ (1, y) ∷ [])) n ≡ None
 past_two x y n a b = map.get-from_sorted nat_cmp ((0, x) ∷ (1, y) ∷ []) n tt ∙ grind (arith, common_steps, unsigned_tied n 0, unsigned_tied n 1)
 
 -- ---- the match
@@ -116,7 +116,7 @@ no_edges : (e : ℕ) → edge_at left_over e ≡ None
 no_edges e = map.get-from_sorted nat_cmp [] e tt
 
 -- a number that is neither 0 nor 1
-not_in : (n : ℕ) → (Contains (0 ∷ 1 ∷ []) n → ⊥) → (0 ≡ n → ⊥) × (1 ≡ n → ⊥)
+pub not_in : (n : ℕ) → (Contains (0 ∷ 1 ∷ []) n → ⊥) → (0 ≡ n → ⊥) × (1 ≡ n → ⊥)
 not_in n out = (λ e. out (0, (let l : 0 < 2 = omega arith in l), e), λ e. out (1, (let l : 1 < 2 = omega arith in l), e))
 
 -- the images of the interface are those of the match
@@ -129,7 +129,7 @@ new_places : (j : ℕ) (q : RightNode) → slice_get par.right_nodes j ≡ Some 
 new_places = at_both (λ j z. z.origin ≡ None → slice_index (0 ∷ 1 ∷ []) j ≡ 2 + new_before par j) _ _ (λ o. absurd (none-some 0 (sym o))) (λ o. absurd (none-some 1 (sym o)))
 
 -- a node that is no root stays none
-no_root : (o : Option Node) (x : Node) → o ≡ Some x → x.root ≡ false → false ≡ (option_map_or (λ (y : Node). y.root) o false && true)
+pub no_root : (o : Option Node) (x : Node) → o ≡ Some x → x.root ≡ false → false ≡ (option_map_or (λ (y : Node). y.root) o false && true)
 no_root o x e r = sym (ap (λ z. option_map_or (λ (y : Node). y.root) z false && true) e ∙ ap (λ b. b && true) r)
 
 -- both nodes are made as they were

@@ -1,22 +1,23 @@
 -- Matches and steps in graphs of one node and two.
-use Rattle.std.proofs.Common.{◌≡◌, ℕ, zero, suc, ◌+◌, ◌<◌, Bool, true, false, List, [], ◌∷◌, slice_get, slice_index, slice_index_or, get_or, Option, Some, None, IsSomeAnd, Contains, refl, sym, ap, subst, ◌∙◌, arith}
+use Rattle.std.proofs.Common.{◌≡◌, ℕ, zero, suc, ◌+◌, ◌<◌, Bool, true, false, List, [], ◌∷◌, length, slice_get, slice_index, slice_index_or, get_or, Option, Some, None, IsSomeAnd, Contains, refl, sym, ap, subst, ◌∙◌, arith}
 use Rattle.std.proofs.lemmas.Grind.{common_steps}
 use Rattle.std.proofs.lemmas.Option.{same_Some, none-some}
 use Rattle.std.specs.Ordering.{nat_cmp}
 use Rattle.std.specs.Cmp.{unsigned_tied}
 use Rattle.std.specs.Option.{option_map, option_map_or}
 use Rattle.std.specs.FinMap as map
+use Rattle.gp_values.specs.declared.atom.Atom.{Atom}
 use Rattle.gp_values.specs.declared.marks.NodeMark.{NodeMark}
 use Rattle.gp_values.specs.declared.marks.NodeMark.TheVariants as node_marks
 use Rattle.gp_values.specs.Graph.{Graph, Node, Edge, node_at, edge_at}
 use Rattle.gp_syntax.specs.declared.kinds.VariableType.{VariableType}
 use Rattle.gp_syntax.specs.declared.kinds.VariableType.TheVariants as types
-use Rattle.gp_syntax.specs.Expression.{Expression, Variable, Holds, MarkPattern}
+use Rattle.gp_syntax.specs.Expression.{Expression, Variable, MarkPattern}
 use Rattle.gp_syntax.specs.Value.{Setting, Value, Assignment, is_of, value_of}
 use Rattle.gp_syntax.specs.Rule.{Rule, LeftNode, LeftEdge, RightNode, Found}
 use Rattle.gp_syntax.specs.Match.{MatchBy, FitsEdge, FitsNode, Agrees, setting_of}
 use Rattle.gp_syntax.specs.Step.{MakesNode, Step, Blocked, kind_or, new_before, made_mark, made_root}
-use Rattle.gp_syntax.specs.Rows.{one_node, no_nodes, left, right, at_first}
+use Rattle.gp_syntax.specs.Rows.{one_node, no_nodes, one_left, left, right, at_first}
 
 -- ---- lists of no element and of one
 
@@ -85,38 +86,43 @@ image_fits {r} {g} {m} {a} i p h e = go (node_at g (slice_index m.nodes i)) refl
 
 -- ---- a rule of one left node
 
--- with the label of its only variable, on node 0
-pub match_one : (t : VariableType) (mark : MarkPattern NodeMark) (root : Bool) (qs : List RightNode) (x : Node) (k : ℕ) →
-    is_of t x.label ≡ true → Agrees mark x.mark → (root ≡ true → x.root ≡ true) →
-    MatchBy (record { types = t ∷ []; left_nodes = left (Variable 0) mark root ∷ []; left_edges = []; right_nodes = qs; right_edges = []; condition = Holds }) (one_node x) (at_first k) (x.label ∷ [])
-match_one t mark root qs x k typed agrees rooted = record {
+-- the value of its only variable is of its type
+pub one_typed : (t : VariableType) (v : List Atom) → is_of t v ≡ true → (i : ℕ) → i < 1 → is_of (get_or (t ∷ []) i types.List) (get_or (v ∷ []) i []) ≡ true
+one_typed t v typed zero l = typed
+one_typed t v typed (suc i) l = absurd (omega arith)
+
+-- what its label is valued over, on node 0
+abbrev pub there : List VariableType → Assignment → Node → Setting
+there ts a x = record { types = ts; assigned = a; images = 0 ∷ []; graph = one_node x }
+
+abbrev InTypes : List VariableType → Assignment → Type 0
+InTypes ts a = (i : ℕ) → i < length ts → is_of (get_or ts i types.List) (get_or a i []) ≡ true
+
+-- it matches node 0
+pub match_one : (ts : List VariableType) (a : Assignment) (e : Expression ℕ) (mark : MarkPattern NodeMark) (root : Bool) (qs : List RightNode) (x : Node) (k : ℕ) →
+    length a ≡ length ts → InTypes ts a → value_of e (there ts a x) ≡ Value x.label → Agrees mark x.mark → (root ≡ true → x.root ≡ true) →
+    MatchBy (one_left ts (left e mark root) qs) (one_node x) (at_first k) a
+match_one ts a e mark root qs x k count typed valued agrees rooted = record {
   node_count = refl;
   edge_count = refl;
   direction_count = refl;
   nodes_apart = λ i j l h e. let u : i < j = l in let v : j < 1 = h in omega arith;
   edges_apart = λ i j l h e. let u : j < 0 = h in omega arith;
-  variable_count = refl;
-  in_types = in_types;
-  nodes = at_only (λ i p. IsSomeAnd (node_at (one_node x) (slice_index (0 ∷ []) i)) (FitsNode s p)) (left (Variable 0) mark root)
-      (subst (λ (o : Option Node). IsSomeAnd o (FitsNode s (left (Variable 0) mark root))) (sym (at_one x)) (record { label = refl; mark = agrees; root = rooted }));
+  variable_count = count;
+  in_types = typed;
+  nodes = at_only (λ i p. IsSomeAnd (node_at (one_node x) (slice_index (0 ∷ []) i)) (FitsNode (there ts a x) p)) (left e mark root)
+      (subst (λ (o : Option Node). IsSomeAnd o (FitsNode (there ts a x) (left e mark root))) (sym (at_one x)) (record { label = valued; mark = agrees; root = rooted }));
   edges = at_none _;
   dangling = λ i e d l kept at. absurd (none-some d (sym (map.get-empty nat_cmp e) ∙ at));
 }
-  where
-    s : Setting
-    s = record { types = t ∷ []; assigned = x.label ∷ []; images = 0 ∷ []; graph = one_node x }
-
-    in_types : (i : ℕ) → i < 1 → is_of (get_or (t ∷ []) i types.List) (get_or (x.label ∷ []) i []) ≡ true
-    in_types zero l = typed
-    in_types (suc i) l = absurd (omega arith)
 
 -- and with no right node: node 0 goes
 pub step_deleted : (t : VariableType) (mark : MarkPattern NodeMark) (root : Bool) (x : Node) (k : ℕ) →
     is_of t x.label ≡ true → Agrees mark x.mark → (root ≡ true → x.root ≡ true) →
-    Step (record { types = t ∷ []; left_nodes = left (Variable 0) mark root ∷ []; left_edges = []; right_nodes = []; right_edges = []; condition = Holds }) (one_node x) (at_first k) no_nodes
+    Step (one_left (t ∷ []) (left (Variable 0) mark root) []) (one_node x) (at_first k) no_nodes
 step_deleted t mark root x k typed agrees rooted = (
   x.label ∷ [],
-  record { is_match = match_one t mark root [] x k typed agrees rooted; condition = refl; values = refl },
+  record { is_match = match_one (t ∷ []) (x.label ∷ []) (Variable 0) mark root [] x k refl (one_typed t x.label typed) refl agrees rooted; condition = refl; values = refl },
   record {
     images = [];
     places = record { count = refl; apart = λ i j l h e. let u : j < 0 = h in omega arith; kept = λ j i q e o. absurd (none-some q e); new = λ j q e o. absurd (none-some q e) };
@@ -132,14 +138,13 @@ step_deleted t mark root x k typed agrees rooted = (
 )
 
 -- and with one right node of the same name: node 0 is made otherwise
-pub step_kept : (t : VariableType) (mark : MarkPattern NodeMark) (root : Bool) (e : Expression ℕ) (new_mark : MarkPattern NodeMark) (new_root : Bool) (x y : Node) (k : ℕ) →
-    is_of t x.label ≡ true → Agrees mark x.mark → (root ≡ true → x.root ≡ true) →
-    value_of e (record { types = t ∷ []; assigned = x.label ∷ []; images = 0 ∷ []; graph = one_node x }) ≡ Value y.label →
-    y.mark ≡ made_mark new_mark (Some x.mark) node_marks.None → y.root ≡ made_root root new_root x.root →
-    Step (record { types = t ∷ []; left_nodes = left (Variable 0) mark root ∷ []; left_edges = []; right_nodes = right e new_mark new_root ∷ []; right_edges = []; condition = Holds }) (one_node x) (at_first k) (one_node y)
-step_kept t mark root e new_mark new_root x y k typed agrees rooted valued marked roots = (
-  x.label ∷ [],
-  record { is_match = match_one t mark root (q ∷ []) x k typed agrees rooted; condition = refl; values = ap (λ v. kind_or v None) valued },
+pub step_made : (ts : List VariableType) (a : Assignment) (p : Expression ℕ) (mark : MarkPattern NodeMark) (root : Bool) (e : Expression ℕ) (new_mark : MarkPattern NodeMark) (new_root : Bool) (x y : Node) (k : ℕ) →
+    length a ≡ length ts → InTypes ts a → value_of p (there ts a x) ≡ Value x.label → Agrees mark x.mark → (root ≡ true → x.root ≡ true) →
+    value_of e (there ts a x) ≡ Value y.label → y.mark ≡ made_mark new_mark (Some x.mark) node_marks.None → y.root ≡ made_root root new_root x.root →
+    Step (one_left ts (left p mark root) (right e new_mark new_root ∷ [])) (one_node x) (at_first k) (one_node y)
+step_made ts a p mark root e new_mark new_root x y k count typed found agrees rooted valued marked roots = (
+  a,
+  record { is_match = match_one ts a p mark root (q ∷ []) x k count typed found agrees rooted; condition = refl; values = ap (λ v. kind_or v None) valued },
   record {
     images = 0 ∷ [];
     places = record {
@@ -150,7 +155,7 @@ step_kept t mark root e new_mark new_root x y k typed agrees rooted valued marke
     };
     next_node = refl;
     next_edge = refl;
-    right_nodes = at_only (λ j z. (w : Node) × (node_at (one_node y) (slice_index (0 ∷ []) j) ≡ Some w) × MakesNode r (one_node x) (at_first k) (x.label ∷ []) z w) q (y, at_one y, made);
+    right_nodes = at_only (λ j z. (w : Node) × (node_at (one_node y) (slice_index (0 ∷ []) j) ≡ Some w) × MakesNode r (one_node x) (at_first k) a z w) q (y, at_one y, made);
     right_edges = at_none _;
     deleted_nodes = λ n out c. absurd (out c);
     other_nodes = λ n out none. past_one y n (apart n none) ∙ sym (past_one x n (apart n none));
@@ -163,9 +168,9 @@ step_kept t mark root e new_mark new_root x y k typed agrees rooted valued marke
     q = right e new_mark new_root
 
     r : Rule
-    r = record { types = t ∷ []; left_nodes = left (Variable 0) mark root ∷ []; left_edges = []; right_nodes = q ∷ []; right_edges = []; condition = Holds }
+    r = one_left ts (left p mark root) (q ∷ [])
 
-    made : MakesNode r (one_node x) (at_first k) (x.label ∷ []) q y
+    made : MakesNode r (one_node x) (at_first k) a q y
     made = record {
       label = valued;
       mark = marked ∙ ap (λ o. made_mark new_mark (option_map (λ (z : Node). z.mark) o) node_marks.None) (sym (at_one x));
@@ -177,6 +182,13 @@ step_kept t mark root e new_mark new_root x y k typed agrees rooted valued marke
 
     apart : (n : ℕ) → (Contains (0 ∷ []) n → ⊥) → 0 ≡ n → ⊥
     apart n none e = none (0, let l : 0 < 1 = omega arith in l, e)
+
+-- of one variable, which is the left label
+pub step_kept : (t : VariableType) (mark : MarkPattern NodeMark) (root : Bool) (e : Expression ℕ) (new_mark : MarkPattern NodeMark) (new_root : Bool) (x y : Node) (k : ℕ) →
+    is_of t x.label ≡ true → Agrees mark x.mark → (root ≡ true → x.root ≡ true) →
+    value_of e (there (t ∷ []) (x.label ∷ []) x) ≡ Value y.label → y.mark ≡ made_mark new_mark (Some x.mark) node_marks.None → y.root ≡ made_root root new_root x.root →
+    Step (one_left (t ∷ []) (left (Variable 0) mark root) (right e new_mark new_root ∷ [])) (one_node x) (at_first k) (one_node y)
+step_kept t mark root e new_mark new_root x y k typed = step_made (t ∷ []) (x.label ∷ []) (Variable 0) mark root e new_mark new_root x y k refl (one_typed t x.label typed) refl
 
 -- what a left node asks holds of the only node
 pub only_image : {r : Rule} {m : Found} {a : Assignment} (x : Node) (i : ℕ) (p : LeftNode) → MatchBy r (one_node x) m a → slice_get r.left_nodes i ≡ Some p → FitsNode (setting_of r (one_node x) m a) p x

@@ -1,16 +1,20 @@
 -- Worked examples: what the definitions say of small rules and graphs, to be compared with what is meant.
-use Rattle.std.specs.Prelude.{ℕ, ℤ, pos, Bool, true, false, List, [], ◌∷◌, Some}
+use Rattle.std.specs.Prelude.{◌≡◌, ℕ, ℤ, pos, Bool, true, false, List, [], ◌∷◌, Some, None, codes}
 use Rattle.std.specs.FinMap as map
-use Rattle.gp_values.specs.declared.atom.Atom.TheVariants.{Int}
+use Rattle.gp_values.specs.declared.atom.Atom.{Atom}
+use Rattle.gp_values.specs.declared.atom.Atom.TheVariants.{Int, Str}
+use Rattle.gp_values.specs.declared.marks.EdgeMark.{EdgeMark}
+use Rattle.gp_syntax.specs.declared.kinds.VariableType.{VariableType}
 use Rattle.gp_values.specs.declared.marks.NodeMark.{NodeMark}
 use Rattle.gp_values.specs.declared.marks.NodeMark.TheVariants as node_marks
 use Rattle.gp_values.specs.declared.marks.EdgeMark.TheVariants as edge_marks
 use Rattle.gp_values.specs.Graph.{Graph, Node, Edge}
 use Rattle.gp_syntax.specs.declared.kinds.VariableType.TheVariants as types
-use Rattle.gp_syntax.specs.Expression.{Expression, Number, Variable, Plus, Holds, MarkPattern, Marked, AnyMark}
-use Rattle.gp_syntax.specs.Rule.{Rule, LeftNode, RightNode, Found}
+use Rattle.gp_syntax.specs.Expression.{Expression, Number, Text, Variable, Plus, Dot, Join, Holds, MarkPattern, Marked, AnyMark}
+use Rattle.gp_syntax.specs.Rule.{Rule, LeftNode, LeftEdge, RightNode, RightEdge, Found}
+use Rattle.gp_syntax.specs.Share.{share_of}
 use Rattle.gp_syntax.specs.Step.{Step, Blocked}
-use Rattle.gp_syntax.specs.Run.{Call, Seq, If, Try, Loop, Skip, Fail, Break, Program, Stepped, Turned, Back, Gives, AtTurn, Run}
+use Rattle.gp_syntax.specs.Run.{Call, Seq, If, Try, Loop, Or, Procedure, Skip, Fail, Break, Program, Stepped, Turned, Back, Gives, Fails, AtTurn, Run}
 
 -- ---- graphs of one or two nodes
 
@@ -48,8 +52,11 @@ left e mark root = record { label = e; mark = mark; root = root }
 abbrev pub right : Expression ℕ → MarkPattern NodeMark → Bool → RightNode
 right e mark root = record { origin = Some 0; label = e; mark = mark; root = root }
 
+abbrev pub one_left : List VariableType → LeftNode → List RightNode → Rule
+one_left kinds p qs = record { types = kinds; left_nodes = p ∷ []; left_edges = []; right_nodes = qs; right_edges = []; condition = Holds }
+
 abbrev pub one_variable : LeftNode → List RightNode → Rule
-one_variable p qs = record { types = types.List ∷ []; left_nodes = p ∷ []; left_edges = []; right_nodes = qs; right_edges = []; condition = Holds }
+one_variable p qs = one_left (types.List ∷ []) p qs
 
 -- del(x:list) [ (n0, x) | ] => [ | ] interface = {}
 abbrev pub del : Rule
@@ -73,14 +80,11 @@ red = one_variable (left (Variable 0) (Marked node_marks.Red) false) (right (Var
 
 -- inc(n:int) [ (n0, n) | ] => [ (n0, n+1) | ] interface = {n0}
 abbrev pub inc : Rule
-inc = record {
-  types = types.Int ∷ [];
-  left_nodes = left (Variable 0) unmarked false ∷ [];
-  left_edges = [];
-  right_nodes = right (Plus (Variable 0) (Number (pos 1))) unmarked false ∷ [];
-  right_edges = [];
-  condition = Holds;
-}
+inc = one_left (types.Int ∷ []) (left (Variable 0) unmarked false) (right (Plus (Variable 0) (Number (pos 1))) unmarked false ∷ [])
+
+-- cut(s:string; c:char) [ (n0, "a".s.c) | ] => [ (n0, s:c) | ] interface = {n0}
+abbrev pub cut : Rule
+cut = one_left (types.String ∷ types.Char ∷ []) (left (Dot (Dot (Text (codes "a")) (Variable 0)) (Variable 1)) unmarked false) (right (Join (Variable 0) (Variable 1)) unmarked false ∷ [])
 
 -- par(x,y,z,w:list) [ (n0, x) (n1, y) | (e0, n0, n1, z) (e1, n0, n1, w) ] => [ (n0, x) (n1, y) | ] interface = {n0, n1}
 abbrev pub par : Rule
@@ -93,6 +97,35 @@ par = record {
   right_edges = [];
   condition = Holds;
 }
+
+-- two nodes that stay, with one edge on each side: (x,y,z:list) [ (n0, x) (n1, y) | (e0, .., z) ] => [ (n0, x) (n1, y) | (e0, ..) ]
+abbrev pub one_edge : LeftEdge → RightEdge → Rule
+one_edge p q = record {
+  types = types.List ∷ types.List ∷ types.List ∷ [];
+  left_nodes = left (Variable 0) unmarked false ∷ left (Variable 1) unmarked false ∷ [];
+  left_edges = p ∷ [];
+  right_nodes = record { origin = Some 0; label = Variable 0; mark = unmarked; root = false } ∷ record { origin = Some 1; label = Variable 1; mark = unmarked; root = false } ∷ [];
+  right_edges = q ∷ [];
+  condition = Holds;
+}
+
+-- (e0(B), n0, n1, z) on the left
+abbrev pub either_way : LeftEdge
+either_way = record { source = 0; target = 1; label = Variable 2; mark = Marked edge_marks.None; bidirectional = true }
+
+-- (e0(B), n0, n1, z) on the right, and the same with its names exchanged
+abbrev pub as_found : RightEdge
+as_found = record { origin = Some 0; turned = false; source = 0; target = 1; label = Variable 2; mark = Marked edge_marks.None; bidirectional = true }
+
+abbrev pub exchanged : RightEdge
+exchanged = record { origin = Some 0; turned = true; source = 1; target = 0; label = Variable 2; mark = Marked edge_marks.None; bidirectional = true }
+
+-- (e0, n0, n1, z # any) on the left, and (e0, n0, n1, 5 # any) on the right
+abbrev pub any_edge : LeftEdge
+any_edge = record { source = 0; target = 1; label = Variable 2; mark = AnyMark; bidirectional = false }
+
+abbrev pub any_kept : RightEdge
+any_kept = record { origin = Some 0; turned = false; source = 0; target = 1; label = Number (pos 5); mark = AnyMark; bidirectional = false }
 
 -- ---- what they say
 
@@ -137,10 +170,62 @@ marked z mark = record { label = Int z ∷ []; mark = mark; root = false }
 abbrev pub AnyKeepsMark : Type 0
 AnyKeepsMark = (mark : NodeMark) → Step keep (one_node (marked (pos 1) mark)) (at_first 0) (one_node (marked (pos 5) mark))
 
+-- A string is matched by its one string variable and its chars, and no other string and no integer is.
+abbrev pub with_label : List Atom → Graph
+with_label v = one_node (record { label = v; mark = node_marks.None; root = false })
+
+pub record StringPatterns : Type 0 where
+  pub shortest : Step cut (with_label (Str (codes "ab") ∷ [])) (at_first 0) (with_label (Str [] ∷ Str (codes "b") ∷ []))
+  pub longer : Step cut (with_label (Str (codes "abc") ∷ [])) (at_first 0) (with_label (Str (codes "b") ∷ Str (codes "c") ∷ []))
+  pub too_short : Blocked (cut ∷ []) (0 ∷ []) (with_label (Str (codes "a") ∷ []))
+  pub no_string : Blocked (cut ∷ []) (0 ∷ []) (with_label (Int (pos 1) ∷ []))
+
+-- A `(B)` edge is matched in both directions, and the edge that is made begins at the name where the found one began,
+-- in whichever order the right side has the names.
+abbrev pub labelled : ℕ → ℕ → ℤ → EdgeMark → Edge
+labelled a b z mark = record { source = a; target = b; label = Int z ∷ []; mark = mark }
+
+-- edge 0 alone, and edge 1 alone, made in its place
+abbrev pub before : Edge → Graph
+before d = two_nodes ((0, d) ∷ []) 1
+
+abbrev pub behind : Edge → Graph
+behind d = two_nodes ((1, d) ∷ []) 2
+
+abbrev pub over_edge : Bool → Found
+over_edge reversed = found 0 (0 ∷ 1 ∷ []) (0 ∷ []) (reversed ∷ [])
+
+pub record DirectionIsKept : Type 0 where
+  pub forward : Step (one_edge either_way as_found) (before (labelled 0 1 (pos 7) edge_marks.None)) (over_edge false) (behind (labelled 0 1 (pos 7) edge_marks.None))
+  pub reversed : Step (one_edge either_way as_found) (before (labelled 1 0 (pos 7) edge_marks.None)) (over_edge true) (behind (labelled 1 0 (pos 7) edge_marks.None))
+  pub forward_exchanged : Step (one_edge either_way exchanged) (before (labelled 0 1 (pos 7) edge_marks.None)) (over_edge false) (behind (labelled 0 1 (pos 7) edge_marks.None))
+  pub reversed_exchanged : Step (one_edge either_way exchanged) (before (labelled 1 0 (pos 7) edge_marks.None)) (over_edge true) (behind (labelled 1 0 (pos 7) edge_marks.None))
+
+-- `any` on an edge takes each mark, and keeps it.
+abbrev pub AnyKeepsMarkOfEdge : Type 0
+AnyKeepsMarkOfEdge = (mark : EdgeMark) → Step (one_edge any_edge any_kept) (before (labelled 0 1 (pos 7) mark)) (over_edge false) (behind (labelled 0 1 (pos 5) mark))
+
+-- ---- shares
+
+-- make() [ | ] => [ (n0, 0) | ] interface = {}
+abbrev pub make : Rule
+make = record { types = []; left_nodes = []; left_edges = []; right_nodes = record { origin = None; label = Number (pos 0); mark = unmarked; root = false } ∷ []; right_edges = []; condition = Holds }
+
+-- [ (n0, x) (n1(R), y) | ]
+abbrev pub second_root : Rule
+second_root = record { types = types.List ∷ types.List ∷ []; left_nodes = left (Variable 0) unmarked false ∷ left (Variable 1) unmarked true ∷ []; left_edges = []; right_nodes = []; right_edges = []; condition = Holds }
+
+-- A match is of the share of its image of the first left node, of the first left root where there is one, and of the
+-- share 0 where the left side is empty.
+pub record SharesGoByFirstNode : Type 0 where
+  pub first_node : share_of del (found 0 (8 ∷ []) [] []) 3 ≡ 2
+  pub first_root : share_of second_root (found 0 (8 ∷ 7 ∷ []) [] []) 3 ≡ 1
+  pub no_node : share_of make (found 0 [] [] []) 3 ≡ 0
+
 -- ---- what commands do, with the rules del, inc and red in one set each
 
 abbrev pub program : Program
-program = record { main = Skip; procedures = []; sets = (0 ∷ []) ∷ (1 ∷ []) ∷ (2 ∷ []) ∷ [] ∷ []; rules = del ∷ inc ∷ red ∷ [] }
+program = record { main = Skip; procedures = Call 1 ∷ Seq Skip Break ∷ []; sets = (0 ∷ []) ∷ (1 ∷ []) ∷ (2 ∷ []) ∷ [] ∷ []; rules = del ∷ inc ∷ red ∷ [] }
 
 abbrev pub start : Graph
 start = one_node (plain (pos 1))
@@ -171,3 +256,21 @@ EmptySetEndsLoop = Run program (Loop (Call 3)) start [] (Turned ∷ Back 0 ∷ [
 -- (skip)! stands before its second turn
 abbrev pub SkipLoopStands : Type 0
 SkipLoopStands = Run program (Loop Skip) start [] (Turned ∷ []) (AtTurn start)
+
+-- try inc then inc, and if inc then inc: the `then` of `try` goes on from where the condition led
+abbrev pub raised_twice : Graph
+raised_twice = one_node (plain (pos 3))
+
+pub record ThenBegins : Type 0 where
+  pub of_try : Run program (Try (Call 1) (Call 1) Skip) start [] (Stepped (at_first 1) ∷ Stepped (at_first 1) ∷ []) (Gives raised_twice)
+  pub of_if : Run program (If (Call 1) (Call 1) Skip) start [] (Stepped (at_first 1) ∷ Back 1 ∷ Stepped (at_first 1) ∷ []) (Gives raised)
+
+-- skip or fail
+pub record OrTakesEither : Type 0 where
+  pub first : Run program (Or Skip Fail) start (false ∷ []) [] (Gives start)
+  pub second : Run program (Or Skip Fail) start (true ∷ []) [] (Fails start)
+
+-- P with P = inc; Q! with Q = (skip; break)
+pub record ProceduresRun : Type 0 where
+  pub called : Run program (Procedure 0) start [] (Stepped (at_first 1) ∷ []) (Gives raised)
+  pub breaks : Run program (Loop (Procedure 1)) start [] (Turned ∷ []) (Gives start)

@@ -1,6 +1,7 @@
 -- A rule, with its nodes and edges named by their places in the text of their side (Plump 2012, section 3: conditional
 -- rule schemata; Bak 2015: root nodes, `any`, bidirectional edges).
-use Rattle.std.specs.Prelude.{◌≡◌, ℕ, Bool, List, Option, Some, slice_get}
+use Rattle.std.specs.Prelude.{◌≡◌, ℕ, ◌==◌, Bool, false, List, Option, Some, None, slice_get}
+use Rattle.std.specs.List.{list_any}
 use Rattle.gp_values.specs.declared.marks.NodeMark.{NodeMark}
 use Rattle.gp_values.specs.declared.marks.EdgeMark.{EdgeMark}
 use Rattle.gp_syntax.specs.declared.kinds.VariableType.{VariableType}
@@ -49,6 +50,14 @@ pub record Rule : Type 0 where
 -- the interface has the left node of this place
 abbrev pub IsKept : Rule → ℕ → Type 0
 IsKept r i = (j : ℕ) × (q : RightNode) × (slice_get r.right_nodes j ≡ Some q) × (q.origin ≡ Some i)
+
+-- the same, as a test
+abbrev pub is_origin : ℕ → Option ℕ → Bool
+is_origin i (Some k) = k == i
+is_origin i None = false
+
+abbrev pub is_kept : Rule → ℕ → Bool
+is_kept r i = list_any (λ (q : RightNode). is_origin i q.origin) r.right_nodes
 
 -- where a match lies: the number of the rule, for each left edge whether it was matched reversed, and the numbers of
 -- the images of left nodes and left edges, each in the order of the left side's text

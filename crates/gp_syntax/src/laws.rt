@@ -1,7 +1,11 @@
 //! What holds of the definitions: laws, and worked examples. Each function does nothing: its contract is the law.
 
 ghost use Rattle.gp_syntax.specs.Laws.{StepIsUnique, StepWithoutVariablesIsUnique, RunsReplay, RulesOfDeclarationsFit, ConstantsHaveTheirValue, FaultlessRulesApply};
-ghost use Rattle.gp_syntax.specs.Rows.{DanglingEdgeBlocks, IsolatedNodeIsDeleted, OneEdgeIsNotTwo, ParallelEdgesMatch, RootWantsRoot, RootIsTakenAway, RootStays, AnyKeepsMark, IfTakesBack, TryTakesBack, FailedBodyIsTakenBack, BreakKeepsBody, EmptySetEndsLoop, SkipLoopStands};
+ghost use Rattle.gp_syntax.specs.Simple.{SimpleLabelsAreThese};
+ghost use Rattle.gp_values.specs.Names.{Name};
+ghost use Rattle.std.specs.Prelude.{ℕ};
+ghost use Rattle.gp_syntax.specs.Rows.{DanglingEdgeBlocks, IsolatedNodeIsDeleted, OneEdgeIsNotTwo, ParallelEdgesMatch, RootWantsRoot, RootIsTakenAway, RootStays, AnyKeepsMark, IfTakesBack, TryTakesBack, FailedBodyIsTakenBack, BreakKeepsBody, EmptySetEndsLoop, SkipLoopStands, ThenBegins, OrTakesEither, ProceduresRun, StringPatterns, DirectionIsKept, AnyKeepsMarkOfEdge, SharesGoByFirstNode};
+ghost use Rattle.gp_syntax.specs.ValueRows.{ArithmeticHasEnds, DivisionTruncates, FirstKindIsTold, LengthGoesByType, DegreesCountLoops, ChainsJoin, SecondPartWaits, EdgeTests, OtherTests};
 
 /// A match leads, by its assignment, to one graph.
 pub fn step_is_unique()
@@ -17,6 +21,12 @@ pub fn runs_replay()
 /// The rule of a well named declaration has its nodes and edges, and names places that are there.
 pub fn rules_of_declarations_fit()
     ensures { RulesOfDeclarationsFit }
+{}
+
+/// Simple labels are the well typed ones that the static clause on left labels lets pass, by names and by places.
+pub fn simple_labels_are_these()
+    ensures names { SimpleLabelsAreThese Name }
+    ensures places { SimpleLabelsAreThese ℕ }
 {}
 
 /// Numbers, strings and lists of these have the value that is written, wherever they stand.
@@ -57,22 +67,44 @@ pub fn command_examples()
     ensures broken_body { BreakKeepsBody }
     ensures empty_set { EmptySetEndsLoop }
     ensures standing { SkipLoopStands }
+    ensures then_begins { ThenBegins }
+    ensures either { OrTakesEither }
+    ensures procedures { ProceduresRun }
 {}
 
-#[cfg(test)]
-mod tests {
-    use super::*;
+/// Which matches a share has.
+pub fn share_examples()
+    ensures { SharesGoByFirstNode }
+{}
 
-    #[test]
-    fn laws_can_be_called() {
-        step_is_unique();
-        runs_replay();
-        rules_of_declarations_fit();
-        constants_have_their_value();
-        faultless_rules_apply();
-        dangling_examples();
-        parallel_edge_examples();
-        root_and_mark_examples();
-        command_examples();
-    }
-}
+/// A string matched by its pattern, and what is none.
+pub fn string_pattern_examples()
+    ensures { StringPatterns }
+{}
+
+/// What a made edge keeps of the one that was found: with `(B)` its direction, with `any` its mark.
+pub fn kept_edge_examples()
+    ensures direction { DirectionIsKept }
+    ensures any { AnyKeepsMarkOfEdge }
+{}
+
+/// Integers of 128 bits, division, and the kind that is met first.
+pub fn arithmetic_examples()
+    ensures ends { ArithmeticHasEnds }
+    ensures division { DivisionTruncates }
+    ensures first_kind { FirstKindIsTold }
+{}
+
+/// Chains, lengths and degrees.
+pub fn value_examples()
+    ensures chains { ChainsJoin }
+    ensures lengths { LengthGoesByType }
+    ensures degrees { DegreesCountLoops }
+{}
+
+/// What conditions test, and what they value.
+pub fn condition_examples()
+    ensures second_part { SecondPartWaits }
+    ensures edges { EdgeTests }
+    ensures others { OtherTests }
+{}

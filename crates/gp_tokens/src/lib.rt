@@ -23,5 +23,5 @@ pub use cut::lex;
 pub use fault::LexFault;
 pub use keyword::{Keyword, RESERVED, is_reserved};
 pub use line::line_of_token;
-pub use text::Text;
+pub use text::{Slice, Text};
 pub use token::{Kind, Token};

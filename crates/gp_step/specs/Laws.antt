@@ -1,0 +1,25 @@
+-- What the function says is what the relation says.
+use Rattle.std.specs.Prelude.{◌≡◌, ℕ, List, All}
+use Rattle.gp_values.specs.declared.atom.Atom.{Atom}
+use Rattle.gp_values.specs.Atoms.{AreAtoms}
+use Rattle.gp_values.specs.Graph.{Graph, IsGraph}
+use Rattle.gp_syntax.specs.Expression.{Expression}
+use Rattle.gp_syntax.specs.Value.{Assignment, Value, value_of}
+use Rattle.gp_syntax.specs.Rule.{Rule, Found}
+use Rattle.gp_syntax.specs.Match.{MatchBy, setting_of}
+use Rattle.gp_syntax.specs.Step.{Applies, Step, right_labels}
+use Rattle.gp_syntax.specs.WellFormed.{IsWellFormed}
+use Rattle.gp_step.specs.After.{after}
+
+-- the values of right labels are lists of atoms in their ranges
+abbrev pub MakesAtoms : Rule → Graph → Found → Type 0
+MakesAtoms r g m = (a : Assignment) → MatchBy r g m a → All (λ (e : Expression ℕ). (v : List Atom) → value_of e (setting_of r g m a) ≡ Value v → AreAtoms v) (right_labels r)
+
+-- An applying match has a step, to the graph of the function and to no other, and that is a graph.
+pub record HasOneStep (r : Rule) (g : Graph) (m : Found) : Type 0 where
+  pub leads : Applies r g m → Step r g m (after r g m)
+  pub only : (h : Graph) → Step r g m h → h ≡ after r g m
+  pub whole : Applies r g m → MakesAtoms r g m → IsGraph (after r g m)
+
+abbrev pub MatchesLeadOn : Type 0
+MatchesLeadOn = (r : Rule) (g : Graph) (m : Found) → IsWellFormed r → IsGraph g → HasOneStep r g m

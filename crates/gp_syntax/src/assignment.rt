@@ -1,0 +1,79 @@
+//! Assignments of the variables of a rule.
+
+ghost use Rattle.std.specs.Prelude.{◌≡◌, ◌<◌, true, length, slice_get, slice_set, replicate, Some, None, IfOk};
+ghost use Rattle.std.specs.Option.{option_copied};
+ghost use Rattle.gp_syntax.specs.Assigned.{PartialAssignment, IsInTypes, declared_type};
+ghost use Rattle.gp_syntax.specs.Value.{is_of};
+
+use crate::kinds::VariableType;
+use gp_memory::NoMemory;
+use gp_values::List;
+use std::alloc::Global;
+use std::marker::Model;
+
+/// The values of the variables of a rule's left labels, by their places: each has a value of its declared type, or none
+/// yet.
+#[derive(Drop)]
+pub struct Assignment {
+    types: Vec<VariableType>,
+    values: Vec<Option<List>>,
+}
+
+impl Model for Assignment {
+    ghost use Rattle.gp_syntax.specs.Assigned.{PartialAssignment, IsInTypes};
+
+    ghost Value = { PartialAssignment };
+
+    ghost view = { λ a. record { types = a.types.items; values = a.values.items } };
+
+    ghost invariant = { λ a. IsInTypes (record { types = a.types.items; values = a.values.items }) };
+}
+
+impl Assignment {
+    /// Variables of these types, without values.
+    pub fn new(alloc: Global, types: &[VariableType]) -> Result<Assignment, NoMemory>
+        ensures { IfOk result (λ a. a ≡ record { types = types.now; values = replicate (length types.now) None }) }
+    {
+        let mut values = Vec::new(alloc);
+        for _ in types {
+            values.push(None)?;
+        }
+        Ok(Assignment {
+            types: Vec::from_slice(alloc, types)?,
+            values,
+        })
+    }
+
+    /// The declared types.
+    pub fn types(&self) -> &[VariableType]
+        ensures { result.now ≡ self.now.types }
+    {
+        self.types.as_slice()
+    }
+
+    /// The value of a variable, if it has one yet.
+    pub fn value(&self, variable: usize) -> Option<&List>
+        requires { variable < length self.now.types }
+        ensures value { slice_get self.now.values variable ≡ Some (option_copied result) }
+        ensures in_types { IsInTypes self.now }
+    {
+        self.values[variable].as_ref()
+    }
+
+    /// Gives a variable its value.
+    pub fn set(&mut self, variable: usize, value: List)
+        requires known { variable < length self.old.types }
+        requires in_type { is_of (declared_type self.old variable) value ≡ true }
+        ensures { self.new ≡ record self.old { values = slice_set self.old.values variable (Some value) } }
+    {
+        self.values[variable] = Some(value);
+    }
+
+    /// Takes the value of a variable away, if it has one.
+    pub fn clear(&mut self, variable: usize)
+        requires { variable < length self.old.types }
+        ensures { self.new ≡ record self.old { values = slice_set self.old.values variable None } }
+    {
+        self.values[variable] = None;
+    }
+}

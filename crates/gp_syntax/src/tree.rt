@@ -1,0 +1,86 @@
+//! The tree of a program text: declarations with names, as they are written. Comments, positions, leading zeros, missing
+//! parts and brackets without declarations leave no trace in it.
+
+use crate::expression::{Cond, Expr};
+use crate::kinds::VariableType;
+use crate::name::Name;
+use sqlite_items::{Boxed, Items};
+
+/// Variables that are declared together, as `x, y : int`: the first and the further ones.
+#[derive(Drop)]
+pub struct VariableGroup {
+    pub first: Name,
+    pub rest: Items<Name>,
+    pub variable_type: VariableType,
+}
+
+/// A node of a side: its name, whether it is a root, its label, and the word behind `#`, if one is written.
+#[derive(Drop)]
+pub struct NodeDecl {
+    pub name: Name,
+    pub root: bool,
+    pub label: Expr<Name>,
+    pub mark: Option<Name>,
+}
+
+/// An edge of a side: its name, whether it has `(B)`, the names of its ends, its label, and the word behind `#`.
+#[derive(Drop)]
+pub struct EdgeDecl {
+    pub name: Name,
+    pub bidirectional: bool,
+    pub source: Name,
+    pub target: Name,
+    pub label: Expr<Name>,
+    pub mark: Option<Name>,
+}
+
+/// A side of a rule.
+#[derive(Drop)]
+pub struct GraphDecl {
+    pub nodes: Items<NodeDecl>,
+    pub edges: Items<EdgeDecl>,
+}
+
+/// A rule as it is declared. The interface lists names of nodes.
+#[derive(Drop)]
+pub struct RuleDecl {
+    pub name: Name,
+    pub variables: Items<VariableGroup>,
+    pub left: GraphDecl,
+    pub right: GraphDecl,
+    pub interface: Items<Name>,
+    pub condition: Option<Cond<Name, Option<Name>>>,
+}
+
+/// A command that names rules and procedures. A chain has a first part and further ones; a call of one rule is that of
+/// the set of it alone; a missing `then` or `else` is `Skip`.
+#[derive(Drop)]
+pub enum CommandTree {
+    Call(Items<Name>),
+    Procedure(Name),
+    Seq(Boxed<CommandTree>, Items<CommandTree>),
+    If(Boxed<CommandTree>, Boxed<CommandTree>, Boxed<CommandTree>),
+    Try(Boxed<CommandTree>, Boxed<CommandTree>, Boxed<CommandTree>),
+    Loop(Boxed<CommandTree>),
+    Or(Boxed<CommandTree>, Items<CommandTree>),
+    Skip,
+    Fail,
+    Break,
+}
+
+/// A declaration: of a procedure, Main among them, with its local declarations, or of a rule.
+#[derive(Drop)]
+pub enum Decl {
+    Procedure {
+        name: Name,
+        declarations: Items<Decl>,
+        body: CommandTree,
+    },
+    Rule(RuleDecl),
+}
+
+/// A program text.
+#[derive(Drop)]
+pub struct Ast {
+    pub declarations: Items<Decl>,
+}

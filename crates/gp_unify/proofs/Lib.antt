@@ -1,0 +1,2 @@
+pub mod Unifies
+pub mod Candidates

@@ -1,0 +1,2 @@
+pub mod Unify
+pub mod Candidate
