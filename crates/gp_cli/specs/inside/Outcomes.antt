@@ -13,7 +13,7 @@ use Rattle.gp_cli.specs.declared.run.Outcome.{Outcome}
 use Rattle.gp_cli.specs.declared.run.Called.{Called}
 use Rattle.gp_cli.specs.declared.run.Called.TheVariants as called
 use Rattle.gp_cli.specs.declared.run.Progress.{Progress}
-use Rattle.gp_cli.specs.Found.{found_of}
+use Rattle.gp_cli.specs.inside.Found.{found_of}
 use Rattle.gp_cli.specs.Answer.{CanStep, fail_text, bound_text}
 
 -- ---- items and endings

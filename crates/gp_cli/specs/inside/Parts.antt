@@ -14,7 +14,7 @@ use Rattle.gp_hostfile.specs.GraphText.{IsGraphText}
 use Rattle.gp_cli.specs.declared.reply.Reply.{Reply}
 use Rattle.gp_cli.specs.declared.reply.Stop.{Stop}
 use Rattle.gp_cli.specs.declared.reply.Stop.TheVariants as stops
-use Rattle.gp_cli.specs.Statuses.{status_code}
+use Rattle.gp_cli.specs.inside.Statuses.{status_code}
 use Rattle.gp_cli.specs.CommandLine.{Command}
 use Rattle.gp_cli.specs.Answer.{Count, HasRisen, HasProgram, HasHost, HasLongFile, HasOtherProgram, HasHostFault, CannotRead, CanStep, limit, read_text, fail_text, bound_text, program_too_long, program_not_yet, host_too_long}
 use Rattle.gp_memory.specs.Free.{Free}
@@ -22,37 +22,37 @@ use Rattle.gp_memory.specs.Free.{Free}
 -- ---- files
 
 -- the file is long and the answer says so, or it cannot be read and the answer names it
-pub data StopsAtFile (told : Option Content) (files : Count) (name : Name) (refused : ℕ) (long : List ℕ) : ℕ → List ℕ → List ℕ → Type 0 where
-  too_long : HasLongFile told name → StopsAtFile told files name refused long refused [] long
-  unread : CannotRead told files name → StopsAtFile told files name refused long 8 [] (read_text name)
+pub data StopsAtFile (content : Option Content) (files : Count) (name : Name) (refused : ℕ) (long : List ℕ) : ℕ → List ℕ → List ℕ → Type 0 where
+  too_long : HasLongFile content name → StopsAtFile content files name refused long refused [] long
+  unread : CannotRead content files name → StopsAtFile content files name refused long 8 [] (read_text name)
 
 abbrev pub ReadsFile : Option Content → Count → Name → ℕ → List ℕ → Result (Vec ℕ Global) Stop → Type 0
-ReadsFile told files name refused long (Ok v) = HasFile told name v.items × (length v.items ≤ limit)
-ReadsFile told files name refused long (Err (stops.Answered r)) = StopsAtFile told files name refused long (status_code r.status) r.out.items r.err.items
-ReadsFile told files name refused long (Err stops.NoMemory) = Free
+ReadsFile content files name refused long (Ok v) = HasFile content name v.items × (length v.items ≤ limit)
+ReadsFile content files name refused long (Err (stops.Answered r)) = StopsAtFile content files name refused long (status_code r.status) r.out.items r.err.items
+ReadsFile content files name refused long (Err stops.NoMemory) = Free
 
 -- the program is that of the file
-pub record HasPlainProgram (told : Option Content) (name : Name) (p : PlainProgram) : Type 0 where
-  pub program : HasProgram told name (plain_program p)
+pub record HasPlainProgram (content : Option Content) (name : Name) (p : PlainProgram) : Type 0 where
+  pub program : HasProgram content name (plain_program p)
   pub plain : IsPlain p.rule
 
-pub data StopsAtProgram (told : Option Content) (files : Count) (name : Name) : ℕ → List ℕ → List ℕ → Type 0 where
-  program_file : {status : ℕ} {o e : List ℕ} → StopsAtFile told files name 3 program_too_long status o e → StopsAtProgram told files name status o e
-  other_text : HasOtherProgram told name → StopsAtProgram told files name 3 [] program_not_yet
+pub data StopsAtProgram (content : Option Content) (files : Count) (name : Name) : ℕ → List ℕ → List ℕ → Type 0 where
+  program_file : {status : ℕ} {o e : List ℕ} → StopsAtFile content files name 3 program_too_long status o e → StopsAtProgram content files name status o e
+  other_text : HasOtherProgram content name → StopsAtProgram content files name 3 [] program_not_yet
 
 abbrev pub LoadsProgram : Option Content → Count → Name → Result PlainProgram Stop → Type 0
-LoadsProgram told files name (Ok p) = HasPlainProgram told name p
-LoadsProgram told files name (Err (stops.Answered r)) = StopsAtProgram told files name (status_code r.status) r.out.items r.err.items
-LoadsProgram told files name (Err stops.NoMemory) = Free
+LoadsProgram content files name (Ok p) = HasPlainProgram content name p
+LoadsProgram content files name (Err (stops.Answered r)) = StopsAtProgram content files name (status_code r.status) r.out.items r.err.items
+LoadsProgram content files name (Err stops.NoMemory) = Free
 
-pub data StopsAtHost (told : Option Content) (files : Count) (name : Name) : ℕ → List ℕ → List ℕ → Type 0 where
-  host_file : {status : ℕ} {o e : List ℕ} → StopsAtFile told files name 4 host_too_long status o e → StopsAtHost told files name status o e
-  host_fault : {line : List ℕ} → HasHostFault told name line → StopsAtHost told files name 4 [] line
+pub data StopsAtHost (content : Option Content) (files : Count) (name : Name) : ℕ → List ℕ → List ℕ → Type 0 where
+  host_file : {status : ℕ} {o e : List ℕ} → StopsAtFile content files name 4 host_too_long status o e → StopsAtHost content files name status o e
+  host_fault : {line : List ℕ} → HasHostFault content name line → StopsAtHost content files name 4 [] line
 
 abbrev pub LoadsHost : Option Content → Count → Name → Result Graph Stop → Type 0
-LoadsHost told files name (Ok g) = HasHost told name g.graph
-LoadsHost told files name (Err (stops.Answered r)) = StopsAtHost told files name (status_code r.status) r.out.items r.err.items
-LoadsHost told files name (Err stops.NoMemory) = Free
+LoadsHost content files name (Ok g) = HasHost content name g.graph
+LoadsHost content files name (Err (stops.Answered r)) = StopsAtHost content files name (status_code r.status) r.out.items r.err.items
+LoadsHost content files name (Err stops.NoMemory) = Free
 
 -- ---- the run
 
@@ -80,13 +80,13 @@ WritesPiece old new count piece (Err _) = (n : ℕ) × Gains old new (take n pie
 -- ---- the whole
 
 -- the answer of a program's file and a host's file
-pub data RunsFilesTo (told : Option Content) (files : Count) (k : Command) : ℕ → List ℕ → List ℕ → Type 0 where
-  shown : {p : Program} {g : HostGraph} {status : ℕ} {o e : List ℕ} → HasProgram told k.program p → HasHost told k.host g → Shows p k.bound g status o e →
-      RunsFilesTo told files k status o e
-  at_program : {status : ℕ} {o e : List ℕ} → StopsAtProgram told files k.program status o e → RunsFilesTo told files k status o e
-  at_host : {p : Program} {status : ℕ} {o e : List ℕ} → HasProgram told k.program p → StopsAtHost told files k.host status o e → RunsFilesTo told files k status o e
+pub data RunsFilesTo (content : Option Content) (files : Count) (k : Command) : ℕ → List ℕ → List ℕ → Type 0 where
+  shown : {p : Program} {g : HostGraph} {status : ℕ} {o e : List ℕ} → HasProgram content k.program p → HasHost content k.host g → Shows p k.bound g status o e →
+      RunsFilesTo content files k status o e
+  at_program : {status : ℕ} {o e : List ℕ} → StopsAtProgram content files k.program status o e → RunsFilesTo content files k status o e
+  at_host : {p : Program} {status : ℕ} {o e : List ℕ} → HasProgram content k.program p → StopsAtHost content files k.host status o e → RunsFilesTo content files k status o e
 
 abbrev pub RunsFiles : Option Content → Count → Command → Result Reply Stop → Type 0
-RunsFiles told files k (Ok r) = RunsFilesTo told files k (status_code r.status) r.out.items r.err.items
-RunsFiles told files k (Err (stops.Answered r)) = RunsFilesTo told files k (status_code r.status) r.out.items r.err.items
-RunsFiles told files k (Err stops.NoMemory) = Free
+RunsFiles content files k (Ok r) = RunsFilesTo content files k (status_code r.status) r.out.items r.err.items
+RunsFiles content files k (Err (stops.Answered r)) = RunsFilesTo content files k (status_code r.status) r.out.items r.err.items
+RunsFiles content files k (Err stops.NoMemory) = Free
