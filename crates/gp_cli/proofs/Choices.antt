@@ -10,9 +10,9 @@ use Rattle.gp_syntax.specs.declared.plain.PlainRule.{PlainRule}
 use Rattle.gp_syntax.specs.declared.plain.PlainLeftNode.{PlainLeftNode}
 use Rattle.gp_syntax.specs.declared.plain.PlainLeftEdge.{PlainLeftEdge}
 use Rattle.gp_values.specs.Apart.{AreApart}
-use Rattle.gp_cli.specs.PlainMatch.{PlainMatch, IsNodeWith, IsEdgeWith}
+use Rattle.gp_cli.specs.inside.PlainMatch.{PlainMatch, IsNodeWith, IsEdgeWith}
 use Rattle.gp_cli.proofs.Constants.{got}
-use Rattle.gp_cli.specs.Search.{size_of, IsChoice, NoneBehind, LastNodeFits, LastEdgeFits}
+use Rattle.gp_cli.specs.inside.Search.{size_of, IsChoice, NoneBehind, LastNodeFits, LastEdgeFits}
 
 some_of : {X : Type 0} (o : Option X) (P : X → Type 0) → IsSomeAnd o P → IsSome o
 some_of None P h = absurd h

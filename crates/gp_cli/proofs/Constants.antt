@@ -21,8 +21,8 @@ use Rattle.gp_syntax.specs.Rule.{Rule, LeftNode, LeftEdge, RightNode, RightEdge,
 use Rattle.gp_syntax.specs.Match.{MatchBy, FitsNode, FitsEdge, setting_of}
 use Rattle.gp_syntax.specs.Step.{first_fault, right_labels, AppliesBy, Applies, IsFaulty, Blocked}
 use Rattle.gp_syntax.specs.Plain.{atom_expression, constant, left_node_of, left_edge_of, right_node_of, right_edge_of, plain_rule, IsPlain}
-use Rattle.gp_cli.specs.PlainMatch.{PlainMatch}
-use Rattle.gp_cli.specs.Found.{plain_found}
+use Rattle.gp_cli.specs.inside.PlainMatch.{PlainMatch}
+use Rattle.gp_cli.specs.inside.Found.{plain_found}
 
 -- ---- labels
 

@@ -14,7 +14,7 @@ use Rattle.gp_syntax.specs.declared.plain.PlainLeftNode.{PlainLeftNode}
 use Rattle.gp_syntax.specs.declared.plain.PlainRightNode.{PlainRightNode}
 use Rattle.gp_syntax.specs.declared.plain.PlainRightEdge.{PlainRightEdge}
 use Rattle.gp_values.specs.Apart.{AreApart}
-use Rattle.gp_cli.specs.Making.{AllNodes, AllEdges, EdgesRemoved, IsDeleted, NodesRemoved, AreLoose, root_of, placed_node, lands, placing, made_before, HaveOrigins, KeptAreThere, NodesPlaced, placed_edge, EdgesPlaced}
+use Rattle.gp_cli.specs.inside.Making.{AllNodes, AllEdges, EdgesRemoved, IsDeleted, NodesRemoved, AreLoose, root_of, placed_node, lands, placing, made_before, HaveOrigins, KeptAreThere, NodesPlaced, placed_edge, EdgesPlaced}
 use Rattle.gp_cli.proofs.Constants.{got}
 
 -- ---- lists of numbers

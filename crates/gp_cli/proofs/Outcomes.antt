@@ -14,7 +14,7 @@ use Rattle.gp_cli.specs.declared.run.PlainItem.{PlainItem}
 use Rattle.gp_cli.specs.declared.run.PlainItem.TheVariants as items
 use Rattle.gp_cli.specs.declared.run.End.TheVariants as ends
 use Rattle.gp_cli.specs.declared.run.Progress.{Progress}
-use Rattle.gp_cli.specs.Outcomes.{item_of, trace_of, RunsTo, NotesStep, IsSame}
+use Rattle.gp_cli.specs.inside.Outcomes.{item_of, trace_of, RunsTo, NotesStep, IsSame}
 
 -- ---- counting
 

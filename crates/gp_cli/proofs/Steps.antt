@@ -14,9 +14,9 @@ use Rattle.gp_syntax.specs.Rule.{LeftNode, RightNode, RightEdge, IsKept}
 use Rattle.gp_syntax.specs.Match.{setting_of}
 use Rattle.gp_syntax.specs.Step.{Step, StepBy, Places, MakesNode, MakesEdge, is_new, left_root, made_root}
 use Rattle.gp_syntax.specs.Plain.{left_node_of, right_node_of, right_edge_of, plain_rule, IsPlain}
-use Rattle.gp_cli.specs.PlainMatch.{PlainMatch}
-use Rattle.gp_cli.specs.Found.{plain_found}
-use Rattle.gp_cli.specs.Making.{AllNodes, AllEdges, EdgesRemoved, IsDeleted, NodesRemoved, AreLoose, root_of, placed_node, made_before, HaveOrigins, KeptAreThere, NodesPlaced, HaveImages, placed_edge, EdgesPlaced}
+use Rattle.gp_cli.specs.inside.PlainMatch.{PlainMatch}
+use Rattle.gp_cli.specs.inside.Found.{plain_found}
+use Rattle.gp_cli.specs.inside.Making.{AllNodes, AllEdges, EdgesRemoved, IsDeleted, NodesRemoved, AreLoose, root_of, placed_node, made_before, HaveOrigins, KeptAreThere, NodesPlaced, HaveImages, placed_edge, EdgesPlaced}
 use Rattle.gp_cli.proofs.Constants.{value-constant, some_map, some_from_map, got, applies_at, is_false}
 use Rattle.gp_cli.proofs.Making.{index_of, contains_at, same_place, same_or_not, one_at, origin_cases, same_root_new, same_root_kept}
 

@@ -1,8 +1,8 @@
 //! Writing the answer.
 
 ghost use Rattle.std.specs.Prelude.{◌≡◌, ◌≤◌};
-ghost use Rattle.gp_cli.specs.Parts.{Delivers, WritesPiece};
-ghost use Rattle.gp_cli.specs.Statuses.{status_code};
+ghost use Rattle.gp_cli.specs.inside.Parts.{Delivers, WritesPiece};
+ghost use Rattle.gp_cli.specs.inside.Statuses.{status_code};
 
 use crate::reply::Reply;
 use crate::status::Status;

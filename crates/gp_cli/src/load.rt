@@ -2,8 +2,8 @@
 
 ghost use Rattle.std.specs.Prelude.{◌≡◌, ◌≤◌, ◌++◌, ◌∷◌, [], IfOk};
 ghost use Rattle.gp_cli.specs.Answer.{read_text};
-ghost use Rattle.gp_cli.specs.Statuses.{status_code};
-ghost use Rattle.gp_cli.specs.Parts.{ReadsFile, LoadsProgram, LoadsHost};
+ghost use Rattle.gp_cli.specs.inside.Statuses.{status_code};
+ghost use Rattle.gp_cli.specs.inside.Parts.{ReadsFile, LoadsProgram, LoadsHost};
 
 use crate::fault_line::host_line;
 use crate::reply::{Stop, on_err};

@@ -3,7 +3,7 @@
 ghost use Rattle.std.specs.Prelude.{◌≡◌, ◌+◌, ◌∷◌, [], ◌++◌, IfOk, OnOk};
 ghost use Rattle.gp_syntax.specs.Plain.{plain_rule, plain_program, of_one_rule, IsPlain};
 ghost use Rattle.gp_syntax.specs.declared.plain.PlainMain.TheVariants as mains;
-ghost use Rattle.gp_cli.specs.Outcomes.{Calls, RunsTo, Executes};
+ghost use Rattle.gp_cli.specs.inside.Outcomes.{Calls, RunsTo, Executes};
 
 use crate::matching::{PlainFound, find_match};
 use crate::step::apply;

@@ -3,9 +3,9 @@
 ghost use Rattle.std.specs.Prelude.{◌≡◌, [], IfOk};
 ghost use Rattle.gp_syntax.specs.Plain.{plain_program, IsPlain};
 ghost use Rattle.gp_cli.specs.Answer.{bound_text};
-ghost use Rattle.gp_cli.specs.Statuses.{status_code};
-ghost use Rattle.gp_cli.specs.Parts.{Shows};
-ghost use Rattle.gp_cli.specs.Outcomes.{ShowsOutcome};
+ghost use Rattle.gp_cli.specs.inside.Statuses.{status_code};
+ghost use Rattle.gp_cli.specs.inside.Parts.{Shows};
+ghost use Rattle.gp_cli.specs.inside.Outcomes.{ShowsOutcome};
 
 use crate::reply::{Reply, on_err, on_out};
 use crate::run::{End, Outcome, execute};

@@ -1,7 +1,7 @@
 //! What the status of the process says.
 
 ghost use Rattle.std.specs.Prelude.{◌≡◌};
-ghost use Rattle.gp_cli.specs.Statuses.{status_code};
+ghost use Rattle.gp_cli.specs.inside.Statuses.{status_code};
 
 /// How the program ended.
 #[derive(Clone, Copy, Debug, PartialEq, Eq)]

@@ -5,8 +5,8 @@ ghost use Rattle.gp_values.specs.Graph.{IsGraph, HasNoEdges, node_at, without_no
 ghost use Rattle.gp_values.specs.Apart.{AreApart};
 ghost use Rattle.gp_syntax.specs.Step.{Applies, Step};
 ghost use Rattle.gp_syntax.specs.Plain.{plain_rule, IsPlain};
-ghost use Rattle.gp_cli.specs.Found.{found_of};
-ghost use Rattle.gp_cli.specs.Making.{AllNodes, AllEdges, EdgesRemoved, NodesRemoved, AreLoose, root_of, placed_node, HaveOrigins, KeptAreThere, NodesPlaced, HaveImages, placed_edge, EdgesPlaced, lands, placing};
+ghost use Rattle.gp_cli.specs.inside.Found.{found_of};
+ghost use Rattle.gp_cli.specs.inside.Making.{AllNodes, AllEdges, EdgesRemoved, NodesRemoved, AreLoose, root_of, placed_node, HaveOrigins, KeptAreThere, NodesPlaced, HaveImages, placed_edge, EdgesPlaced, lands, placing};
 
 use crate::matching::PlainFound;
 use gp_graph::Graph;
@@ -15,8 +15,8 @@ use gp_syntax::{PlainLeftNode, PlainRightEdge, PlainRightNode, PlainRule};
 use gp_values::{EdgeMark, NodeMark};
 use std::alloc::Global;
 
-// What every graph keeps, told to a caller.
-fn told(graph: &Graph)
+// What every graph in memory keeps, as a fact for the caller.
+fn recall(graph: &Graph)
     ensures { IsGraph graph.now.graph }
 {
     let _numbers = graph.next_numbers();
@@ -101,7 +101,7 @@ fn place_nodes(
     ensures count { IfOk result (λ images. length images.items ≡ length right.now) }
     ensures placed { IfOk result (λ images. NodesPlaced graph.old.graph right.now nodes.now images.items graph.new.graph) }
 {
-    told(graph);
+    recall(graph);
     let mut images = Vec::new(alloc);
     for q in right {
         let n = place_node(alloc, graph, q, nodes)?;
@@ -138,7 +138,7 @@ pub(crate) fn apply(
     requires applies { Applies (plain_rule rule.now) graph.old.graph (found_of found.now) }
     ensures { OnOk result (Step (plain_rule rule.now) graph.old.graph (found_of found.now) graph.new.graph) }
 {
-    told(graph);
+    recall(graph);
     remove_edges(graph, &found.edges);
     remove_nodes(graph, &rule.left_nodes, &found.nodes);
     let images = place_nodes(alloc, graph, &rule.right_nodes, &found.nodes)?;

@@ -1,7 +1,8 @@
 //! Programs on hosts through the top call.
 
 use crate::gp2_main;
-use gp_io::{Files, MemFiles, MemSink, ReadRefusal};
+use gp_io::{MemFiles, MemSink};
+use gp_memory::NoMemory;
 use std::alloc::Global;
 use std::test::Fail;
 
@@ -82,7 +83,7 @@ fn answer(
     }
     let mut out = sink(alloc, cuts.out)?;
     let mut err = sink(alloc, cuts.err)?;
-    let status = gp2_main(rt, &given, files, &mut out, &mut err);
+    let status = gp2_main(rt, Ok(given), files, &mut out, &mut err);
     let mut shown = Vec::new(alloc);
     shown.push(b'0'.wrapping_add(status))?;
     shown.push(b'\t')?;
@@ -92,8 +93,7 @@ fn answer(
     Ok(shown)
 }
 
-const RULES: [(&str, &str, &str); 10] = [
-    (MAKE, "[ | ]", "0\t[\n  (n0, 0)\n|\n]\n\t"),
+const EDGES: [(&str, &str, &str); 6] = [
     (
         PAIR,
         "[ (a, 1) (b, 2) | (x, a, b, empty) ]",
@@ -120,6 +120,10 @@ const RULES: [(&str, &str, &str); 10] = [
         "[ (a, 1) (b, 2) | (x, a, b, 3) ]",
         "0\t[\n  (n0, 1)\n  (n1, 2)\n|\n  (e0, n1, n0, 4)\n]\n\t",
     ),
+];
+
+const NODES: [(&str, &str, &str); 4] = [
+    (MAKE, "[ | ]", "0\t[\n  (n0, 0)\n|\n]\n\t"),
     (
         ZERO,
         "[ (a(R), 1) (b, 1 # red) | ]",
@@ -137,13 +141,27 @@ const RULES: [(&str, &str, &str); 10] = [
     ),
 ];
 
-#[test]
-fn rules_make_the_graphs_that_were_worked_out_by_hand(rt: HostRuntime) -> Result<(), Fail> {
-    for (program, host, shown) in RULES {
+// The first row whose run shows something else.
+fn first_wrong(rt: &HostRuntime, rows: &[(&str, &str, &str)]) -> Result<Option<usize>, Fail> {
+    for (place, (program, host, shown)) in rows.iter().enumerate() {
         let mut files = two_files(rt.alloc(), program, host, &[])?;
-        let found = answer(&rt, &["run", "p", "h"], &mut files, NO_CUTS)?;
-        assert_eq!(rt; found.as_slice(), shown.as_bytes());
+        let found = answer(rt, &["run", "p", "h"], &mut files, NO_CUTS)?;
+        if found.as_slice() != shown.as_bytes() {
+            return Ok(Some(place));
+        }
     }
+    Ok(None)
+}
+
+#[test]
+fn edges_are_matched_whole_and_none_dangles(rt: HostRuntime) -> Result<(), Fail> {
+    assert_eq!(rt; first_wrong(&rt, &EDGES)?, None);
+    Ok(())
+}
+
+#[test]
+fn nodes_are_placed_relabelled_and_kept(rt: HostRuntime) -> Result<(), Fail> {
+    assert_eq!(rt; first_wrong(&rt, &NODES)?, None);
     Ok(())
 }
 
@@ -254,6 +272,18 @@ fn other_words_are_refused(rt: HostRuntime) -> Result<(), Fail> {
     Ok(())
 }
 
+#[test]
+fn words_without_memory_end_in_silence(rt: HostRuntime) -> Result<(), Fail> {
+    let mut files = two_files(rt.alloc(), MAKE, "[ | ]", &[])?;
+    let mut out = sink(rt.alloc(), None)?;
+    let mut err = sink(rt.alloc(), None)?;
+    let status = gp2_main(&rt, Err(NoMemory), &mut files, &mut out, &mut err);
+    assert_eq!(rt; status, 7);
+    assert_eq!(rt; out.bytes(), b"".as_slice());
+    assert_eq!(rt; err.bytes(), b"".as_slice());
+    Ok(())
+}
+
 // What is asked of devices, and what comes of it.
 #[derive(Clone, Copy)]
 enum Asked {
@@ -267,16 +297,6 @@ enum Asked {
     Missing,
     // no words, with an err whose first write fails after so many bytes
     NoWords(u64),
-    // four bytes are read, with this limit
-    Limit(u64),
-}
-
-fn read_four(alloc: Global, limit: u64) -> Result<Vec<u8>, Fail> {
-    match two_files(alloc, "abcd", "", &[])?.read(alloc, "p", limit) {
-        Ok(bytes) => Ok(bytes),
-        Err(ReadRefusal::TooLong) => Ok(b"TooLong".to_vec(alloc)?),
-        Err(_) => Err(Fail::from("the read failed")),
-    }
 }
 
 fn files_of(alloc: Global, asked: Asked) -> Result<MemFiles, Fail> {
@@ -303,11 +323,7 @@ fn cuts_of(asked: Asked) -> Cuts {
 }
 
 fn come_to(rt: &HostRuntime, asked: Asked) -> Result<Vec<u8>, Fail> {
-    let alloc = rt.alloc();
-    if let Asked::Limit(limit) = asked {
-        return read_four(alloc, limit);
-    }
-    let mut files = files_of(alloc, asked)?;
+    let mut files = files_of(rt.alloc(), asked)?;
     let cuts = cuts_of(asked);
     match asked {
         Asked::NoWords(_) => answer(rt, &[], &mut files, cuts),
@@ -337,8 +353,6 @@ fn failing_devices_have_their_answers(rt: HostRuntime) -> Result<(), Fail> {
     rows.push((Asked::Unread(1), b"8\t\tread: h\n".to_vec(alloc)?))?;
     rows.push((Asked::UnreadCut(5), b"9\t\tread:".to_vec(alloc)?))?;
     rows.push((Asked::NoWords(3), b"9\t\tusa".to_vec(alloc)?))?;
-    rows.push((Asked::Limit(3), b"TooLong".to_vec(alloc)?))?;
-    rows.push((Asked::Limit(4), b"abcd".to_vec(alloc)?))?;
     for (asked, shown) in &rows {
         let found = come_to(&rt, *asked)?;
         assert_eq!(rt; found.as_slice(), shown.as_slice());

@@ -1,9 +1,9 @@
 //! The top call.
 
-ghost use Rattle.std.specs.Prelude.{◌≡◌, ◌≤◌, map, string_bytes, IfOk};
-ghost use Rattle.gp_cli.specs.Answer.{Replies, Answered, Completes};
-ghost use Rattle.gp_cli.specs.Parts.{RunsFiles};
-ghost use Rattle.gp_cli.specs.Statuses.{status_code};
+ghost use Rattle.std.specs.Prelude.{◌≡◌, ◌≤◌, map, string_bytes, IfOk, OnErr};
+ghost use Rattle.gp_cli.specs.Answer.{Replies, Answered, Completes, IsSilent};
+ghost use Rattle.gp_cli.specs.inside.Parts.{RunsFiles};
+ghost use Rattle.gp_cli.specs.inside.Statuses.{status_code};
 
 use crate::deliver::deliver;
 use crate::load::{load_host, load_program};
@@ -40,10 +40,9 @@ fn reply_to<F: Files>(alloc: Global, words: &[String], files: &mut F) -> Result<
     }
 }
 
-/// Runs the program's file on the host's, as the words say, and writes what comes of it. The answer is the status of
-/// the process.
-pub fn gp2_main<R: AllocGlobal, F: Files, O: Sink, E: Sink>(
-    rt: &R,
+// Answers these words: all text is made before the first write.
+fn answer_words<F: Files, O: Sink, E: Sink>(
+    alloc: Global,
     words: &[String],
     files: &mut F,
     out: &mut O,
@@ -59,8 +58,34 @@ pub fn gp2_main<R: AllocGlobal, F: Files, O: Sink, E: Sink>(
         (record { before = O.faults out.old; now = O.faults out.new })
         (record { before = E.faults err.old; now = E.faults err.new }) result }
 {
-    match reply_to(rt.alloc(), words, files) {
+    match reply_to(alloc, words, files) {
         Ok(reply) => deliver(&reply, out, err),
+        Err(NoMemory) => Status::NoMemory.code(),
+    }
+}
+
+/// Runs the program's file on the host's, as the words say, and writes what comes of it. The answer is the status of
+/// the process. The words are those behind the program's name, or that memory was refused for them.
+pub fn gp2_main<R: AllocGlobal, F: Files, O: Sink, E: Sink>(
+    rt: &R,
+    words: Result<Vec<String>, NoMemory>,
+    files: &mut F,
+    out: &mut O,
+    err: &mut E,
+) -> u8
+    ensures answered { IfOk words (λ given. Answered (map string_bytes given.items) (F.content files.old)
+        (record { before = F.faults files.old; now = F.faults files.new })
+        (record { before = O.faults out.old; now = O.faults out.new })
+        (record { before = E.faults err.old; now = E.faults err.new })
+        (O.written out.old) (O.written out.new) (E.written err.old) (E.written err.new) result) }
+    ensures complete { IfOk words (λ given. Completes (map string_bytes given.items) (F.content files.old)
+        (record { before = F.faults files.old; now = F.faults files.new })
+        (record { before = O.faults out.old; now = O.faults out.new })
+        (record { before = E.faults err.old; now = E.faults err.new }) result) }
+    ensures refused { OnErr words (IsSilent (O.written out.old) (O.written out.new) (E.written err.old) (E.written err.new) result) }
+{
+    match words {
+        Ok(words) => answer_words(rt.alloc(), &words, files, out, err),
         Err(NoMemory) => Status::NoMemory.code(),
     }
 }

@@ -1,7 +1,8 @@
 pub mod Wants
 pub mod Shapes
-pub mod Loop
-pub mod Passing
 pub mod Strings
 pub mod Texts
-pub mod GraphLaws
+pub mod Loops
+pub mod Passing
+pub mod Sound
+pub mod Complete

@@ -8,14 +8,11 @@ use Rattle.gp_values.specs.Texts.{IsCharacter, IsText}
 use Rattle.gp_tokens.specs.declared.token.Kind.TheVariants as k
 use Rattle.gp_tokens.specs.declared.token.Token.{Token}
 use Rattle.gp_tokens.specs.Numbers.{checked_number}
-use Rattle.gp_grammar.specs.declared.want.Want.{Want}
 use Rattle.gp_grammar.specs.declared.want.Want.TheVariants as wants
-use Rattle.gp_grammar.specs.Wants.{excludes}
 use Rattle.gp_grammar.specs.Shape.{Is, IsNumberAt, IsString}
-use Rattle.gp_grammar.specs.Reading.{token, number_at, closed, quoted, IsQuoted, string, stands_before}
+use Rattle.gp_grammar.specs.inside.Reading.{token, number_at, closed, quoted, IsQuoted, string}
 use Rattle.gp_grammar.specs.Laws.{Sound, Again, Anything, Begins, Shrinks}
 use Rattle.gp_grammar.proofs.Shapes.{bind_some, some_is, token_sound, token_again, token_begins, token_shrinks}
-use Rattle.gp_grammar.proofs.Passing.{Passes, token_passes}
 
 both : (a b : Bool) → (a && b) ≡ true → (a ≡ true) × (b ≡ true)
 both true b h = (refl, h)
@@ -116,9 +113,6 @@ string_begins ts rest x p = token_begins (wants.Kind k.String) ts rest p.token p
 pub string_shrinks : Shrinks IsString
 string_shrinks ts rest x p = token_shrinks (wants.Kind k.String) ts rest p.token p.is
 
-pub string_passes : (want stop : Want) → excludes (wants.Kind k.String) stop ≡ true → excludes (wants.Kind k.String) want ≡ true → Passes (stands_before want stop) IsString
-string_passes want stop e f ts rest x p = token_passes want stop (wants.Kind k.String) e f ts rest p.token p.is
-
 -- ---- and numbers with their offsets
 
 pub number_at_sound : Sound number_at IsNumberAt
@@ -138,6 +132,3 @@ number_at_begins ts rest x p = token_begins (wants.Kind k.Number) ts rest p.toke
 
 pub number_at_shrinks : Shrinks IsNumberAt
 number_at_shrinks ts rest x p = token_shrinks (wants.Kind k.Number) ts rest p.token p.is
-
-pub number_at_passes : (want stop : Want) → excludes (wants.Kind k.Number) stop ≡ true → excludes (wants.Kind k.Number) want ≡ true → Passes (stands_before want stop) IsNumberAt
-number_at_passes want stop e f ts rest x p = token_passes want stop (wants.Kind k.Number) e f ts rest p.token p.is

@@ -7,7 +7,7 @@ use Rattle.gp_tokens.specs.Numbers.{checked_number}
 use Rattle.gp_values.specs.Texts.{IsText}
 use Rattle.gp_grammar.specs.declared.want.Want.{Want}
 use Rattle.gp_grammar.specs.Shape.{Shape}
-use Rattle.gp_grammar.specs.Reading.{Reader, begins}
+use Rattle.gp_grammar.specs.inside.Reading.{Reader, begins}
 
 -- what is read has the shape
 abbrev pub Sound : {A : Type 0} → Reader A → Shape A → Type 0
@@ -27,11 +27,6 @@ pub record Comes (want : Want) (ts : List Token) : Type 0 where
 -- no such token comes next
 pub record No (want : Want) (ts : List Token) : Type 0 where
   pub none : begins want ts ≡ false
-
--- the reader reads the shape, before what may follow it: both ways
-pub record Reads {A : Type 0} (reader : Reader A) (R : Shape A) (Follows : List Token → Type 0) : Type 0 where
-  pub sound : Sound reader R
-  pub again : Again reader R Follows
 
 -- what has the shape begins with such a token
 abbrev pub Begins : {A : Type 0} → Want → Shape A → Type 0

@@ -1,7 +1,8 @@
 pub mod Wants
+pub mod Signs
 pub mod Shape
-pub mod Reading
+pub mod Grammar
+pub mod Fits
 pub mod Laws
-pub mod Graph
-pub mod GraphReading
-pub mod Labels
+pub mod Numerals
+pub mod inside

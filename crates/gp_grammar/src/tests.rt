@@ -1,54 +1,43 @@
 //! That calls succeed, and how many tokens an error counts.
 
-ghost use Rattle.std.specs.Prelude.{Some, None};
-ghost use Rattle.gp_tokens.specs.declared.token.Kind.TheVariants as kind;
-ghost use Rattle.gp_grammar.specs.declared.want.Want.TheVariants as wants;
-ghost use Rattle.gp_grammar.specs.Laws.{Anything};
-ghost use Rattle.gp_grammar.specs.Reading as read;
-ghost use Rattle.gp_grammar.specs.Shape as shape;
-
-use super::laws::Form;
 use super::*;
 use gp_tokens::{Keyword, Kind, Token, lex};
 use std::test::Fail;
 
-struct Bar;
-
-impl Form<Token> for Bar {
-    ghost shape = { shape.Is (wants.Kind kind.Bar) };
-
-    ghost reader = { read.token (wants.Kind kind.Bar) };
-
-    ghost follows = { Anything };
-}
-
 #[test]
-fn parts_are_read_from_the_front(rt: HostRuntime) -> Result<(), Fail> {
-    let tokens = lex(rt.alloc(), b"( R 17 | ] ")?;
-    let (open, rest) = token(tokens.as_slice(), Want::Kind(Kind::OpenParenthesis))?;
-    assert_eq!(rt; open.start, 0);
-    assert!(rt; begins(rest, Want::Keyword(Keyword::Root)));
-    assert!(rt; !begins(rest, Want::Keyword(Keyword::Bidirectional)));
-    let (root, rest) = token(rest, Want::Item)?;
-    assert_eq!(rt; root.text.as_bytes(), b"R".as_slice());
-    let (value, rest) = number(rest)?;
-    assert_eq!(rt; value, 17);
-    assert!(rt; stands_before(rest, Want::Kind(Kind::Bar), Want::Kind(Kind::CloseBracket)));
-    assert!(rt; !stands_before(rest, Want::Kind(Kind::CloseBracket), Want::Kind(Kind::Bar)));
-    assert!(rt; matches!(token(rest, Want::Variable), Err(ReadError::Syntax(2))));
-    assert!(rt; matches!(number(rest), Err(ReadError::Syntax(2))));
+fn a_cursor_reads_from_the_front(rt: HostRuntime) -> Result<(), Fail> {
+    let tokens = lex(rt.alloc(), b"( R 17 018 \"a b\" | ] ")?;
+    let mut tokens = Tokens::new(rt.alloc(), &tokens);
+    assert_eq!(rt; tokens.expect(Want::Kind(Kind::OpenParenthesis))?.start, 0);
+    assert!(rt; tokens.begins(Want::Keyword(Keyword::Root)));
+    assert!(rt; !tokens.eat(Want::Keyword(Keyword::Bidirectional)));
+    assert!(rt; tokens.eat(Want::Item));
+    assert_eq!(rt; tokens.number()?, 17);
+    assert_eq!(rt; tokens.number_at()?, (18, 7));
+    assert!(rt; matches!(tokens.number(), Err(ReadError::Syntax(3))));
+    assert_eq!(rt; tokens.string()?.as_bytes(), b"a b".as_slice());
+    assert!(rt; matches!(tokens.string(), Err(ReadError::Syntax(2))));
+    assert!(rt; matches!(tokens.expect(Want::Variable), Err(ReadError::Syntax(2))));
+    let (bar, close) = (Want::Kind(Kind::Bar), Want::Kind(Kind::CloseBracket));
+    assert!(rt; stands_before(tokens.left(), bar, close));
+    assert!(rt; !stands_before(tokens.left(), close, bar));
+    assert_eq!(rt; tokens.count(), 2);
     Ok(())
 }
 
 #[test]
-fn numbers_and_strings_are_read(rt: HostRuntime) -> Result<(), Fail> {
-    let tokens = lex(rt.alloc(), b" 017 \"a b\" 7")?;
-    let (value, start, rest) = number_at(tokens.as_slice())?;
-    assert!(rt; value == 17 && start == 1);
-    assert!(rt; matches!(number_at(rest), Err(ReadError::Syntax(2))));
-    let (characters, rest) = string(rt.alloc(), rest)?;
-    assert_eq!(rt; characters.as_bytes(), b"a b".as_slice());
-    assert!(rt; matches!(string(rt.alloc(), rest), Err(ReadError::Syntax(1))));
+fn lists_are_read_to_their_end(rt: HostRuntime) -> Result<(), Fail> {
+    let tokens = lex(rt.alloc(), b"1 2 3 : 4 : 5 , : 6")?;
+    let mut tokens = Tokens::new(rt.alloc(), &tokens);
+    let number = Want::Kind(Kind::Number);
+    let numbers = repeated_by(&mut tokens, number, |tokens| tokens.number())?;
+    assert_eq!(rt; numbers.as_slice(), [1, 2, 3].as_slice());
+    let tokens_behind = lex(rt.alloc(), b"3 : 4 : 5 , : 6")?;
+    let mut tokens = Tokens::new(rt.alloc(), &tokens_behind);
+    let colon = Want::Kind(Kind::Colon);
+    let numbers = separated_by(&mut tokens, colon, |tokens| tokens.number())?;
+    assert_eq!(rt; numbers.as_slice(), [3, 4, 5].as_slice());
+    assert_eq!(rt; tokens.count(), 3);
     Ok(())
 }
 
@@ -78,12 +67,11 @@ fn wants_tell_names_apart(rt: HostRuntime) -> Result<(), Fail> {
 }
 
 #[test]
-fn laws_hold_of_a_form() {
-    laws::tokens_are_read();
-    laws::texts_have_values();
-    laws::wants_are_apart();
-    laws::chains_are_read::<Token, Token, Bar, Bar>();
-    laws::choices_are_read::<Token, Bar, Bar>();
-    laws::trees_are_made::<Token, Token, Bar>();
-    laws::many_are_read::<Token, Bar>();
+fn integers_have_128_bits(rt: HostRuntime) {
+    let most = 1u128 << 127;
+    let of = |negative, value| Numeral { negative, value }.integer();
+    assert_eq!(rt; of(true, most), Some(i128::MIN));
+    assert_eq!(rt; of(false, most - 1), Some(i128::MAX));
+    assert_eq!(rt; of(false, most), None);
+    assert_eq!(rt; of(true, most + 1), None);
 }

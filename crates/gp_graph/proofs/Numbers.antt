@@ -1,11 +1,12 @@
 -- Lists in which no number stands twice.
-use Rattle.std.proofs.Common.{inl, inr, ◌≡◌, ℕ, zero, suc, ◌+◌, ◌<◌, ◌≤◌, ◌==◌, Bool, true, false, if◌then◌else◌, List, [], ◌∷◌, length, get_or, refl, sym, subst, ◌∙◌, arith}
+use Rattle.std.proofs.Common.{inl, inr, ◌≡◌, ℕ, zero, suc, ◌+◌, ◌<◌, ◌≤◌, ◌==◌, Bool, true, false, if◌then◌else◌, List, [], ◌∷◌, length, get_or, refl, sym, ap, subst, ◌∙◌, arith}
 use Rattle.std.specs.Prelude.{◌⊎◌, ◌↔◌, Contains}
-use Rattle.std.proofs.lemmas.Bool.{eqb-true, eq-eqb}
+use Rattle.std.proofs.lemmas.Bool.{cases_eq, eqb-true, eq-eqb}
 use Rattle.std.proofs.lemmas.List.{get_or_default}
 use Rattle.std.proofs.lemmas.List.Elements.{Contains-get_or}
 use Rattle.gp_values.specs.Apart.{AreApart}
 use Rattle.gp_graph.specs.Walks.{Walks}
+use Rattle.gp_graph.specs.inside.Chains.{without}
 
 pub here : (y : ℕ) (ys : List ℕ) (k : ℕ) → y ≡ k → Contains (y ∷ ys) k
 here y ys k e = (0, omega arith, e)
@@ -29,7 +30,7 @@ first_kept true n ns k e h = here n ns k e
 first_kept false n ns k e h = absurd cc
 
 -- one number before those of a list in which it does not stand
-apart_more : (y : ℕ) (ys : List ℕ) → (Contains ys y → ⊥) → AreApart ys → AreApart (y ∷ ys)
+pub apart_more : (y : ℕ) (ys : List ℕ) → (Contains ys y → ⊥) → AreApart ys → AreApart (y ∷ ys)
 apart_more y ys new apart i zero less within e = absurd (omega arith)
 apart_more y ys new apart zero (suc j) less within e =
     let b : j < length ys = omega arith in
@@ -41,18 +42,13 @@ apart_kept true n ns new apart = apart_more n ns new apart
 apart_kept false n ns new apart = apart
 
 -- the first number does not stand among the others, and these are apart
-first_new : (x : ℕ) (ns : List ℕ) → AreApart (x ∷ ns) → Contains ns x → ⊥
+pub first_new : (x : ℕ) (ns : List ℕ) → AreApart (x ∷ ns) → Contains ns x → ⊥
 first_new x ns apart h =
     let b : h.0 < length ns = h.1 in
     apart 0 (suc h.0) (omega arith) (omega arith) (sym (get_or_default ns h.0 0 x b ∙ h.2))
 
-others_apart : (x : ℕ) (ns : List ℕ) → AreApart (x ∷ ns) → AreApart ns
+pub others_apart : (x : ℕ) (ns : List ℕ) → AreApart (x ∷ ns) → AreApart ns
 others_apart x ns apart i j less within e = apart (suc i) (suc j) (omega arith) (omega arith) e
-
--- a list without the first of a number
-abbrev without : ℕ → List ℕ → List ℕ
-without x [] = []
-without x (y ∷ ys) = if y == x then ys else y ∷ without x ys
 
 one_less : (x y : ℕ) (ys : List ℕ) (b : Bool) → (y == x) ≡ b → (Contains ys x → length ys ≡ length (without x ys) + 1) → Contains (y ∷ ys) x → length (y ∷ ys) ≡ length (if b then ys else y ∷ without x ys) + 1
 one_less x y ys true e rest h = omega arith
@@ -62,7 +58,7 @@ one_less x y ys false e rest h =
       | inr there ↦ (let k : length ys ≡ length (without x ys) + 1 = rest there in omega arith)
     ]
 
-length-without : (x : ℕ) (ys : List ℕ) → Contains ys x → length ys ≡ length (without x ys) + 1
+pub length-without : (x : ℕ) (ys : List ℕ) → Contains ys x → length ys ≡ length (without x ys) + 1
 length-without x [] h = let b = h.1 in absurd (omega arith)
 length-without x (y ∷ ys) h = one_less x y ys (y == x) refl (length-without x ys) h
 
@@ -78,7 +74,7 @@ other_left x k y ys false e apart rest h =
       | inr there ↦ later y (without x ys) k (rest there)
     ]
 
-Contains-without : (x k : ℕ) (ys : List ℕ) → (k ≡ x → ⊥) → Contains ys k → Contains (without x ys) k
+pub Contains-without : (x k : ℕ) (ys : List ℕ) → (k ≡ x → ⊥) → Contains ys k → Contains (without x ys) k
 Contains-without x k [] apart h = h
 Contains-without x k (y ∷ ys) apart h = other_left x k y ys (y == x) refl apart (Contains-without x k ys apart) h
 
@@ -104,3 +100,19 @@ same_length ns ms P v w =
 -- a walk says the same by another fact that holds of the same numbers
 pub Walks-same : (ns : List ℕ) (P Q : ℕ → Type 0) → ((k : ℕ) → P k ↔ Q k) → Walks ns P → Walks ns Q
 Walks-same ns P Q same w = record { once = w.once; each = λ k. (λ h. (same k).0 ((w.each k).0 h), λ h. (w.each k).1 ((same k).1 h)) }
+
+abbrev below : ℕ → List ℕ
+below zero = []
+below (suc n) = n ∷ below n
+
+length-below : (n : ℕ) → length (below n) ≡ n
+length-below zero = refl
+length-below (suc n) = ap suc (length-below n)
+
+in_below : (n k : ℕ) → k < n → Contains (below n) k
+in_below zero k l = absurd (omega arith)
+in_below (suc n) k l = elim (cases_eq n k) [ inl e ↦ here n (below n) k e | inr ne ↦ later n (below n) k (in_below n k (omega arith)) ]
+
+-- numbers that are apart and below a bound are no more than the bound
+pub few : (xs : List ℕ) (n : ℕ) → AreApart xs → ((k : ℕ) → Contains xs k → k < n) → length xs ≤ n
+few xs n apart under = subst (λ m. length xs ≤ m) (length-below n) (no_more xs (below n) apart (λ k h. in_below n k (under k h)))

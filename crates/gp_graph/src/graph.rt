@@ -1,11 +1,13 @@
 //! Graphs, in two vectors of slots.
 
-ghost use Rattle.std.specs.Prelude.{◌≡◌, ◌<◌, ◌≤◌, ◌+◌, ◌^◌, length, IsOk, IfOk, OnOk, OnErr, IsSome, Some, None, MatchOption, IfSome};
-ghost use Rattle.gp_values.specs.Graph.{IsGraph, HasNoEdges, empty_graph, with_node, with_edge, without_node, without_edge, relabeled, node_at, edge_at, in_degree, out_degree};
-ghost use Rattle.gp_graph.specs.Walks.{Walks, IsRoot, BeginsAt, EndsAt, GoesBetween};
+ghost use Rattle.std.specs.Prelude.{◌≡◌, ◌<◌, ◌≤◌, ◌+◌, ◌-◌, ◌^◌, length, IsOk, IfOk, OnOk, OnErr, IsSome, Some, None, MatchOption, IfSome};
+ghost use Rattle.gp_values.specs.Graph.{IsGraph, HasNoEdges, empty_graph, with_node, with_edge, without_node, without_edge, relabeled, with_node_at, with_edge_at, without_node_number, without_edge_number, node_at, edge_at, in_degree, out_degree, node_count, root_count};
+ghost use Rattle.gp_graph.specs.Walks.{Walks, IsNode, IsRoot, BeginsAt, EndsAt, GoesBetween};
 
-use crate::slots::{EdgeSlot, NodeSlot, append, copy_of, look, put};
-use crate::walk::{Ends, Walk, over_edges, over_roots};
+use crate::rings::{Side, ends_of, enter_both, leave_both, ring_at};
+use crate::roots::{admit, clear, fill, relabel};
+use crate::slots::{EdgeSlot, NodeSlot, Ring, append, copy_of, drop_last, look, put};
+use crate::walk::{Walk, over_edges, over_nodes, over_roots};
 use gp_memory::NoMemory;
 use gp_values::{EdgeMark, List, NodeMark};
 use std::alloc::Global;
@@ -18,21 +20,24 @@ use std::marker::Model;
 pub struct Graph {
     nodes: Vec<Option<NodeSlot>>,
     edges: Vec<Option<EdgeSlot>>,
+    roots: Ring,
+    node_count: u64,
+    last_changed: u64,
 }
 
 impl Model for Graph {
-    ghost use Rattle.gp_values.specs.Graph.{IsGraph};
     ghost use Rattle.gp_graph.specs.Held.{Held, held_code};
 
     ghost Value = { Held };
 
     ghost coded = { held_code };
 
-    ghost use Rattle.gp_graph.specs.View.{graph_of, held_of};
+    ghost use Rattle.gp_graph.specs.inside.View.{held_of};
+    ghost use Rattle.gp_graph.specs.inside.Sound.{IsHeld};
 
     ghost view = { held_of };
 
-    ghost invariant = { λ a. IsGraph (graph_of a) };
+    ghost invariant = { λ a. IsHeld a.nodes.items a.edges.items a.roots a.node_count };
 }
 
 impl Graph {
@@ -43,6 +48,9 @@ impl Graph {
         Graph {
             nodes: Vec::new(alloc),
             edges: Vec::new(alloc),
+            roots: Ring { first: 0, count: 0 },
+            node_count: 0,
+            last_changed: 0,
         }
     }
 
@@ -70,6 +78,10 @@ impl Graph {
     {
         let number = self.nodes.len() as u64;
         append(&mut self.nodes, NodeSlot::new(label, mark, root))?;
+        let roots = admit(&mut self.nodes, self.roots, number);
+        self.roots = roots;
+        self.node_count += 1;
+        self.last_changed = number;
         Ok(number)
     }
 
@@ -93,6 +105,8 @@ impl Graph {
     {
         let number = self.edges.len() as u64;
         append(&mut self.edges, EdgeSlot::new(source, target, label, mark))?;
+        enter_both(&mut self.nodes, &mut self.edges, source, target, number);
+        self.last_changed = source;
         Ok(number)
     }
 
@@ -106,7 +120,11 @@ impl Graph {
         ensures node_room { self.new.node_room ≡ self.old.node_room }
         ensures edge_room { self.new.edge_room ≡ self.old.edge_room }
     {
-        match put(&mut self.nodes, n as usize, None) {
+        let (roots, was) = clear(&mut self.nodes, self.roots, n);
+        self.roots = roots;
+        self.node_count -= 1;
+        self.last_changed = n;
+        match was {
             Some(slot) => (slot.label, slot.mark, slot.root),
             None => unreachable!(),
         }
@@ -120,7 +138,10 @@ impl Graph {
         ensures node_room { self.new.node_room ≡ self.old.node_room }
         ensures edge_room { self.new.edge_room ≡ self.old.edge_room }
     {
-        match put(&mut self.edges, e as usize, None) {
+        let (source, target) = ends_of(&self.edges, e);
+        leave_both(&mut self.nodes, &mut self.edges, source, target, e);
+        self.last_changed = source;
+        match put(&mut self.edges, e, None) {
             Some(slot) => (slot.source, slot.target, slot.label, slot.mark),
             None => unreachable!(),
         }
@@ -134,14 +155,63 @@ impl Graph {
         ensures node_room { self.new.node_room ≡ self.old.node_room }
         ensures edge_room { self.new.edge_room ≡ self.old.edge_room }
     {
-        match put(
-            &mut self.nodes,
-            n as usize,
-            Some(NodeSlot::new(label, mark, root)),
-        ) {
-            Some(slot) => slot.label,
-            None => unreachable!(),
-        }
+        let (roots, was) = relabel(&mut self.nodes, self.roots, n, label, mark, root);
+        self.roots = roots;
+        self.last_changed = n;
+        was
+    }
+
+    /// Puts a node back at a number that is vacant and below the next one. It takes no memory.
+    pub fn put_node(&mut self, n: u64, label: List, mark: NodeMark, root: bool)
+        requires below { n < self.old.graph.next_node }
+        requires vacant { node_at self.old.graph n ≡ None }
+        ensures put { self.new.graph ≡ with_node_at self.old.graph n (record { label = label; mark = mark; root = root }) }
+        ensures node_room { self.new.node_room ≡ self.old.node_room }
+        ensures edge_room { self.new.edge_room ≡ self.old.edge_room }
+    {
+        let slot = NodeSlot::new(label, mark, root);
+        let roots = fill(&mut self.nodes, self.roots, n, slot);
+        self.roots = roots;
+        self.node_count += 1;
+        self.last_changed = n;
+    }
+
+    /// Puts an edge back at a number that is vacant and below the next one. It takes no memory.
+    pub fn put_edge(&mut self, e: u64, source: u64, target: u64, label: List, mark: EdgeMark)
+        requires below { e < self.old.graph.next_edge }
+        requires vacant { edge_at self.old.graph e ≡ None }
+        requires source { IsSome (node_at self.old.graph source) }
+        requires target { IsSome (node_at self.old.graph target) }
+        ensures put { self.new.graph ≡ with_edge_at self.old.graph e (record { source = source; target = target; label = label; mark = mark }) }
+        ensures node_room { self.new.node_room ≡ self.old.node_room }
+        ensures edge_room { self.new.edge_room ≡ self.old.edge_room }
+    {
+        let slot = EdgeSlot::new(source, target, label, mark);
+        let _vacant = put(&mut self.edges, e, Some(slot));
+        enter_both(&mut self.nodes, &mut self.edges, source, target, e);
+        self.last_changed = source;
+    }
+
+    /// Lowers the next number of a node by one, where the number below it is vacant. It takes no memory.
+    pub fn drop_node(&mut self)
+        requires some { 0 < self.old.graph.next_node }
+        requires vacant { node_at self.old.graph (self.old.graph.next_node - 1) ≡ None }
+        ensures dropped { self.new.graph ≡ without_node_number self.old.graph }
+        ensures node_room { self.new.node_room ≡ self.old.node_room + 1 }
+        ensures edge_room { self.new.edge_room ≡ self.old.edge_room }
+    {
+        drop_last(&mut self.nodes);
+    }
+
+    /// Lowers the next number of an edge by one, where the number below it is vacant. It takes no memory.
+    pub fn drop_edge(&mut self)
+        requires some { 0 < self.old.graph.next_edge }
+        requires vacant { edge_at self.old.graph (self.old.graph.next_edge - 1) ≡ None }
+        ensures dropped { self.new.graph ≡ without_edge_number self.old.graph }
+        ensures node_room { self.new.node_room ≡ self.old.node_room }
+        ensures edge_room { self.new.edge_room ≡ self.old.edge_room + 1 }
+    {
+        drop_last(&mut self.edges);
     }
 
     /// The label and the mark of a node and whether it is a root, or none where no node has that number.
@@ -151,7 +221,7 @@ impl Graph {
             (λ r. node_at self.now.graph n ≡ Some (record { label = r.0.now; mark = r.1; root = r.2 })) }
         ensures sound { IsGraph self.now.graph }
     {
-        match look(&self.nodes, n as usize) {
+        match look(&self.nodes, n) {
             Some(slot) => Some((&slot.label, slot.mark, slot.root)),
             None => None,
         }
@@ -164,7 +234,7 @@ impl Graph {
             (λ r. edge_at self.now.graph e ≡ Some (record { source = r.0; target = r.1; label = r.2.now; mark = r.3 })) }
         ensures sound { IsGraph self.now.graph }
     {
-        match look(&self.edges, e as usize) {
+        match look(&self.edges, e) {
             Some(slot) => Some((slot.source, slot.target, &slot.label, slot.mark)),
             None => None,
         }
@@ -178,59 +248,106 @@ impl Graph {
         (self.nodes.len() as u64, self.edges.len() as u64)
     }
 
+    /// The numbers of all nodes.
+    pub fn nodes(&self) -> Walk<'_>
+        ensures walks { Walks result (IsNode self.now.graph) }
+        ensures counted { length result ≡ node_count self.now.graph }
+        ensures fits { length result < 2 ^ 64 }
+    {
+        over_nodes(&self.nodes)
+    }
+
+    /// How many nodes there are. It takes constant time.
+    pub fn node_count(&self) -> u64
+        ensures { result ≡ node_count self.now.graph }
+    {
+        self.node_count
+    }
+
     /// The numbers of the roots.
     pub fn roots(&self) -> Walk<'_>
         ensures walks { Walks result (IsRoot self.now.graph) }
+        ensures counted { length result ≡ root_count self.now.graph }
         ensures fits { length result < 2 ^ 64 }
     {
-        over_roots(&self.nodes)
+        over_roots(&self.nodes, self.roots)
+    }
+
+    /// How many roots there are. It takes constant time.
+    pub fn root_count(&self) -> u64
+        ensures { result ≡ root_count self.now.graph }
+    {
+        self.roots.count
     }
 
     /// The numbers of the edges that begin at a node. A loop is among them.
     pub fn out_edges(&self, n: u64) -> Walk<'_>
         requires { IsSome (node_at self.now.graph n) }
         ensures walks { Walks result (BeginsAt self.now.graph n) }
+        ensures counted { length result ≡ out_degree self.now.graph n }
         ensures fits { length result < 2 ^ 64 }
     {
-        over_edges(&self.edges, Ends::From(n))
+        let ring = ring_at(&self.nodes, Side::Beginning, n);
+        over_edges(&self.edges, Side::Beginning, ring, None)
     }
 
     /// The numbers of the edges that end at a node. A loop is among them.
     pub fn in_edges(&self, n: u64) -> Walk<'_>
         requires { IsSome (node_at self.now.graph n) }
         ensures walks { Walks result (EndsAt self.now.graph n) }
+        ensures counted { length result ≡ in_degree self.now.graph n }
         ensures fits { length result < 2 ^ 64 }
     {
-        over_edges(&self.edges, Ends::To(n))
+        let ring = ring_at(&self.nodes, Side::Ending, n);
+        over_edges(&self.edges, Side::Ending, ring, None)
     }
 
-    /// The numbers of the edges that go from the node `source` to the node `target`.
+    /// The numbers of the edges that go from the node `source` to the node `target`. The walk goes over the edges
+    /// that begin at the one or over those that end at the other, whichever are fewer.
     pub fn edges_between(&self, source: u64, target: u64) -> Walk<'_>
         requires source { IsSome (node_at self.now.graph source) }
         requires target { IsSome (node_at self.now.graph target) }
         ensures walks { Walks result (GoesBetween self.now.graph source target) }
+        ensures most_from { length result ≤ out_degree self.now.graph source }
+        ensures most_to { length result ≤ in_degree self.now.graph target }
         ensures fits { length result < 2 ^ 64 }
     {
-        over_edges(&self.edges, Ends::Between(source, target))
+        let from = ring_at(&self.nodes, Side::Beginning, source);
+        let to = ring_at(&self.nodes, Side::Ending, target);
+        if from.count <= to.count {
+            over_edges(&self.edges, Side::Beginning, from, Some(target))
+        } else {
+            over_edges(&self.edges, Side::Ending, to, Some(source))
+        }
     }
 
-    /// How many edges end and how many begin at a node. A loop counts once in each.
+    /// How many edges end and how many begin at a node. A loop counts once in each. It takes constant time.
     pub fn degrees(&self, n: u64) -> (u64, u64)
         requires { IsSome (node_at self.now.graph n) }
         ensures { result ≡ (in_degree self.now.graph n, out_degree self.now.graph n) }
     {
-        let ending = self.in_edges(n).count();
-        let beginning = self.out_edges(n).count();
-        (ending as u64, beginning as u64)
+        let ending = ring_at(&self.nodes, Side::Ending, n);
+        let beginning = ring_at(&self.nodes, Side::Beginning, n);
+        (ending.count, beginning.count)
     }
 
-    /// The same graph in memory of its own.
+    /// A hint for searches: the number of the node that was added, put, relabelled or removed last, or the source of
+    /// the edge that was added, put or removed last, whichever was later; 0 at first. A copy keeps it. It is no part
+    /// of the graph that contracts see, and no contract says anything of its value: a caller takes any number for it.
+    pub fn last_changed(&self) -> u64 {
+        self.last_changed
+    }
+
+    /// The same graph in memory of its own. Its walks keep their orders.
     pub fn copy(&self, alloc: Global) -> Result<Graph, NoMemory>
         ensures { IfOk result (λ copied. copied.graph ≡ self.now.graph) }
     {
         Ok(Graph {
             nodes: copy_of(&self.nodes, alloc)?,
             edges: copy_of(&self.edges, alloc)?,
+            roots: self.roots,
+            node_count: self.node_count,
+            last_changed: self.last_changed,
         })
     }
 }

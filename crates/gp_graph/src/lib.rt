@@ -1,7 +1,16 @@
 //! A host graph that is held in memory: nodes and edges by number.
+//!
+//! Call `Graph::new`, then `add_node` and `add_edge`, or `reserve` before them so that they are not refused. Each
+//! contract names the edit of the graph that the call makes (`gp_values/specs/Graph.antt`), so a caller sees two finite
+//! maps and two next numbers (Plump 2012, "The Design of GP 2", section 2). `Walk` gives numbers by what holds of them
+//! (`specs/Walks.antt`), in an order that contracts leave open: in fact the oldest edge first.
+//! Nothing but `reserve`, the adds and `copy` takes memory: a removal is taken back by `put_node` or `put_edge`, an
+//! addition by a removal and `drop_node` or `drop_edge`.
 #![tactic(auto)]
 
 mod graph;
+mod rings;
+mod roots;
 mod slots;
 #[cfg(test)]
 mod tests;

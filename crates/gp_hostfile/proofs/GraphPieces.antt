@@ -12,7 +12,7 @@ use Rattle.gp_values.specs.declared.marks.EdgeMark.TheVariants as edge_marks
 use Rattle.gp_values.specs.Labels.{atom_text, label_text}
 use Rattle.gp_values.specs.Graph.{Node, Edge}
 use Rattle.gp_hostfile.specs.GraphText.{root_text, node_mark_text, edge_mark_text, node_line, edge_line, edge_lines}
-use Rattle.gp_hostfile.proofs.Pieces.{Piece, blank, word, spelled, spelled-append}
+use Rattle.gp_tokens.proofs.Pieces.{Piece, blank, word, spelled, spelled-append}
 
 -- ---- pieces
 

@@ -15,9 +15,9 @@ use Rattle.gp_values.specs.declared.marks.EdgeMark.TheVariants as edge_marks
 use Rattle.gp_values.specs.Atoms.{IsAtom, AreAtoms}
 use Rattle.gp_values.specs.Texts.{IsText}
 use Rattle.gp_values.specs.Graph.{Node, Edge}
-use Rattle.gp_hostfile.proofs.Pieces.{Piece, blank, word, spelled, Stands, AllStand, all_stand-append}
-use Rattle.gp_hostfile.proofs.Stands.{space_stands, feed_stands, sign_stands, open_lone, close_lone, open_bracket_lone, close_bracket_lone, comma_lone, colon_lone, minus_lone, hash_lone, bar_lone, word_stands, number_stands, string_stands}
-use Rattle.gp_hostfile.proofs.Numerals.{decimal_some, decimal_digits, decimal_value, name_in_word, name_no_number}
+use Rattle.gp_tokens.proofs.Pieces.{Piece, blank, word, spelled, Stands, AllStand, all_stand-append}
+use Rattle.gp_tokens.proofs.Stands.{space_stands, feed_stands, sign_stands, open_lone, close_lone, open_bracket_lone, close_bracket_lone, comma_lone, colon_lone, minus_lone, hash_lone, bar_lone, word_stands, number_stands, string_stands}
+use Rattle.gp_tokens.proofs.Numerals.{decimal_some, decimal_digits, decimal_value, name_in_word, name_no_number}
 use Rattle.gp_hostfile.proofs.GraphPieces.{comma, named, root_pieces, marked, node_mark_pieces, edge_mark_pieces, atom_pieces, more_pieces, label_pieces, line_end, node_pieces, edge_pieces, nodes_pieces, edges_pieces, text_end, graph_pieces}
 
 -- a text that makes no word before it longer

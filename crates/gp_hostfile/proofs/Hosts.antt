@@ -5,7 +5,7 @@ use Rattle.gp_tokens.specs.declared.token.Token.{Token}
 use Rattle.gp_tokens.specs.declared.fault.LexFault.{LexFault}
 use Rattle.gp_tokens.specs.declared.fault.LexFault.TheVariants as lex_faults
 use Rattle.gp_tokens.specs.Lexed.{tokens_of, Fails as LexFails}
-use Rattle.gp_grammar.specs.Reading.{◌>>=◌}
+use Rattle.gp_grammar.specs.inside.Reading.{◌>>=◌, reader_of}
 use Rattle.gp_grammar.proofs.Shapes.{bind_some, some_is}
 use Rattle.gp_values.specs.Names.{Name}
 use Rattle.gp_values.specs.Graph.{Node, Edge, Graph, IsGraph, node_at, edge_at, empty_graph}
@@ -13,19 +13,18 @@ use Rattle.gp_values.proofs.Graphs.{same_graph}
 use Rattle.gp_graph.specs.declared.graph.Graph.{Graph as HeldGraph}
 use Rattle.gp_hostfile.specs.declared.tree.NodeTree.{NodeTree}
 use Rattle.gp_hostfile.specs.declared.tree.EdgeTree.{EdgeTree}
+use Rattle.gp_hostfile.specs.declared.tree.HostTree.{HostTree as HeldTree}
 use Rattle.gp_hostfile.specs.declared.fault.HostFault.{HostFault}
 use Rattle.gp_hostfile.specs.declared.fault.HostFault.TheVariants as faults
-use Rattle.gp_hostfile.specs.Grammar.{HostTree, IsHostShape}
-use Rattle.gp_hostfile.specs.Host.{IsHostFault, IsDrawn, IsDrawnNode, IsDrawnEdge, IsHostText, IsRefusal, ReadsHost, first_fault, node_names, first_told}
+use Rattle.gp_hostfile.specs.Grammar.{HostTree, IsHostShape, host}
+use Rattle.gp_hostfile.specs.Host.{IsHostFault, IsBuilt, IsBuiltNode, IsBuiltEdge, IsHostText, IsRefusal, ReadsHost, first_fault, node_names, first_found}
 use Rattle.gp_hostfile.specs.Host as spec
 use Rattle.gp_hostfile.specs.Laws.{AreSyntax}
-use Rattle.gp_hostfile.specs.Reading.{host}
-use Rattle.gp_hostfile.specs.Drawn.{Refuses, Fails, Makes, ReadsTree, all_read, lex_fault, nodes_made, edges_made, graph_made, label_fault, node_mark_fault, edge_mark_fault}
-use Rattle.gp_hostfile.proofs.Shapes.{host_sound}
-use Rattle.gp_hostfile.proofs.Spelled.{host_again}
+use Rattle.gp_hostfile.specs.inside.Stages.{Refuses, Fails, Makes, ReadsTree, ReadsText, HasTree, all_read, lex_fault, nodes_made, edges_made, graph_made, label_fault, node_mark_fault, edge_mark_fault}
+use Rattle.gp_hostfile.proofs.Grammars.{host_sound, host_again}
 use Rattle.gp_hostfile.proofs.Faults.{neither, clear}
-use Rattle.gp_hostfile.proofs.Turns.{failed}
-use Rattle.gp_hostfile.proofs.Drawn.{AreDrawnNodes, AreDrawnEdges, nodes_sound, edges_sound, nodes_complete, edges_complete}
+use Rattle.gp_hostfile.proofs.Making.{failed}
+use Rattle.gp_hostfile.proofs.Built.{AreBuiltNodes, AreBuiltEdges, nodes_sound, edges_sound, nodes_complete, edges_complete}
 
 -- ---- the graph of a tree
 
@@ -41,34 +40,34 @@ module _ (nodes : List Name) (t : HostTree) where
   pub edges_failed : (g : Graph) → nodes_made t.0 empty_graph ≡ Some g → (e : HostFault) → Fails e (edges_made nodes t.1 g) → Fails e (graph_made nodes t)
   edges_failed g made e h = rw (behind_nodes g made) h
 
-  pub edges_drawn : (g : Graph) → nodes_made t.0 empty_graph ≡ Some g → (h : Graph) → edges_made nodes t.1 g ≡ Some h → graph_made nodes t ≡ Some h
-  edges_drawn g made h e = behind_nodes g made ∙ e
+  pub edges_built : (g : Graph) → nodes_made t.0 empty_graph ≡ Some g → (h : Graph) → edges_made nodes t.1 g ≡ Some h → graph_made nodes t ≡ Some h
+  edges_built g made h e = behind_nodes g made ∙ e
 
-drawn : (t : HostTree) (g h : Graph) → AreDrawnNodes t.0 empty_graph g → AreDrawnEdges (node_names t) t.1 g h → IsDrawn t h
-drawn t g h p q =
+built : (t : HostTree) (g h : Graph) → AreBuiltNodes t.0 empty_graph g → AreBuiltEdges (node_names t) t.1 g h → IsBuilt t h
+built t g h p q =
     let at_zero : (k : ℕ) → 0 + k ≡ k = λ k. omega arith in
     let edges_from : g.next_edge ≡ 0 = p.next_edge in
     record {
       next_node = q.next_node ∙ p.next_node ∙ at_zero (length t.0);
       next_edge = q.next_edge ∙ ap (λ k. k + length t.1) edges_from ∙ at_zero (length t.1);
       nodes = λ i x e.
-          let there : IsDrawnNode x (node_at g i) = subst (λ j. IsDrawnNode x (node_at g j)) (at_zero i) (p.here i x e) in
-          subst (λ ns. IsDrawnNode x (Rattle.std.specs.FinMap.get ns i)) (sym q.all_nodes) there;
-      edges = λ i x e. subst (λ j. IsDrawnEdge (node_names t) x (edge_at h j)) (ap (λ k. k + i) edges_from ∙ at_zero i) (q.here i x e);
+          let there : IsBuiltNode x (node_at g i) = subst (λ j. IsBuiltNode x (node_at g j)) (at_zero i) (p.here i x e) in
+          subst (λ ns. IsBuiltNode x (Rattle.std.specs.FinMap.get ns i)) (sym q.all_nodes) there;
+      edges = λ i x e. subst (λ j. IsBuiltEdge (node_names t) x (edge_at h j)) (ap (λ k. k + i) edges_from ∙ at_zero i) (q.here i x e);
     }
 
-graph_sound : (t : HostTree) (g : Graph) → graph_made (node_names t) t ≡ Some g → IsDrawn t g
+pub graph_sound : (t : HostTree) (g : Graph) → graph_made (node_names t) t ≡ Some g → IsBuilt t g
 unfolding graph_made
 graph_sound t g h =
     let n = bind_some (nodes_made t.0 empty_graph) (edges_made (node_names t) t.1) g h in
-    drawn t n.0 g (nodes_sound t.0 empty_graph n.0 n.1) (edges_sound (node_names t) t.1 n.0 g n.2)
+    built t n.0 g (nodes_sound t.0 empty_graph n.0 n.1) (edges_sound (node_names t) t.1 n.0 g n.2)
 
-graph_complete : (t : HostTree) → first_fault t ≡ None → graph_made (node_names t) t ≡ None → ⊥
+pub graph_complete : (t : HostTree) → first_fault t ≡ None → graph_made (node_names t) t ≡ None → ⊥
 unfolding graph_made
 graph_complete t f h =
     let a = clear t f in
-    let n = neither (first_told (λ (n : NodeTree). label_fault n.label) t.0) (first_told (λ (e : EdgeTree). label_fault e.label) t.1) a.0 in
-    let m = neither (first_told node_mark_fault t.0) (first_told edge_mark_fault t.1) a.2 in
+    let n = neither (first_found (λ (n : NodeTree). label_fault n.label) t.0) (first_found (λ (e : EdgeTree). label_fault e.label) t.1) a.0 in
+    let m = neither (first_found node_mark_fault t.0) (first_found edge_mark_fault t.1) a.2 in
     by (nodes_made t.0 empty_graph) refl (λ e. nodes_complete t.0 empty_graph n.0 m.0 e) (λ g e. edges_complete (node_names t) t.1 g n.1 a.1 m.1 e) h
   where
     by : (o : Option Graph) → nodes_made t.0 empty_graph ≡ o → (nodes_made t.0 empty_graph ≡ None → ⊥) → ((g : Graph) → edges_made (node_names t) t.1 g ≡ None → ⊥) → (o >>= edges_made (node_names t) t.1) ≡ None → ⊥
@@ -82,14 +81,14 @@ read_all None t h = absurd cc
 read_all (Some (e, [])) t h = ap (λ (y : HostTree). Some (y, [])) (some_is e t h)
 read_all (Some (e, u ∷ us)) t h = absurd cc
 
-shaped : (ts : List Token) (t : HostTree) → all_read (host ts) ≡ Some t → IsHostShape ts [] t
-shaped ts t h = host_sound ts (t, []) (read_all (host ts) t h)
+pub shaped : (ts : List Token) (t : HostTree) → all_read (reader_of host ts) ≡ Some t → IsHostShape ts [] t
+shaped ts t h = host_sound ts (t, []) (read_all (reader_of host ts) t h)
 
-is_read : (ts : List Token) (t : HostTree) → IsHostShape ts [] t → host ts ≡ Some (t, [])
+is_read : (ts : List Token) (t : HostTree) → IsHostShape ts [] t → reader_of host ts ≡ Some (t, [])
 is_read ts t h = host_again ts [] t h tt
 
-unread : (ts : List Token) → all_read (host ts) ≡ None → (t : HostTree) → IsHostShape ts [] t → ⊥
-unread ts h t s = let e : all_read (host ts) ≡ Some t = rw (is_read ts t s) refl in cc
+pub unread : (ts : List Token) → all_read (reader_of host ts) ≡ None → (t : HostTree) → IsHostShape ts [] t → ⊥
+unread ts h t s = let e : all_read (reader_of host ts) ≡ Some t = rw (is_read ts t s) refl in cc
 
 -- ---- what the reader answers
 
@@ -111,29 +110,33 @@ module _ (bytes : List ℕ) (ts : List Token) (lexed : tokens_of bytes ≡ Ok ts
   tree_refused (faults.NoSuchEnd n) h = absurd h
   tree_refused (faults.WrongMark n) h = absurd h
 
-  module _ (t : HostTree) (read : all_read (host ts) ≡ Some t) where
-    pub fault_refused : (e : HostFault) → Refuses e (first_fault t) → IsRefusal bytes e
-    fault_refused faults.NoMemory h = tt
-    fault_refused (faults.Lex x) h = spec.tree ts t lexed (shaped ts t read) h
-    fault_refused (faults.Syntax k) h = spec.tree ts t lexed (shaped ts t read) h
-    fault_refused (faults.NumberRange at) h = spec.tree ts t lexed (shaped ts t read) h
-    fault_refused (faults.TwoNodes n) h = spec.tree ts t lexed (shaped ts t read) h
-    fault_refused (faults.TwoEdges n) h = spec.tree ts t lexed (shaped ts t read) h
-    fault_refused (faults.NoSuchEnd n) h = spec.tree ts t lexed (shaped ts t read) h
-    fault_refused (faults.WrongMark n) h = spec.tree ts t lexed (shaped ts t read) h
+  pub tree_answered : (r : Result HeldTree HostFault) → ReadsTree ts r → ReadsText bytes r
+  tree_answered (Ok t) h = record { tokens = ts; lexed = lexed; read = h }
+  tree_answered (Err e) h = tree_refused e h
 
-    pub graph_answered : (names : List Name) → first_fault t ≡ None → names ≡ node_names t → (r : Result HeldGraph HostFault) → Makes (λ (g : HeldGraph). g.graph) r (graph_made names t) → IfOk r (λ (g : HeldGraph). IsGraph g.graph) → ReadsHost bytes r
-    graph_answered names f n (Ok g) made w =
-        let m : graph_made (node_names t) t ≡ Some g.graph = ap (λ ns. graph_made ns t) (sym n) ∙ made in
-        record { tokens = ts; tree = t; lexed = lexed; shape = shaped ts t read; faultless = f; drawn = graph_sound t g.graph m; graph = w }
-    graph_answered names f n (Err faults.NoMemory) made w = tt
-    graph_answered names f n (Err (faults.Lex x)) made w = absurd (graph_complete t f (ap (λ ns. graph_made ns t) (sym n) ∙ made))
-    graph_answered names f n (Err (faults.Syntax k)) made w = absurd (graph_complete t f (ap (λ ns. graph_made ns t) (sym n) ∙ made))
-    graph_answered names f n (Err (faults.NumberRange at)) made w = absurd (graph_complete t f (ap (λ ns. graph_made ns t) (sym n) ∙ made))
-    graph_answered names f n (Err (faults.TwoNodes x)) made w = absurd (graph_complete t f (ap (λ ns. graph_made ns t) (sym n) ∙ made))
-    graph_answered names f n (Err (faults.TwoEdges x)) made w = absurd (graph_complete t f (ap (λ ns. graph_made ns t) (sym n) ∙ made))
-    graph_answered names f n (Err (faults.NoSuchEnd x)) made w = absurd (graph_complete t f (ap (λ ns. graph_made ns t) (sym n) ∙ made))
-    graph_answered names f n (Err (faults.WrongMark x)) made w = absurd (graph_complete t f (ap (λ ns. graph_made ns t) (sym n) ∙ made))
+module _ (bytes : List ℕ) (t : HostTree) (of : HasTree bytes t) where
+  pub fault_refused : (e : HostFault) → Refuses e (first_fault t) → IsRefusal bytes e
+  fault_refused faults.NoMemory h = tt
+  fault_refused (faults.Lex x) h = spec.tree of.tokens t of.lexed (shaped of.tokens t of.read) h
+  fault_refused (faults.Syntax k) h = spec.tree of.tokens t of.lexed (shaped of.tokens t of.read) h
+  fault_refused (faults.NumberRange at) h = spec.tree of.tokens t of.lexed (shaped of.tokens t of.read) h
+  fault_refused (faults.TwoNodes n) h = spec.tree of.tokens t of.lexed (shaped of.tokens t of.read) h
+  fault_refused (faults.TwoEdges n) h = spec.tree of.tokens t of.lexed (shaped of.tokens t of.read) h
+  fault_refused (faults.NoSuchEnd n) h = spec.tree of.tokens t of.lexed (shaped of.tokens t of.read) h
+  fault_refused (faults.WrongMark n) h = spec.tree of.tokens t of.lexed (shaped of.tokens t of.read) h
+
+  pub graph_answered : (names : List Name) → first_fault t ≡ None → names ≡ node_names t → (r : Result HeldGraph HostFault) → Makes (λ (g : HeldGraph). g.graph) r (graph_made names t) → IfOk r (λ (g : HeldGraph). IsGraph g.graph) → ReadsHost bytes r
+  graph_answered names f n (Ok g) made w =
+      let m : graph_made (node_names t) t ≡ Some g.graph = ap (λ ns. graph_made ns t) (sym n) ∙ made in
+      record { tokens = of.tokens; tree = t; lexed = of.lexed; shape = shaped of.tokens t of.read; faultless = f; built = graph_sound t g.graph m; graph = w }
+  graph_answered names f n (Err faults.NoMemory) made w = tt
+  graph_answered names f n (Err (faults.Lex x)) made w = absurd (graph_complete t f (ap (λ ns. graph_made ns t) (sym n) ∙ made))
+  graph_answered names f n (Err (faults.Syntax k)) made w = absurd (graph_complete t f (ap (λ ns. graph_made ns t) (sym n) ∙ made))
+  graph_answered names f n (Err (faults.NumberRange at)) made w = absurd (graph_complete t f (ap (λ ns. graph_made ns t) (sym n) ∙ made))
+  graph_answered names f n (Err (faults.TwoNodes x)) made w = absurd (graph_complete t f (ap (λ ns. graph_made ns t) (sym n) ∙ made))
+  graph_answered names f n (Err (faults.TwoEdges x)) made w = absurd (graph_complete t f (ap (λ ns. graph_made ns t) (sym n) ∙ made))
+  graph_answered names f n (Err (faults.NoSuchEnd x)) made w = absurd (graph_complete t f (ap (λ ns. graph_made ns t) (sym n) ∙ made))
+  graph_answered names f n (Err (faults.WrongMark x)) made w = absurd (graph_complete t f (ap (λ ns. graph_made ns t) (sym n) ∙ made))
 
 -- ---- a text is of one graph
 
@@ -144,20 +147,20 @@ same_tree : (ts us : List Token) (t u : HostTree) → ts ≡ us → IsHostShape 
 same_tree ts us t u e p q =
     let a = is_read ts t p in
     let b = is_read us u q in
-    ap (λ (x : HostTree × List Token). x.0) (some_is _ _ (sym a ∙ ap host e ∙ b))
+    ap (λ (x : HostTree × List Token). x.0) (some_is _ _ (sym a ∙ ap (reader_of host) e ∙ b))
 
 past : {A : Type 0} (xs : List A) (k : ℕ) → slice_get xs k ≡ None → length xs ≤ k
 past [] k h = omega arith
 past (x ∷ xs) zero h = absurd cc
 past (x ∷ xs) (suc k) h = let le : length xs ≤ k = past xs k h in omega arith
 
-node_alike : (n : NodeTree) (a b : Option Node) → IsDrawnNode n a → IsDrawnNode n b → a ≡ b
+node_alike : (n : NodeTree) (a b : Option Node) → IsBuiltNode n a → IsBuiltNode n b → a ≡ b
 node_alike n a b p q =
     let v : p.label ≡ q.label = some_is _ _ (sym p.label_is ∙ q.label_is) in
     let m : p.mark ≡ q.mark = some_is _ _ (sym p.mark_is ∙ q.mark_is) in
     p.is ∙ (λ i. Some (record { label = v i; mark = m i; root = n.root })) ∙ sym q.is
 
-edge_alike : (names : List Name) (n : EdgeTree) (a b : Option Edge) → IsDrawnEdge names n a → IsDrawnEdge names n b → a ≡ b
+edge_alike : (names : List Name) (n : EdgeTree) (a b : Option Edge) → IsBuiltEdge names n a → IsBuiltEdge names n b → a ≡ b
 edge_alike names n a b p q =
     let v : p.label ≡ q.label = some_is _ _ (sym p.label_is ∙ q.label_is) in
     let m : p.mark ≡ q.mark = some_is _ _ (sym p.mark_is ∙ q.mark_is) in
@@ -169,7 +172,7 @@ nothing : {A : Type 0} (o : Option A) → (IsSome o → ⊥) → o ≡ None
 nothing None h = refl
 nothing (Some x) h = absurd (h refl)
 
-one_graph : (d : HostTree) (g h : Graph) → IsDrawn d g → IsGraph g → IsDrawn d h → IsGraph h → g ≡ h
+one_graph : (d : HostTree) (g h : Graph) → IsBuilt d g → IsGraph g → IsBuilt d h → IsGraph h → g ≡ h
 one_graph d g h p v q w = same_graph g h nodes edges (p.next_node ∙ sym q.next_node) (p.next_edge ∙ sym q.next_edge)
   where
     at_node : (k : ℕ) (o : Option NodeTree) → slice_get d.0 k ≡ o → node_at g k ≡ node_at h k
@@ -198,7 +201,7 @@ pub one_host : (bytes : List ℕ) (g h : Graph) → IsHostText bytes g → IsHos
 one_host bytes g h p q =
     let ts : p.tokens ≡ q.tokens = same_tokens (tokens_of bytes) p.tokens q.tokens p.lexed q.lexed in
     let d : q.tree ≡ p.tree = same_tree q.tokens p.tokens q.tree p.tree (sym ts) q.shape p.shape in
-    one_graph p.tree g h p.drawn p.graph (subst (λ (d : HostTree). IsDrawn d h) d q.drawn) q.graph
+    one_graph p.tree g h p.built p.graph (subst (λ (d : HostTree). IsBuilt d h) d q.built) q.graph
 
 -- ---- and one with a graph has no fault
 

@@ -24,10 +24,10 @@ use Rattle.gp_values.specs.Order.{numbered, nodes_from, edges_from}
 use Rattle.gp_values.proofs.Order.{entries-walk, entries_from-one_more}
 use Rattle.gp_hostfile.specs.declared.text.EdgeLine.{EdgeLine}
 use Rattle.gp_hostfile.specs.GraphText.{EdgeKey, edge_key, key_cmp, node_line, edge_line, edge_lines, edges_of, IsGraphText, BeginsGraph}
-use Rattle.gp_hostfile.specs.Lines.{line_key, line_keys, entry_keys, key_line, key_lines}
+use Rattle.gp_hostfile.specs.inside.Lines.{line_key, line_keys, entry_keys, key_line, key_lines}
 use Rattle.gp_hostfile.proofs.Sorted.{Rises, sorted_from, rises_from, in_order, in_order_moves, in_order_rises, one_list, rises_mapped, rises_back}
 
--- ---- one turn of a walk
+-- ---- one item of a walk
 
 pub one_node : (g : Graph) (n : ℕ) → flat_map node_line (nodes_from g 0 (n + 1)) ≡ flat_map node_line (nodes_from g 0 n) ++ flat_map node_line (numbered n (node_at g n))
 one_node g n =

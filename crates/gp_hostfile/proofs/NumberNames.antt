@@ -5,7 +5,7 @@ use Rattle.std.specs.List.{position_from}
 use Rattle.std.proofs.lemmas.List.Folds.{list_any-append}
 use Rattle.std.proofs.lemmas.Slice.Eq.{bytes_eq-Decides}
 use Rattle.gp_values.specs.Names.{Name, same_name, has_name, place_of, first_doubled_behind}
-use Rattle.gp_hostfile.proofs.Numerals.{decimal_apart}
+use Rattle.gp_tokens.proofs.Numerals.{decimal_apart}
 
 -- numbers of at most 64 digits, each more than the one before it, and none below the first number
 abbrev pub RisesFrom : ℕ → List ℕ → Type 0

@@ -7,10 +7,10 @@ use Rattle.gp_values.specs.Graph.{Edge, Graph, IsGraph, node_at, edge_at}
 use Rattle.gp_hostfile.specs.declared.tree.NodeTree.{NodeTree}
 use Rattle.gp_hostfile.specs.declared.tree.EdgeTree.{EdgeTree}
 use Rattle.gp_hostfile.specs.Grammar.{HostTree}
-use Rattle.gp_hostfile.specs.Host.{node_names, IsDrawnNode, IsDrawnEdge, IsDrawn, IsHostText}
+use Rattle.gp_hostfile.specs.Host.{node_names, IsBuiltNode, IsBuiltEdge, IsBuilt, IsHostText}
 use Rattle.gp_hostfile.specs.GraphText.{IsGraphText}
 use Rattle.gp_hostfile.specs.Renumbered.{HasShortNumbers, IsRenumbered}
-use Rattle.gp_hostfile.proofs.Pieces.{tokens_at}
+use Rattle.gp_tokens.proofs.Pieces.{tokens_at}
 use Rattle.gp_hostfile.proofs.GraphPieces.{graph_pieces}
 use Rattle.gp_hostfile.proofs.GraphStands.{Each}
 use Rattle.gp_hostfile.proofs.Written.{each_by, IsEdgeOf, nodes_walk, edges_of_text, count_of_text, short_nodes, short_edges, tokens_of_text}
@@ -44,8 +44,8 @@ module _ (g : Graph) (w : IsGraph g) (ds : List Edge) (edges : Each (IsEdgeOf g)
     end_place : (n : ℕ) → IsSome (node_at g n) → place_of (node_names t) (110 ∷ decimal n) ≡ Some (place (numbers g) n)
     end_place n s = ap (λ ns. place_of ns (110 ∷ decimal n)) (node_names_are (entries g.nodes) t.0 is.nodes) ∙ place_is 110 0 (place (numbers g) n) n (numbers g) rises (number_at n s)
 
-    drawn_node : (i : ℕ) (n : NodeTree) → slice_get t.0 i ≡ Some n → IsDrawnNode n (node_at (renumbered g ds) i)
-    drawn_node i n h =
+    built_node : (i : ℕ) (n : NodeTree) → slice_get t.0 i ≡ Some n → IsBuiltNode n (node_at (renumbered g ds) i)
+    built_node i n h =
         let m = match_at IsNodeTree (entries g.nodes) t.0 i n is.nodes h in
         let x = m.0.1 in
         let found : IsNodeTree m.0 n = m.2 in
@@ -57,8 +57,8 @@ module _ (g : Graph) (w : IsGraph g) (ds : List Edge) (edges : Each (IsEdgeOf g)
           is = node_here g w ds edges rises i m.0.0 x m.1 ∙ ap (λ r. Some (record { label = x.label; mark = x.mark; root = r })) (sym found.root);
         }
 
-    drawn_edge : (i : ℕ) (e : EdgeTree) → slice_get t.1 i ≡ Some e → IsDrawnEdge (node_names t) e (edge_at (renumbered g ds) i)
-    drawn_edge i e h =
+    built_edge : (i : ℕ) (e : EdgeTree) → slice_get t.1 i ≡ Some e → IsBuiltEdge (node_names t) e (edge_at (renumbered g ds) i)
+    built_edge i e h =
         let m = match_at IsEdgeTree (numbered_on 0 ds) t.1 i e is.edges h in
         let d = m.0.1 in
         let found : IsEdgeTree m.0 e = m.2 in
@@ -76,12 +76,12 @@ module _ (g : Graph) (w : IsGraph g) (ds : List Edge) (edges : Each (IsEdgeOf g)
           is = edge_here g w ds edges rises i ∙ ap (option_map (moved g)) there;
         }
 
-    drawn : IsDrawn t (renumbered g ds)
-    drawn = record {
+    built : IsBuilt t (renumbered g ds)
+    built = record {
       next_node = sym (match_length IsNodeTree (entries g.nodes) t.0 is.nodes);
       next_edge = sym (match_length IsEdgeTree (numbered_on 0 ds) t.1 is.edges ∙ length_numbered 0 ds);
-      nodes = drawn_node;
-      edges = drawn_edge;
+      nodes = built_node;
+      edges = built_edge;
     }
 
 pub read_back : (g : Graph) (text : List ℕ) → IsGraph g → HasShortNumbers g → (t : IsGraphText g text) → (h : Graph) × IsHostText text h × IsRenumbered g t.edges h
@@ -97,7 +97,7 @@ read_back g text w short t =
         lexed = tokens_of_text g w text t short.nodes short.edges;
         shape = shown.shape;
         faultless = none_faulty (entries g.nodes) t.edges shown.tree shown.good rises few (ends_are_known g w t.edges edges rises);
-        drawn = drawn g w t.edges edges rises shown.tree shown.good;
+        built = built g w t.edges edges rises shown.tree shown.good;
         graph = renumbered_is_graph g w t.edges edges rises;
       },
       renumbered_is_so g w t.edges edges rises,

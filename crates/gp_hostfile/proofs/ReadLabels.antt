@@ -9,7 +9,8 @@ use Rattle.gp_tokens.proofs.Steps.{token}
 use Rattle.gp_grammar.specs.Wants.{meets}
 use Rattle.gp_grammar.specs.Shape.{Shape, Is, IsNumberAt, IsString, ◌then◌, Made, Either, Absent, Many, second_of}
 use Rattle.gp_grammar.specs.Shape as shape
-use Rattle.gp_grammar.specs.Graph.{minus, empty}
+use Rattle.gp_grammar.specs.Grammar.{shape_of}
+use Rattle.gp_grammar.specs.Signs.{minus, empty, any_word, colon, hash}
 use Rattle.gp_values.specs.declared.atom.Atom.{Atom}
 use Rattle.gp_values.specs.declared.atom.Atom.TheVariants.{Int, Str}
 use Rattle.gp_values.specs.declared.marks.NodeMark.{NodeMark}
@@ -19,10 +20,10 @@ use Rattle.gp_values.specs.declared.marks.EdgeMark.TheVariants as edge_marks
 use Rattle.gp_values.specs.Atoms as values
 use Rattle.gp_values.specs.Names.{Name}
 use Rattle.gp_hostfile.specs.declared.tree.AtomTree.{AtomTree}
-use Rattle.gp_hostfile.specs.Grammar.{any_word, colon, hash, positive, negative, characters, IsAtom, no_atoms, IsAtoms, word_of, IsMark}
+use Rattle.gp_hostfile.specs.Grammar.{positive, negative, characters, atom, no_atoms, atom_list, word_of, mark}
 use Rattle.gp_hostfile.specs.Host.{atom_of, atoms_of, node_mark, edge_mark}
-use Rattle.gp_hostfile.proofs.Numerals.{decimal_value}
-use Rattle.gp_hostfile.proofs.Pieces.{Piece, word}
+use Rattle.gp_tokens.proofs.Numerals.{decimal_value}
+use Rattle.gp_tokens.proofs.Pieces.{Piece, word}
 use Rattle.gp_hostfile.proofs.GraphPieces.{marked, node_mark_pieces, edge_mark_pieces, atom_pieces, more_pieces, label_pieces}
 use Rattle.gp_hostfile.proofs.Shows.{Shows, behind_blank, is_shows, then_shows, made_shows, one_shows, other_shows, absent_shows, Match, none_shows, more_shows}
 
@@ -78,7 +79,8 @@ word_meets : (text : List ℕ) (at : ℕ) → meets any_word (token k.Word at te
 unfolding meets same_kind
 word_meets text at = refl
 
-atom_shows : (x : Atom) → values.IsAtom x → (rest : List Piece) → Shows IsAtom (IsValue x) (atom_pieces x ++ rest) rest
+atom_shows : (x : Atom) → values.IsAtom x → (rest : List Piece) → Shows (shape_of atom) (IsValue x) (atom_pieces x ++ rest) rest
+unfolding atom
 atom_shows (Int (pos n)) h rest =
     let small : n < 2 ^ 127 = h.sfits in
     other_shows _ _ _ _ _ (one_shows _ _ _ _ _ (made_shows positive IsNumberAt _ _ _ _ (positive_is n small) (number_shows n (omega arith) rest)))
@@ -89,15 +91,15 @@ atom_shows (Str s) h rest = other_shows _ _ _ _ _ (other_shows _ _ _ _ _ (made_s
 
 -- ---- labels
 
-more_atoms : (xs : List Atom) → values.AreAtoms xs → (rest : List Piece) → Shows (Many (Made second_of (Is colon then IsAtom))) (Match IsValue xs) (more_pieces xs ++ rest) rest
+more_atoms : (xs : List Atom) → values.AreAtoms xs → (rest : List Piece) → Shows (Many (Made second_of (Is colon then shape_of atom))) (Match IsValue xs) (more_pieces xs ++ rest) rest
 more_atoms [] h rest = none_shows _ IsValue rest
 more_atoms (x ∷ xs) h rest =
     let together = append_assoc (atom_pieces x) (more_pieces xs) rest in
     let first = atom_shows x (h 0 x (omega arith)) (more_pieces xs ++ rest) in
-    let this : Shows (Made second_of (Is colon then IsAtom)) (IsValue x) (word k.Colon (codes ":") ∷ (atom_pieces x ++ (more_pieces xs ++ rest))) (more_pieces xs ++ rest) =
-    made_shows second_of (Is colon then IsAtom) _ _ _ _ (λ p good. good.1) (then_shows _ _ _ _ _ _ _ (is_shows colon k.Colon (codes ":") _ colon_meets) first)
+    let this : Shows (Made second_of (Is colon then shape_of atom)) (IsValue x) (word k.Colon (codes ":") ∷ (atom_pieces x ++ (more_pieces xs ++ rest))) (more_pieces xs ++ rest) =
+    made_shows second_of (Is colon then shape_of atom) _ _ _ _ (λ p good. good.1) (then_shows _ _ _ _ _ _ _ (is_shows colon k.Colon (codes ":") _ colon_meets) first)
     in
-    more_shows _ IsValue x xs _ _ _ (subst (λ ps. Shows (Made second_of (Is colon then IsAtom)) (IsValue x) (word k.Colon (codes ":") ∷ ps) (more_pieces xs ++ rest)) (sym together) this)
+    more_shows _ IsValue x xs _ _ _ (subst (λ ps. Shows (Made second_of (Is colon then shape_of atom)) (IsValue x) (word k.Colon (codes ":") ∷ ps) (more_pieces xs ++ rest)) (sym together) this)
     (more_atoms xs (λ i d lt. h (suc i) d (omega arith)) rest)
 
 values_are : (xs : List Atom) (trees : List AtomTree) → Match IsValue xs trees → atoms_of trees ≡ Some xs
@@ -106,30 +108,34 @@ values_are [] (a ∷ trees) m = absurd m
 values_are (x ∷ xs) [] m = absurd m
 values_are (x ∷ xs) (a ∷ trees) m = rw (m.0, values_are xs trees m.1) refl
 
-pub atoms_show : (v : List Atom) → values.AreAtoms v → (rest : List Piece) → Shows IsAtoms (λ trees. atoms_of trees ≡ Some v) (label_pieces v ++ rest) rest
+pub atoms_show : (v : List Atom) → values.AreAtoms v → (rest : List Piece) → Shows (shape_of atom_list) (λ trees. atoms_of trees ≡ Some v) (label_pieces v ++ rest) rest
+unfolding atom_list
 atoms_show [] h rest = one_shows _ _ _ _ _ (made_shows no_atoms (Is empty) _ _ _ _ (λ t e. refl) (is_shows empty k.Word (codes "empty") rest empty_meets))
 atoms_show (x ∷ xs) h rest =
     let together = append_assoc (atom_pieces x) (more_pieces xs) rest in
     let first = atom_shows x (h 0 x (omega arith)) (more_pieces xs ++ rest) in
     let others = more_atoms xs (λ i d lt. h (suc i) d (omega arith)) rest in
     let all = made_shows shape.list_of _ _ (λ trees. atoms_of trees ≡ Some (x ∷ xs)) _ _ (λ p good. rw (good.0, values_are xs p.1 good.1) refl) (then_shows _ _ _ _ _ _ _ first others) in
-    other_shows _ _ _ _ _ (subst (λ ps. Shows (shape.Separated colon IsAtom) (λ trees. atoms_of trees ≡ Some (x ∷ xs)) ps rest) (sym together) all)
+    other_shows _ _ _ _ _ (subst (λ ps. Shows (shape.Separated colon (shape_of atom)) (λ trees. atoms_of trees ≡ Some (x ∷ xs)) ps rest) (sym together) all)
 
 -- ---- marks
 
-marked_shows : (name : List ℕ) (P : Option Name → Type 0) → P (Some name) → (rest : List Piece) → Shows IsMark P (marked name ++ rest) rest
+marked_shows : (name : List ℕ) (P : Option Name → Type 0) → P (Some name) → (rest : List Piece) → Shows (shape_of mark) P (marked name ++ rest) rest
+unfolding mark
 marked_shows name P h rest =
     behind_blank _ _ _ _ _ (one_shows _ _ _ _ _ (made_shows word_of (Is hash then Is any_word) _ _ _ _ (λ p good. subst (λ w. P (Some w)) (sym good.1) h)
     (then_shows _ _ _ _ _ _ _ (is_shows hash k.Hash (codes "#") _ hash_meets) (behind_blank _ _ _ _ _ (is_shows any_word k.Word name rest (word_meets name))))))
 
-pub node_mark_shows : (m : NodeMark) (rest : List Piece) → Shows IsMark (λ w. node_mark w ≡ Some m) (node_mark_pieces m ++ rest) rest
+pub node_mark_shows : (m : NodeMark) (rest : List Piece) → Shows (shape_of mark) (λ w. node_mark w ≡ Some m) (node_mark_pieces m ++ rest) rest
+unfolding mark
 node_mark_shows node_marks.None rest = other_shows _ _ _ _ _ (absent_shows None _ rest refl)
 node_mark_shows node_marks.Red rest = marked_shows (codes "red") _ refl rest
 node_mark_shows node_marks.Green rest = marked_shows (codes "green") _ refl rest
 node_mark_shows node_marks.Blue rest = marked_shows (codes "blue") _ refl rest
 node_mark_shows node_marks.Grey rest = marked_shows (codes "grey") _ refl rest
 
-pub edge_mark_shows : (m : EdgeMark) (rest : List Piece) → Shows IsMark (λ w. edge_mark w ≡ Some m) (edge_mark_pieces m ++ rest) rest
+pub edge_mark_shows : (m : EdgeMark) (rest : List Piece) → Shows (shape_of mark) (λ w. edge_mark w ≡ Some m) (edge_mark_pieces m ++ rest) rest
+unfolding mark
 edge_mark_shows edge_marks.None rest = other_shows _ _ _ _ _ (absent_shows None _ rest refl)
 edge_mark_shows edge_marks.Red rest = marked_shows (codes "red") _ refl rest
 edge_mark_shows edge_marks.Green rest = marked_shows (codes "green") _ refl rest

@@ -6,15 +6,17 @@ use Rattle.gp_tokens.proofs.Steps.{token}
 use Rattle.gp_grammar.specs.declared.want.Want.TheVariants as wants
 use Rattle.gp_grammar.specs.Wants.{meets}
 use Rattle.gp_grammar.specs.Shape.{Is, ◌then◌, Either, Many, second_of}
-use Rattle.gp_grammar.specs.Graph as signs
+use Rattle.gp_grammar.specs.Grammar.{shape_of}
+use Rattle.gp_grammar.specs.Signs as signs
+use Rattle.gp_grammar.specs.Signs.{root_word, open_bracket, close_bracket}
 use Rattle.gp_values.specs.Atoms.{AreAtoms}
 use Rattle.gp_values.specs.Graph.{Node, Edge}
 use Rattle.gp_hostfile.specs.declared.tree.NodeTree.{NodeTree}
 use Rattle.gp_hostfile.specs.declared.tree.EdgeTree.{EdgeTree}
-use Rattle.gp_hostfile.specs.Grammar.{root_word, open_bracket, close_bracket, nothing, IsLabel, IsPosition, rooted, IsRoot, node_of, IsNode, edge_of, IsEdge, HostTree, IsBody, tree_of, IsHostShape}
+use Rattle.gp_hostfile.specs.Grammar.{label, position, place, rooted, root, node_of, node, nodes, edge_of, edge, edges, HostTree, body, barred, tree_of, host, IsHostShape}
 use Rattle.gp_hostfile.specs.Host.{atoms_of, node_mark, edge_mark}
-use Rattle.gp_hostfile.proofs.Numerals.{name_is_free}
-use Rattle.gp_hostfile.proofs.Pieces.{Piece, blank}
+use Rattle.gp_tokens.proofs.Numerals.{name_is_free}
+use Rattle.gp_tokens.proofs.Pieces.{Piece, blank}
 use Rattle.gp_hostfile.proofs.GraphPieces.{open_sign, close_sign, comma, named, root_pieces, node_mark_pieces, edge_mark_pieces, label_pieces, line_end, node_pieces, edge_pieces, nodes_pieces, edges_pieces, text_end, graph_pieces}
 use Rattle.gp_hostfile.proofs.GraphStands.{Each, IsShortNode, IsShortEdge}
 use Rattle.gp_hostfile.proofs.NumberedMaps.{numbered_on}
@@ -66,7 +68,8 @@ comma_shows rest = before_blank _ _ 32 _ rest (is_shows signs.comma k.Comma (cod
 end_shows : (rest : List Piece) → Shows (Is signs.close_sign) (λ t. t.text ≡ codes ")") (close_sign ∷ blank 10 ∷ rest) rest
 end_shows rest = before_blank _ _ 10 _ rest (is_shows signs.close_sign k.CloseParenthesis (codes ")") (blank 10 ∷ rest) close_meets)
 
-root_shows : (r : Bool) (rest : List Piece) → Shows IsRoot (λ b. b ≡ r) (root_pieces r ++ rest) rest
+root_shows : (r : Bool) (rest : List Piece) → Shows (shape_of root) (λ b. b ≡ r) (root_pieces r ++ rest) rest
+unfolding root
 root_shows true rest =
     one_shows _ _ _ _ _ (made_shows rooted (Is signs.open_sign then Is root_word then Is signs.close_sign) _ _ _ _ (λ p good. refl)
     (then_shows _ _ _ _ _ _ _ (open_shows _) (then_shows _ _ _ _ _ _ _ (is_shows root_word k.Word (codes "R") _ root_meets) (is_shows signs.close_sign k.CloseParenthesis (codes ")") rest close_meets))))
@@ -81,7 +84,8 @@ pub record IsNodeTree (p : ℕ × Node) (n : NodeTree) : Type 0 where
   pub label : atoms_of n.label ≡ Some p.1.label
   pub mark : node_mark n.mark ≡ Some p.1.mark
 
-node_shows : (n : ℕ) (x : Node) → n < 10 ^ 64 → AreAtoms x.label → (rest : List Piece) → Shows IsNode (IsNodeTree (n, x)) (node_pieces (n, x) ++ rest) rest
+node_shows : (n : ℕ) (x : Node) → n < 10 ^ 64 → AreAtoms x.label → (rest : List Piece) → Shows (shape_of node) (IsNodeTree (n, x)) (node_pieces (n, x) ++ rest) rest
+unfolding node label place
 node_shows n x small atoms rest =
     let marks : List Piece = node_mark_pieces x.mark ++ (close_sign ∷ blank 10 ∷ rest) in
     let tail : List Piece = comma ∷ blank 32 ∷ (label_pieces x.label ++ marks) in
@@ -89,13 +93,13 @@ node_shows n x small atoms rest =
     ap (λ t. blank 32 ∷ blank 32 ∷ open_sign ∷ named 110 n ∷ t) (append_assoc (root_pieces x.root) _ rest
     ∙ ap (λ t. root_pieces x.root ++ comma ∷ blank 32 ∷ t) (append_assoc (label_pieces x.label) _ rest ∙ ap (λ t. label_pieces x.label ++ t) (append_assoc (node_mark_pieces x.mark) line_end rest)))
     in
-    let last = then_shows (Either IsPosition nothing) (Is signs.close_sign) (λ u. Unit {0}) _ _ _ _ (other_shows _ _ _ _ _ (absent_shows (tt {0}) _ (close_sign ∷ blank 10 ∷ rest) tt)) (end_shows rest) in
-    let label = then_shows IsLabel _ _ _ _ _ _ (then_shows _ _ _ _ _ _ _ (atoms_show x.label atoms marks) (node_mark_shows x.mark (close_sign ∷ blank 10 ∷ rest))) last in
-    let line = then_shows _ _ _ _ _ _ _ (open_shows _) (then_shows _ _ _ _ _ _ _ (name_shows 110 n small _) (then_shows _ _ _ _ _ _ _ (root_shows x.root tail) (then_shows _ _ _ _ _ _ _ (comma_shows _) label))) in
-    let whole : Shows IsNode (IsNodeTree (n, x)) (open_sign ∷ named 110 n ∷ (root_pieces x.root ++ tail)) rest =
+    let last = then_shows (shape_of place) (Is signs.close_sign) (λ u. Unit {0}) _ _ _ _ (other_shows _ _ _ _ _ (absent_shows (tt {0}) _ (close_sign ∷ blank 10 ∷ rest) tt)) (end_shows rest) in
+    let labelled = then_shows (shape_of label) _ _ _ _ _ _ (then_shows _ _ _ _ _ _ _ (atoms_show x.label atoms marks) (node_mark_shows x.mark (close_sign ∷ blank 10 ∷ rest))) last in
+    let line = then_shows _ _ _ _ _ _ _ (open_shows _) (then_shows _ _ _ _ _ _ _ (name_shows 110 n small _) (then_shows _ _ _ _ _ _ _ (root_shows x.root tail) (then_shows _ _ _ _ _ _ _ (comma_shows _) labelled))) in
+    let whole : Shows (shape_of node) (IsNodeTree (n, x)) (open_sign ∷ named 110 n ∷ (root_pieces x.root ++ tail)) rest =
     made_shows node_of _ _ (IsNodeTree (n, x)) _ _ (λ p good. record { name = good.1.0; root = good.1.1.0; label = good.1.1.1.1.0.0; mark = good.1.1.1.1.0.1 }) line
     in
-    subst (λ ps. Shows IsNode (IsNodeTree (n, x)) ps rest) (sym grouped) (behind_blank _ _ _ _ _ (behind_blank _ _ _ _ _ whole))
+    subst (λ ps. Shows (shape_of node) (IsNodeTree (n, x)) ps rest) (sym grouped) (behind_blank _ _ _ _ _ (behind_blank _ _ _ _ _ whole))
 
 -- ---- edges
 
@@ -107,7 +111,8 @@ pub record IsEdgeTree (p : ℕ × Edge) (e : EdgeTree) : Type 0 where
   pub label : atoms_of e.label ≡ Some p.1.label
   pub mark : edge_mark e.mark ≡ Some p.1.mark
 
-edge_shows : (i : ℕ) (d : Edge) → i < 10 ^ 64 → d.source < 10 ^ 64 → d.target < 10 ^ 64 → AreAtoms d.label → (rest : List Piece) → Shows IsEdge (IsEdgeTree (i, d)) (edge_pieces i d ++ rest) rest
+edge_shows : (i : ℕ) (d : Edge) → i < 10 ^ 64 → d.source < 10 ^ 64 → d.target < 10 ^ 64 → AreAtoms d.label → (rest : List Piece) → Shows (shape_of edge) (IsEdgeTree (i, d)) (edge_pieces i d ++ rest) rest
+unfolding edge label
 edge_shows i d small source target atoms rest =
     let marks : List Piece = edge_mark_pieces d.mark ++ (close_sign ∷ blank 10 ∷ rest) in
     let tail : List Piece = label_pieces d.label ++ marks in
@@ -115,33 +120,33 @@ edge_shows i d small source target atoms rest =
     λ t. blank 32 ∷ blank 32 ∷ open_sign ∷ named 101 i ∷ comma ∷ blank 32 ∷ named 110 d.source ∷ comma ∷ blank 32 ∷ named 110 d.target ∷ comma ∷ blank 32 ∷ t
     in
     let grouped : edge_pieces i d ++ rest ≡ front tail = ap front (append_assoc (label_pieces d.label) _ rest ∙ ap (λ t. label_pieces d.label ++ t) (append_assoc (edge_mark_pieces d.mark) line_end rest)) in
-    let label = then_shows IsLabel _ _ _ _ _ _ (then_shows _ _ _ _ _ _ _ (atoms_show d.label atoms marks) (edge_mark_shows d.mark (close_sign ∷ blank 10 ∷ rest))) (end_shows rest) in
+    let labelled = then_shows (shape_of label) _ _ _ _ _ _ (then_shows _ _ _ _ _ _ _ (atoms_show d.label atoms marks) (edge_mark_shows d.mark (close_sign ∷ blank 10 ∷ rest))) (end_shows rest) in
     let ends =
     then_shows _ _ _ _ _ _ _ (name_shows 110 d.source source _)
-    (then_shows _ _ _ _ _ _ _ (comma_shows _) (then_shows _ _ _ _ _ _ _ (name_shows 110 d.target target _) (then_shows _ _ _ _ _ _ _ (comma_shows tail) label)))
+    (then_shows _ _ _ _ _ _ _ (comma_shows _) (then_shows _ _ _ _ _ _ _ (name_shows 110 d.target target _) (then_shows _ _ _ _ _ _ _ (comma_shows tail) labelled)))
     in
     let line = then_shows _ _ _ _ _ _ _ (open_shows _) (then_shows _ _ _ _ _ _ _ (name_shows 101 i small _) (then_shows _ _ _ _ _ _ _ (comma_shows _) ends)) in
-    let whole : Shows IsEdge (IsEdgeTree (i, d)) (open_sign ∷ named 101 i ∷ comma ∷ blank 32 ∷ named 110 d.source ∷ comma ∷ blank 32 ∷ named 110 d.target ∷ comma ∷ blank 32 ∷ tail) rest =
+    let whole : Shows (shape_of edge) (IsEdgeTree (i, d)) (open_sign ∷ named 101 i ∷ comma ∷ blank 32 ∷ named 110 d.source ∷ comma ∷ blank 32 ∷ named 110 d.target ∷ comma ∷ blank 32 ∷ tail) rest =
     made_shows edge_of _ _ (IsEdgeTree (i, d)) _ _
     (λ p good. record { name = good.1.0; source = good.1.1.1.0; target = good.1.1.1.1.1.0; label = good.1.1.1.1.1.1.1.0.0; mark = good.1.1.1.1.1.1.1.0.1 }) line
     in
-    subst (λ ps. Shows IsEdge (IsEdgeTree (i, d)) ps rest) (sym grouped) (behind_blank _ _ _ _ _ (behind_blank _ _ _ _ _ whole))
+    subst (λ ps. Shows (shape_of edge) (IsEdgeTree (i, d)) ps rest) (sym grouped) (behind_blank _ _ _ _ _ (behind_blank _ _ _ _ _ whole))
 
 -- ---- all lines
 
-nodes_show : (ns : List (ℕ × Node)) → Each IsShortNode ns → (rest : List Piece) → Shows (Many IsNode) (Match IsNodeTree ns) (nodes_pieces ns ++ rest) rest
-nodes_show [] h rest = none_shows IsNode IsNodeTree rest
+nodes_show : (ns : List (ℕ × Node)) → Each IsShortNode ns → (rest : List Piece) → Shows (Many (shape_of node)) (Match IsNodeTree ns) (nodes_pieces ns ++ rest) rest
+nodes_show [] h rest = none_shows (shape_of node) IsNodeTree rest
 nodes_show ((n, x) ∷ ns) h rest =
     let grouped = append_assoc (node_pieces (n, x)) (nodes_pieces ns) rest in
-    subst (λ ps. Shows (Many IsNode) (Match IsNodeTree ((n, x) ∷ ns)) ps rest) (sym grouped)
-    (more_shows IsNode IsNodeTree (n, x) ns _ _ _ (node_shows n x h.0.number h.0.label (nodes_pieces ns ++ rest)) (nodes_show ns h.1 rest))
+    subst (λ ps. Shows (Many (shape_of node)) (Match IsNodeTree ((n, x) ∷ ns)) ps rest) (sym grouped)
+    (more_shows (shape_of node) IsNodeTree (n, x) ns _ _ _ (node_shows n x h.0.number h.0.label (nodes_pieces ns ++ rest)) (nodes_show ns h.1 rest))
 
-edges_show : (i : ℕ) (ds : List Edge) → i + length ds ≤ 10 ^ 64 → Each IsShortEdge ds → (rest : List Piece) → Shows (Many IsEdge) (Match IsEdgeTree (numbered_on i ds)) (edges_pieces i ds ++ rest) rest
-edges_show i [] few h rest = none_shows IsEdge IsEdgeTree rest
+edges_show : (i : ℕ) (ds : List Edge) → i + length ds ≤ 10 ^ 64 → Each IsShortEdge ds → (rest : List Piece) → Shows (Many (shape_of edge)) (Match IsEdgeTree (numbered_on i ds)) (edges_pieces i ds ++ rest) rest
+edges_show i [] few h rest = none_shows (shape_of edge) IsEdgeTree rest
 edges_show i (d ∷ ds) few h rest =
     let grouped = append_assoc (edge_pieces i d) (edges_pieces (i + 1) ds) rest in
-    subst (λ ps. Shows (Many IsEdge) (Match IsEdgeTree (numbered_on i (d ∷ ds))) ps rest) (sym grouped)
-    (more_shows IsEdge IsEdgeTree (i, d) (numbered_on (i + 1) ds) _ _ _ (edge_shows i d (omega arith) h.0.source h.0.target h.0.label (edges_pieces (i + 1) ds ++ rest)) (edges_show (i + 1) ds (omega arith) h.1 rest))
+    subst (λ ps. Shows (Many (shape_of edge)) (Match IsEdgeTree (numbered_on i (d ∷ ds))) ps rest) (sym grouped)
+    (more_shows (shape_of edge) IsEdgeTree (i, d) (numbered_on (i + 1) ds) _ _ _ (edge_shows i d (omega arith) h.0.source h.0.target h.0.label (edges_pieces (i + 1) ds ++ rest)) (edges_show (i + 1) ds (omega arith) h.1 rest))
 
 -- the tree of a graph's text
 pub record IsTreeOf (ns : List (ℕ × Node)) (ds : List Edge) (t : HostTree) : Type 0 where
@@ -149,10 +154,11 @@ pub record IsTreeOf (ns : List (ℕ × Node)) (ds : List Edge) (t : HostTree) : 
   pub edges : Match IsEdgeTree (numbered_on 0 ds) t.1
 
 pub graph_shows : (ns : List (ℕ × Node)) (ds : List Edge) → Each IsShortNode ns → length ds ≤ 10 ^ 64 → Each IsShortEdge ds → Shows IsHostShape (IsTreeOf ns ds) (graph_pieces ns ds) []
+unfolding host barred body nodes edges
 graph_shows ns ds a few b =
     let last = before_blank _ _ 10 _ [] (is_shows close_bracket k.CloseBracket (codes "]") (blank 10 ∷ []) close_bracket_meets) in
-    let edges = then_shows _ _ _ _ _ _ _ (behind_blank _ _ 10 _ _ (edges_show 0 ds (omega arith) b text_end)) last in
-    let bar = then_shows _ _ _ _ _ _ _ (is_shows signs.bar k.Bar (codes "|") _ bar_meets) edges in
+    let edge_lines = then_shows _ _ _ _ _ _ _ (behind_blank _ _ 10 _ _ (edges_show 0 ds (omega arith) b text_end)) last in
+    let bar = then_shows _ _ _ _ _ _ _ (is_shows signs.bar k.Bar (codes "|") _ bar_meets) edge_lines in
     let lines = then_shows _ _ _ _ _ _ _ (behind_blank _ _ 10 _ _ (nodes_show ns a _)) bar in
-    let body = made_shows tree_of _ _ (IsTreeOf ns ds) _ _ (λ p good. record { nodes = good.0; edges = good.1.1.0 }) lines in
-    made_shows second_of _ _ (IsTreeOf ns ds) _ _ (λ p good. good.1) (then_shows _ _ _ _ _ _ _ (is_shows open_bracket k.OpenBracket (codes "[") _ open_bracket_meets) (other_shows _ IsBody _ _ _ body))
+    let whole = made_shows tree_of _ _ (IsTreeOf ns ds) _ _ (λ p good. record { nodes = good.0; edges = good.1.1.0 }) lines in
+    made_shows second_of _ _ (IsTreeOf ns ds) _ _ (λ p good. good.1) (then_shows _ _ _ _ _ _ _ (is_shows open_bracket k.OpenBracket (codes "[") _ open_bracket_meets) (other_shows _ (shape_of body) _ _ _ whole))

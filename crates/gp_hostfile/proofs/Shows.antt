@@ -5,7 +5,7 @@ use Rattle.gp_tokens.proofs.Steps.{token}
 use Rattle.gp_grammar.specs.declared.want.Want.{Want}
 use Rattle.gp_grammar.specs.Wants.{meets}
 use Rattle.gp_grammar.specs.Shape.{Shape, Is, ◌then◌, Made, Either, one, other, Absent, absent, Many, none, more}
-use Rattle.gp_hostfile.proofs.Pieces.{Piece, blank, word, tokens_at}
+use Rattle.gp_tokens.proofs.Pieces.{Piece, blank, word, tokens_at}
 
 -- From this offset on, the tokens of pieces, up to those of the rest, are a tree of the shape with a property.
 pub record Shown {A : Type 0} (R : Shape A) (P : A → Type 0) (ps rest : List Piece) (at : ℕ) : Type 0 where

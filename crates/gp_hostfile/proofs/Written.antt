@@ -11,7 +11,7 @@ use Rattle.gp_values.specs.Graph.{Node, Edge, Graph, IsGraph, node_at}
 use Rattle.gp_values.specs.Order.{numbered, entries_from}
 use Rattle.gp_values.proofs.Order.{entries-walk}
 use Rattle.gp_hostfile.specs.GraphText.{edges_of, IsGraphText}
-use Rattle.gp_hostfile.proofs.Pieces.{spelled, tokens_at, tokens_of_pieces}
+use Rattle.gp_tokens.proofs.Pieces.{spelled, tokens_at, tokens_of_pieces}
 use Rattle.gp_hostfile.proofs.GraphPieces.{graph_pieces, spelled_graph}
 use Rattle.gp_hostfile.proofs.GraphStands.{Each, IsShortNode, IsShortEdge, graph_stands}
 

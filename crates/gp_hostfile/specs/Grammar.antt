@@ -1,53 +1,26 @@
 -- The grammar of hosts.
-use Rattle.std.specs.Prelude.{ℕ, Bool, true, false, List, [], Option, Some, None}
-use Rattle.gp_tokens.specs.declared.token.Kind.TheVariants as kinds
+use Rattle.std.specs.Prelude.{ℕ, Bool, true, false, ◌&&◌, List, [], ◌∷◌, Option, Some, None}
 use Rattle.gp_tokens.specs.declared.token.Token.{Token}
-use Rattle.gp_tokens.specs.declared.keyword.Keyword.TheVariants as keywords
 use Rattle.gp_grammar.specs.declared.want.Want.{Want}
 use Rattle.gp_grammar.specs.declared.want.Want.TheVariants as wants
-use Rattle.gp_grammar.specs.Shape.{Shape, Is, IsNumberAt, IsString, ◌then◌, Made, Either, Absent, Many, Separated, dropped, second_of}
-use Rattle.gp_grammar.specs.Graph.{open_sign, close_sign, comma, bar, minus, empty}
+use Rattle.gp_grammar.specs.Grammar.{Grammar, One, NumberAt, String, Made, At, If, Absent, Repeated, Separated, ◌followed_by◌, shape_of}
+use Rattle.gp_grammar.specs.Shape.{Shape, dropped, second_of}
+use Rattle.gp_grammar.specs.Signs.{number_sign, any_word, open_sign, close_sign, open_bracket, close_bracket, less, greater, comma, colon, dot, minus, hash, bar, empty, root_word}
+use Rattle.gp_grammar.specs.Wants.{meets}
+use Rattle.gp_grammar.specs.inside.Reading.{stands_before}
 use Rattle.gp_values.specs.Names.{Name}
 use Rattle.gp_hostfile.specs.declared.tree.AtomTree.{AtomTree}
 use Rattle.gp_hostfile.specs.declared.tree.AtomTree.TheVariants as atoms
 use Rattle.gp_hostfile.specs.declared.tree.NodeTree.{NodeTree}
 use Rattle.gp_hostfile.specs.declared.tree.EdgeTree.{EdgeTree}
 
-abbrev pub number_sign : Want
-number_sign = wants.Kind kinds.Number
+-- a part of which nothing is kept
+abbrev pub Part : Type (0 + 1)
+Part = Grammar (Unit {0})
 
-abbrev pub string_sign : Want
-string_sign = wants.Kind kinds.String
-
-abbrev pub any_word : Want
-any_word = wants.Kind kinds.Word
-
-abbrev pub root_word : Want
-root_word = wants.Keyword keywords.Root
-
-abbrev pub colon : Want
-colon = wants.Kind kinds.Colon
-
-abbrev pub hash : Want
-hash = wants.Kind kinds.Hash
-
-abbrev pub dot : Want
-dot = wants.Kind kinds.Dot
-
-abbrev pub less : Want
-less = wants.Kind kinds.Less
-
-abbrev pub greater : Want
-greater = wants.Kind kinds.Greater
-
-abbrev pub open_bracket : Want
-open_bracket = wants.Kind kinds.OpenBracket
-
-abbrev pub close_bracket : Want
-close_bracket = wants.Kind kinds.CloseBracket
-
-abbrev pub nothing : Shape (Unit {0})
-nothing = Absent (tt {0})
+-- [part], where the part begins with such a token
+abbrev pub optional : Want → Part → Part
+optional want g = At want g (Absent (tt {0}))
 
 -- ---- labels
 
@@ -61,36 +34,40 @@ abbrev pub characters : List ℕ → AtomTree
 characters cs = atoms.String cs
 
 -- Atom = ["-"] Number | String
-abbrev pub IsAtom : Shape AtomTree
-IsAtom = Either (Made negative (Is minus then IsNumberAt)) (Either (Made positive IsNumberAt) (Made characters IsString))
+unfoldable pub atom : Grammar AtomTree
+atom = At minus (Made negative (One minus followed_by NumberAt)) (At number_sign (Made positive NumberAt) (Made characters String))
 
 abbrev pub no_atoms : Token → List AtomTree
 no_atoms _ = []
 
 -- "empty" | Atom {":" Atom}
-abbrev pub IsAtoms : Shape (List AtomTree)
-IsAtoms = Either (Made no_atoms (Is empty)) (Separated colon IsAtom)
+unfoldable pub atom_list : Grammar (List AtomTree)
+atom_list = At empty (Made no_atoms (One empty)) (Separated colon atom)
 
 abbrev pub word_of : Token × Token → Option Name
 word_of (_, t) = Some t.text
 
 -- ["#" Word]
-abbrev pub IsMark : Shape (Option Name)
-IsMark = Either (Made word_of (Is hash then Is any_word)) (Absent None)
+unfoldable pub mark : Grammar (Option Name)
+mark = At hash (Made word_of (One hash followed_by One any_word)) (Absent None)
 
 -- Label = ("empty" | Atom {":" Atom}) ["#" Word]
-abbrev pub IsLabel : Shape (List AtomTree × Option Name)
-IsLabel = IsAtoms then IsMark
+unfoldable pub label : Grammar (List AtomTree × Option Name)
+label = atom_list followed_by mark
 
 -- ---- positions, of which nothing is kept
 
 -- Coord = ["-"] Number ["." Number]
-abbrev pub IsCoord : Shape (Unit {0})
-IsCoord = Made dropped (Either (Made dropped (Is minus)) nothing then Is number_sign then Either (Made dropped (Is dot then Is number_sign)) nothing)
+unfoldable pub coord : Part
+coord = Made dropped (optional minus (Made dropped (One minus)) followed_by One number_sign followed_by optional dot (Made dropped (One dot followed_by One number_sign)))
 
 -- Position = "<" Coord "," Coord ">"
-abbrev pub IsPosition : Shape (Unit {0})
-IsPosition = Made dropped (Is less then IsCoord then Is comma then IsCoord then Is greater)
+unfoldable pub position : Part
+position = Made dropped (One less followed_by coord followed_by One comma followed_by coord followed_by One greater)
+
+-- [Position]
+unfoldable pub place : Part
+place = optional less position
 
 -- ---- nodes and edges
 
@@ -98,22 +75,24 @@ abbrev pub rooted : Token × (Token × Token) → Bool
 rooted _ = true
 
 -- ["(" "R" ")"]
-abbrev pub IsRoot : Shape Bool
-IsRoot = Either (Made rooted (Is open_sign then Is root_word then Is close_sign)) (Absent false)
+unfoldable pub root : Grammar Bool
+root = At open_sign (Made rooted (One open_sign followed_by One root_word followed_by One close_sign)) (Absent false)
 
 abbrev pub node_of : Token × (Token × (Bool × (Token × ((List AtomTree × Option Name) × (Unit {0} × Token))))) → NodeTree
 node_of (_, (name, (root, (_, (label, _))))) = record { name = name.text; root = root; label = label.0; mark = label.1 }
 
 -- Node = "(" Item ["(" "R" ")"] "," Label [Position] ")"
-abbrev pub IsNode : Shape NodeTree
-IsNode = Made node_of (Is open_sign then Is wants.Item then IsRoot then Is comma then IsLabel then Either IsPosition nothing then Is close_sign)
+unfoldable pub node : Grammar NodeTree
+node = Made node_of (One open_sign followed_by One wants.Item followed_by root followed_by One comma followed_by label followed_by place followed_by One close_sign)
 
 abbrev pub edge_of : Token × (Token × (Token × (Token × (Token × (Token × (Token × ((List AtomTree × Option Name) × Token))))))) → EdgeTree
 edge_of (_, (name, (_, (source, (_, (target, (_, (label, _)))))))) = record { name = name.text; source = source.text; target = target.text; label = label.0; mark = label.1 }
 
 -- Edge = "(" Item "," Item "," Item "," Label ")"
-abbrev pub IsEdge : Shape EdgeTree
-IsEdge = Made edge_of (Is open_sign then Is wants.Item then Is comma then Is wants.Item then Is comma then Is wants.Item then Is comma then IsLabel then Is close_sign)
+unfoldable pub edge : Grammar EdgeTree
+edge =
+    Made edge_of
+    (One open_sign followed_by One wants.Item followed_by One comma followed_by One wants.Item followed_by One comma followed_by One wants.Item followed_by One comma followed_by label followed_by One close_sign)
 
 -- ---- hosts
 
@@ -121,21 +100,33 @@ IsEdge = Made edge_of (Is open_sign then Is wants.Item then Is comma then Is wan
 abbrev pub HostTree : Type 0
 HostTree = List NodeTree × List EdgeTree
 
+unfoldable pub nodes : Grammar (List NodeTree)
+nodes = Repeated open_sign node
+
+unfoldable pub edges : Grammar (List EdgeTree)
+edges = Repeated open_sign edge
+
 abbrev pub tree_of : List NodeTree × (Token × (List EdgeTree × Token)) → HostTree
 tree_of (nodes, (_, (edges, _))) = (nodes, edges)
 
 -- {Node} "|" {Edge} "]"
-abbrev pub IsBody : Shape HostTree
-IsBody = Made tree_of (Many IsNode then Is bar then Many IsEdge then Is close_bracket)
+unfoldable pub body : Grammar HostTree
+body = Made tree_of (nodes followed_by One bar followed_by edges followed_by One close_bracket)
 
--- ["|"]
-abbrev pub IsBar : Shape (Unit {0})
-IsBar = Either (Made dropped (Is bar)) nothing
+-- a bar comes next, and another one before the next closing bracket
+abbrev pub two_bars : List Token → Bool
+two_bars [] = false
+two_bars (t ∷ ts) = meets bar t && stands_before bar close_bracket ts
 
-abbrev pub tree_behind : Unit {0} × (Unit {0} × HostTree) → HostTree
-tree_behind (_, (_, tree)) = tree
+-- ["|"] {Node} "|" {Edge} "]"
+-- The first bar is there exactly where there are two, since a node and an edge have none.
+unfoldable pub barred : Grammar HostTree
+barred = If two_bars (Made second_of (One bar followed_by body)) body
 
 -- Host = "[" [Position ["|"]] {Node} "|" {Edge} "]"
--- The bar behind a leading position is there exactly where the host has two bars, since a node and an edge have none.
+unfoldable pub host : Grammar HostTree
+host = Made second_of (One open_bracket followed_by At less (Made second_of (position followed_by barred)) body)
+
+-- these tokens, up to the rest, are a host with this tree
 abbrev pub IsHostShape : Shape HostTree
-IsHostShape = Made second_of (Is open_bracket then Either (Made tree_behind (IsPosition then IsBar then IsBody)) IsBody)
+IsHostShape = shape_of host

@@ -1,19 +1,19 @@
 -- The graph of a host text, and the first fault of a text that has none.
-use Rattle.std.specs.Prelude.{◌≡◌, ◌≢◌, ℕ, ◌≤◌, if◌then◌else◌, List, [], ◌∷◌, ◌++◌, length, map, flat_map, codes, Option, Some, None, option_map, slice_get, Result, Ok, Err}
+use Rattle.std.specs.Prelude.{◌≡◌, ◌≢◌, ℕ, ◌≤◌, List, [], ◌∷◌, ◌++◌, length, map, flat_map, Option, Some, None, option_map, slice_get, Result, Ok, Err}
 use Rattle.std.specs.Option.{option_or}
-use Rattle.std.specs.Str.{bytes_eq}
 use Rattle.gp_tokens.specs.declared.fault.LexFault.{LexFault}
 use Rattle.gp_tokens.specs.declared.fault.LexFault.TheVariants as lex_faults
 use Rattle.gp_tokens.specs.declared.token.Token.{Token}
 use Rattle.gp_tokens.specs.Lexed.{tokens_of}
-use Rattle.gp_grammar.specs.Labels.{integer_of}
-use Rattle.gp_grammar.specs.Reading.{◌>>=◌}
+use Rattle.gp_grammar.specs.Numerals.{integer_of}
+use Rattle.gp_grammar.specs.inside.Reading.{◌>>=◌}
 use Rattle.gp_values.specs.declared.atom.Atom.{Atom}
 use Rattle.gp_values.specs.declared.atom.Atom.TheVariants.{Int, Str}
 use Rattle.gp_values.specs.declared.marks.NodeMark.{NodeMark}
 use Rattle.gp_values.specs.declared.marks.NodeMark.TheVariants as node_marks
 use Rattle.gp_values.specs.declared.marks.EdgeMark.{EdgeMark}
 use Rattle.gp_values.specs.declared.marks.EdgeMark.TheVariants as edge_marks
+use Rattle.gp_values.specs.Marks.{node_mark_named, edge_mark_named}
 use Rattle.gp_values.specs.Names.{Name, place_of, first_doubled, first_unknown}
 use Rattle.gp_values.specs.Graph.{Node, Edge, Graph as HostGraph, IsGraph, node_at, edge_at}
 use Rattle.gp_graph.specs.declared.graph.Graph.{Graph}
@@ -41,16 +41,12 @@ atoms_of (a ∷ rest) = atom_of a >>= λ x. option_map (λ xs. x ∷ xs) (atoms_
 -- the mark of a node by the word at its place, or by none
 abbrev pub node_mark : Option Name → Option NodeMark
 node_mark None = Some node_marks.None
-node_mark (Some word) =
-    if bytes_eq word (codes "red") then Some node_marks.Red else if bytes_eq word (codes "green") then Some node_marks.Green
-    else if bytes_eq word (codes "blue") then Some node_marks.Blue else if bytes_eq word (codes "grey") then Some node_marks.Grey else None
+node_mark (Some word) = node_mark_named word
 
 -- the mark of an edge
 abbrev pub edge_mark : Option Name → Option EdgeMark
 edge_mark None = Some edge_marks.None
-edge_mark (Some word) =
-    if bytes_eq word (codes "red") then Some edge_marks.Red else if bytes_eq word (codes "green") then Some edge_marks.Green
-    else if bytes_eq word (codes "blue") then Some edge_marks.Blue else if bytes_eq word (codes "dashed") then Some edge_marks.Dashed else None
+edge_mark (Some word) = edge_mark_named word
 
 -- ---- names, in the order of the text
 
@@ -65,10 +61,10 @@ end_names t = flat_map (λ (e : EdgeTree). e.source ∷ e.target ∷ []) t.1
 
 -- ---- faults
 
--- the first that something is told of
-abbrev pub first_told : {A B : Type 0} → (A → Option B) → List A → Option B
-first_told f [] = None
-first_told f (x ∷ xs) = option_or (f x) (first_told f xs)
+-- the first that something is found of
+abbrev pub first_found : {A B : Type 0} → (A → Option B) → List A → Option B
+first_found f [] = None
+first_found f (x ∷ xs) = option_or (f x) (first_found f xs)
 
 abbrev pub unless : {A B : Type 0} → B → Option A → Option B
 unless y None = Some y
@@ -81,7 +77,7 @@ out_of_range (atoms.String s) = None
 
 -- the first, in the labels of nodes and then of edges
 abbrev pub first_out_of_range : HostTree → Option ℕ
-first_out_of_range t = first_told out_of_range (flat_map (λ (n : NodeTree). n.label) t.0 ++ flat_map (λ (e : EdgeTree). e.label) t.1)
+first_out_of_range t = first_found out_of_range (flat_map (λ (n : NodeTree). n.label) t.0 ++ flat_map (λ (e : EdgeTree). e.label) t.1)
 
 -- the name of a node, of an edge with a word that is no mark of its place
 abbrev pub wrong_node : NodeTree → Option Name
@@ -92,7 +88,7 @@ wrong_edge e = unless e.name (edge_mark e.mark)
 
 -- the first, among the nodes and then among the edges
 abbrev pub first_wrong_mark : HostTree → Option Name
-first_wrong_mark t = option_or (first_told wrong_node t.0) (first_told wrong_edge t.1)
+first_wrong_mark t = option_or (first_found wrong_node t.0) (first_found wrong_edge t.1)
 
 -- The first fault of a tree: an integer out of range, then a node's name that stood before, an edge's name that stood
 -- before, an end that is no node, a word that is no mark.
@@ -113,7 +109,7 @@ pub data IsHostFault (bytes : List ℕ) : HostFault → Type 0 where
 -- ---- graphs
 
 -- what stands in a graph at the number of such a node
-pub record IsDrawnNode (n : NodeTree) (there : Option Node) : Type 0 where
+pub record IsBuiltNode (n : NodeTree) (there : Option Node) : Type 0 where
   pub label : List Atom
   pub mark : NodeMark
   pub label_is : atoms_of n.label ≡ Some label
@@ -121,7 +117,7 @@ pub record IsDrawnNode (n : NodeTree) (there : Option Node) : Type 0 where
   pub is : there ≡ Some (record { label = label; mark = mark; root = n.root })
 
 -- what stands in a graph at the number of such an edge; its ends are the places of their names among those of nodes
-pub record IsDrawnEdge (nodes : List Name) (e : EdgeTree) (there : Option Edge) : Type 0 where
+pub record IsBuiltEdge (nodes : List Name) (e : EdgeTree) (there : Option Edge) : Type 0 where
   pub source : ℕ
   pub target : ℕ
   pub label : List Atom
@@ -133,21 +129,21 @@ pub record IsDrawnEdge (nodes : List Name) (e : EdgeTree) (there : Option Edge) 
   pub is : there ≡ Some (record { source = source; target = target; label = label; mark = mark })
 
 -- nodes and edges are numbered from 0 in the order of the text
-pub record IsDrawn (t : HostTree) (g : HostGraph) : Type 0 where
+pub record IsBuilt (t : HostTree) (g : HostGraph) : Type 0 where
   pub next_node : g.next_node ≡ length t.0
   pub next_edge : g.next_edge ≡ length t.1
-  pub nodes : (i : ℕ) (n : NodeTree) → slice_get t.0 i ≡ Some n → IsDrawnNode n (node_at g i)
-  pub edges : (i : ℕ) (e : EdgeTree) → slice_get t.1 i ≡ Some e → IsDrawnEdge (node_names t) e (edge_at g i)
+  pub nodes : (i : ℕ) (n : NodeTree) → slice_get t.0 i ≡ Some n → IsBuiltNode n (node_at g i)
+  pub edges : (i : ℕ) (e : EdgeTree) → slice_get t.1 i ≡ Some e → IsBuiltEdge (node_names t) e (edge_at g i)
 
 -- The text is a host with this graph: its tokens, with nothing behind them, are a tree without a fault, and the graph is
--- drawn from it. In a graph nothing stands at the next numbers or above.
+-- built from it. In a graph nothing stands at the next numbers or above.
 pub record IsHostText (bytes : List ℕ) (g : HostGraph) : Type 0 where
   pub tokens : List Token
   pub tree : HostTree
   pub lexed : tokens_of bytes ≡ Ok tokens
   pub shape : IsHostShape tokens [] tree
   pub faultless : first_fault tree ≡ None
-  pub drawn : IsDrawn tree g
+  pub built : IsBuilt tree g
   pub graph : IsGraph g
 
 -- ---- the answer

@@ -11,6 +11,15 @@ use Rattle.gp_hostfile.specs.Renumbered.{HasShortNumbers, IsRenumbered}
 abbrev pub HostTextsHaveOneGraph : Type 0
 HostTextsHaveOneGraph = (bytes : List ℕ) (g h : Graph) → IsHostText bytes g → IsHostText bytes h → g ≡ h
 
+-- a text has a graph, or a fault
+pub data HasAnswer (bytes : List ℕ) : Type 0 where
+  has_graph : (g : Graph) → IsHostText bytes g → HasAnswer bytes
+  has_fault : (e : HostFault) → IsHostFault bytes e → HasAnswer bytes
+
+-- Each text has one or the other.
+abbrev pub HostTextsHaveAnAnswer : Type 0
+HostTextsHaveAnAnswer = (bytes : List ℕ) → HasAnswer bytes
+
 -- A text with a graph has no fault.
 abbrev pub HostTextsHaveNoFault : Type 0
 HostTextsHaveNoFault = (bytes : List ℕ) (g : Graph) (e : HostFault) → IsHostText bytes g → IsHostFault bytes e → ⊥

@@ -2,10 +2,10 @@
 
 ghost use Rattle.std.specs.Prelude.{◌≡◌, map, IfOk, option_map};
 ghost use Rattle.std.specs.Option.{option_or};
-ghost use Rattle.gp_grammar.specs.Labels.{integer_of};
+ghost use Rattle.gp_grammar.specs.Numerals.{integer_of};
 ghost use Rattle.gp_values.specs.Names.{place_of, first_doubled};
-ghost use Rattle.gp_hostfile.specs.Host.{node_mark, edge_mark, first_told, first_fault, first_out_of_range, first_wrong_mark, node_names};
-ghost use Rattle.gp_hostfile.specs.Drawn.{Checks, Finds, tree_in, atom_fault, label_fault, ends_fault, node_mark_fault, edge_mark_fault};
+ghost use Rattle.gp_hostfile.specs.Host.{node_mark, edge_mark, first_found, first_fault, first_out_of_range, first_wrong_mark, node_names};
+ghost use Rattle.gp_hostfile.specs.inside.Stages.{Checks, Finds, tree_in, atom_fault, label_fault, ends_fault, node_mark_fault, edge_mark_fault};
 ghost use Rattle.gp_hostfile.specs.declared.fault.HostFault.TheVariants as faults;
 ghost use Rattle.gp_hostfile.specs.declared.tree.NodeTree.{NodeTree};
 ghost use Rattle.gp_hostfile.specs.declared.tree.EdgeTree.{EdgeTree};
@@ -14,12 +14,12 @@ use crate::fault::HostFault;
 use crate::names::NameTable;
 use crate::tree::{AtomTree, EdgeTree, HostTree, NodeTree};
 use gp_grammar::Numeral;
-use gp_tokens::Text;
+use gp_tokens::Slice;
 use gp_values::{EdgeMark, NodeMark};
 use std::alloc::Global;
 
 /// Finds the first fault, or gives the names of the nodes.
-pub(crate) fn check(alloc: Global, tree: &HostTree) -> Result<NameTable, HostFault>
+pub(crate) fn check(alloc: Global, tree: &HostTree<'_>) -> Result<NameTable, HostFault>
     ensures fault { Checks result (first_fault (tree_in tree.now)) }
     ensures names { IfOk result (λ t. t ≡ node_names (tree_in tree.now)) }
 {
@@ -31,15 +31,15 @@ pub(crate) fn check(alloc: Global, tree: &HostTree) -> Result<NameTable, HostFau
     Ok(nodes)
 }
 
-fn check_numbers(tree: &HostTree) -> Result<(), HostFault>
-    ensures { Checks result (option_or (first_told (λ (n : NodeTree). label_fault n.label) tree.now.nodes.items) (first_told (λ (e : EdgeTree). label_fault e.label) tree.now.edges.items)) }
+fn check_numbers(tree: &HostTree<'_>) -> Result<(), HostFault>
+    ensures { Checks result (option_or (first_found (λ (n : NodeTree). label_fault n.label) tree.now.nodes.items) (first_found (λ (e : EdgeTree). label_fault e.label) tree.now.edges.items)) }
 {
     check_node_labels(&tree.nodes)?;
     check_edge_labels(&tree.edges)
 }
 
-fn check_node_labels(nodes: &[NodeTree]) -> Result<(), HostFault>
-    ensures { Checks result (first_told (λ (n : NodeTree). label_fault n.label) nodes.now) }
+fn check_node_labels(nodes: &[NodeTree<'_>]) -> Result<(), HostFault>
+    ensures { Checks result (first_found (λ (n : NodeTree). label_fault n.label) nodes.now) }
 {
     for node in nodes {
         check_label(node.label.as_slice())?;
@@ -47,8 +47,8 @@ fn check_node_labels(nodes: &[NodeTree]) -> Result<(), HostFault>
     Ok(())
 }
 
-fn check_edge_labels(edges: &[EdgeTree]) -> Result<(), HostFault>
-    ensures { Checks result (first_told (λ (e : EdgeTree). label_fault e.label) edges.now) }
+fn check_edge_labels(edges: &[EdgeTree<'_>]) -> Result<(), HostFault>
+    ensures { Checks result (first_found (λ (e : EdgeTree). label_fault e.label) edges.now) }
 {
     for edge in edges {
         check_label(edge.label.as_slice())?;
@@ -84,7 +84,7 @@ pub(crate) fn integer(numeral: &Numeral, start: u64) -> Result<i128, HostFault>
     }
 }
 
-fn check_node_names(alloc: Global, nodes: &[NodeTree]) -> Result<NameTable, HostFault>
+fn check_node_names(alloc: Global, nodes: &[NodeTree<'_>]) -> Result<NameTable, HostFault>
     ensures fault { Checks result (option_map faults.TwoNodes (first_doubled (map (λ (n : NodeTree). n.name) nodes.now))) }
     ensures names { IfOk result (λ t. t ≡ map (λ (n : NodeTree). n.name) nodes.now) }
 {
@@ -97,7 +97,7 @@ fn check_node_names(alloc: Global, nodes: &[NodeTree]) -> Result<NameTable, Host
     Ok(names)
 }
 
-fn check_edge_names(alloc: Global, edges: &[EdgeTree]) -> Result<(), HostFault>
+fn check_edge_names(alloc: Global, edges: &[EdgeTree<'_>]) -> Result<(), HostFault>
     ensures { Checks result (option_map faults.TwoEdges (first_doubled (map (λ (e : EdgeTree). e.name) edges.now))) }
 {
     let mut names = NameTable::new(alloc);
@@ -109,8 +109,8 @@ fn check_edge_names(alloc: Global, edges: &[EdgeTree]) -> Result<(), HostFault>
     Ok(())
 }
 
-fn check_ends(alloc: Global, edges: &[EdgeTree], nodes: &NameTable) -> Result<(), HostFault>
-    ensures { Checks result (first_told (ends_fault nodes.now) edges.now) }
+fn check_ends(alloc: Global, edges: &[EdgeTree<'_>], nodes: &NameTable) -> Result<(), HostFault>
+    ensures { Checks result (first_found (ends_fault nodes.now) edges.now) }
 {
     for edge in edges {
         check_ends_of(alloc, edge, nodes)?;
@@ -118,7 +118,7 @@ fn check_ends(alloc: Global, edges: &[EdgeTree], nodes: &NameTable) -> Result<()
     Ok(())
 }
 
-fn check_ends_of(alloc: Global, edge: &EdgeTree, nodes: &NameTable) -> Result<(), HostFault>
+fn check_ends_of(alloc: Global, edge: &EdgeTree<'_>, nodes: &NameTable) -> Result<(), HostFault>
     ensures { Checks result (ends_fault nodes.now edge.now) }
 {
     end(alloc, &edge.source, nodes)?;
@@ -127,7 +127,7 @@ fn check_ends_of(alloc: Global, edge: &EdgeTree, nodes: &NameTable) -> Result<()
 }
 
 /// The number of the node that an end names, or the fault that it names none.
-pub(crate) fn end(alloc: Global, name: &Text, nodes: &NameTable) -> Result<u64, HostFault>
+pub(crate) fn end(alloc: Global, name: &Slice<'_>, nodes: &NameTable) -> Result<u64, HostFault>
     ensures { Finds result (place_of nodes.now name.now) (faults.NoSuchEnd name.now) }
 {
     match nodes.place(name.as_bytes()) {
@@ -136,15 +136,15 @@ pub(crate) fn end(alloc: Global, name: &Text, nodes: &NameTable) -> Result<u64, 
     }
 }
 
-fn check_marks(alloc: Global, tree: &HostTree) -> Result<(), HostFault>
-    ensures { Checks result (option_or (first_told node_mark_fault tree.now.nodes.items) (first_told edge_mark_fault tree.now.edges.items)) }
+fn check_marks(alloc: Global, tree: &HostTree<'_>) -> Result<(), HostFault>
+    ensures { Checks result (option_or (first_found node_mark_fault tree.now.nodes.items) (first_found edge_mark_fault tree.now.edges.items)) }
 {
     check_node_marks(alloc, &tree.nodes)?;
     check_edge_marks(alloc, &tree.edges)
 }
 
-fn check_node_marks(alloc: Global, nodes: &[NodeTree]) -> Result<(), HostFault>
-    ensures { Checks result (first_told node_mark_fault nodes.now) }
+fn check_node_marks(alloc: Global, nodes: &[NodeTree<'_>]) -> Result<(), HostFault>
+    ensures { Checks result (first_found node_mark_fault nodes.now) }
 {
     for node in nodes {
         node_mark(alloc, node)?;
@@ -152,8 +152,8 @@ fn check_node_marks(alloc: Global, nodes: &[NodeTree]) -> Result<(), HostFault>
     Ok(())
 }
 
-fn check_edge_marks(alloc: Global, edges: &[EdgeTree]) -> Result<(), HostFault>
-    ensures { Checks result (first_told edge_mark_fault edges.now) }
+fn check_edge_marks(alloc: Global, edges: &[EdgeTree<'_>]) -> Result<(), HostFault>
+    ensures { Checks result (first_found edge_mark_fault edges.now) }
 {
     for edge in edges {
         edge_mark(alloc, edge)?;
@@ -162,7 +162,7 @@ fn check_edge_marks(alloc: Global, edges: &[EdgeTree]) -> Result<(), HostFault>
 }
 
 /// The mark of a node, or the fault that its word is none.
-pub(crate) fn node_mark(alloc: Global, node: &NodeTree) -> Result<NodeMark, HostFault>
+pub(crate) fn node_mark(alloc: Global, node: &NodeTree<'_>) -> Result<NodeMark, HostFault>
     ensures { Finds result (node_mark node.now.mark) (faults.WrongMark node.now.name) }
 {
     match node_mark_of(&node.mark) {
@@ -171,7 +171,7 @@ pub(crate) fn node_mark(alloc: Global, node: &NodeTree) -> Result<NodeMark, Host
     }
 }
 
-fn node_mark_of(word: &Option<Text>) -> Option<NodeMark>
+fn node_mark_of(word: &Option<Slice<'_>>) -> Option<NodeMark>
     ensures { result ≡ node_mark word.now }
 {
     let Some(word) = word else {
@@ -187,7 +187,7 @@ fn node_mark_of(word: &Option<Text>) -> Option<NodeMark>
 }
 
 /// The mark of an edge, or the fault that its word is none.
-pub(crate) fn edge_mark(alloc: Global, edge: &EdgeTree) -> Result<EdgeMark, HostFault>
+pub(crate) fn edge_mark(alloc: Global, edge: &EdgeTree<'_>) -> Result<EdgeMark, HostFault>
     ensures { Finds result (edge_mark edge.now.mark) (faults.WrongMark edge.now.name) }
 {
     match edge_mark_of(&edge.mark) {
@@ -196,7 +196,7 @@ pub(crate) fn edge_mark(alloc: Global, edge: &EdgeTree) -> Result<EdgeMark, Host
     }
 }
 
-fn edge_mark_of(word: &Option<Text>) -> Option<EdgeMark>
+fn edge_mark_of(word: &Option<Slice<'_>>) -> Option<EdgeMark>
     ensures { result ≡ edge_mark word.now }
 {
     let Some(word) = word else {

@@ -60,7 +60,7 @@ impl From<AllocError> for HostFault {
 
 impl From<LexFault> for HostFault {
     ghost use Rattle.std.specs.Prelude.{◌≡◌};
-    ghost use Rattle.gp_hostfile.specs.Drawn.{lex_fault};
+    ghost use Rattle.gp_hostfile.specs.inside.Stages.{lex_fault};
 
     ghost from_gives = { λ f e. e ≡ lex_fault f };
 

@@ -1,13 +1,13 @@
-//! Reads hosts into trees, from left to right.
+//! Reads the tokens of hosts into trees, one function for each line of the grammar.
 
-ghost use Rattle.std.specs.Prelude.{◌≡◌, ◌<◌, ◌≤◌, length, IfOk};
-ghost use Rattle.gp_grammar.specs.Reading.{Gives};
-ghost use Rattle.gp_hostfile.specs.Reading as spec;
+ghost use Rattle.std.specs.Prelude.{◌≡◌};
+ghost use Rattle.gp_grammar.specs.inside.Cursor.{Reads, ReadsAs};
+ghost use Rattle.gp_grammar.specs.inside.Reading.{reader_of};
+ghost use Rattle.gp_hostfile.specs.Grammar as spec;
 
 use crate::tree::{AtomTree, AtomTrees, EdgeTree, HostTree, NodeTree};
-use gp_grammar::{Numeral, ReadError, Want, begins, number_at, stands_before, string, token};
-use gp_tokens::{Keyword, Kind, Text, Token};
-use std::alloc::Global;
+use gp_grammar::{Numeral, ReadError, Tokens, Want, repeated_by, separated_by, stands_before};
+use gp_tokens::{Keyword, Kind, Slice, Token};
 
 const OPEN: Want = Want::Kind(Kind::OpenParenthesis);
 
@@ -26,281 +26,195 @@ const CLOSE_BRACKET: Want = Want::Kind(Kind::CloseBracket);
 const LESS: Want = Want::Kind(Kind::Less);
 
 // Atom = ["-"] Number | String
-#[tactic(auto, unfolding(crate::specs::Reading::atom))]
-fn read_atom(alloc: Global, tokens: &[Token]) -> Result<(AtomTree, &[Token]), ReadError>
-    ensures gives { Gives (λ x. (x.0, x.1.now)) result (spec.atom tokens.now) }
-    ensures shorter { IfOk result (λ x. length x.1.now < length tokens.now) }
+#[tactic(auto, unfolding(crate::specs::Grammar::atom))]
+fn read_atom(tokens: &mut Tokens<'_, '_>) -> Result<AtomTree, ReadError>
+    ensures { Reads (reader_of spec.atom tokens.old) result tokens.new }
 {
-    if begins(tokens, MINUS) {
-        let (_, rest) = token(tokens, MINUS)?;
-        let (value, start, rest) = number_at(rest)?;
-        let numeral = Numeral {
-            negative: true,
-            value,
-        };
-        return Ok((AtomTree::Number(numeral, start), rest));
+    let negative = tokens.eat(MINUS);
+    if negative || tokens.begins(NUMBER) {
+        let (value, start) = tokens.number_at()?;
+        return Ok(AtomTree::Number(Numeral { negative, value }, start));
     }
-    if begins(tokens, NUMBER) {
-        let (value, start, rest) = number_at(tokens)?;
-        let numeral = Numeral {
-            negative: false,
-            value,
-        };
-        return Ok((AtomTree::Number(numeral, start), rest));
-    }
-    let (characters, rest) = string(alloc, tokens)?;
-    Ok((AtomTree::String(characters), rest))
+    Ok(AtomTree::String(tokens.string()?))
 }
 
 // "empty" | Atom {":" Atom}
-#[tactic(auto, unfolding(crate::specs::Reading::atoms))]
-fn read_atoms(alloc: Global, tokens: &[Token]) -> Result<(AtomTrees, &[Token]), ReadError>
-    ensures gives { Gives (λ x. (x.0, x.1.now)) result (spec.atoms tokens.now) }
-    ensures shorter { IfOk result (λ x. length x.1.now < length tokens.now) }
+#[tactic(auto, unfolding(crate::specs::Grammar::atom_list))]
+fn read_atoms(tokens: &mut Tokens<'_, '_>) -> Result<AtomTrees, ReadError>
+    ensures { Reads (reader_of spec.atom_list tokens.old) result tokens.new }
 {
-    if begins(tokens, Want::Keyword(Keyword::Empty)) {
-        let (_, rest) = token(tokens, Want::Keyword(Keyword::Empty))?;
-        return Ok((AtomTrees::new(alloc), rest));
+    let alloc = tokens.alloc();
+    if tokens.eat(Want::Keyword(Keyword::Empty)) {
+        return Ok(AtomTrees::new(alloc));
     }
-    read_some_atoms(alloc, tokens)
-}
-
-fn read_some_atoms(alloc: Global, tokens: &[Token]) -> Result<(AtomTrees, &[Token]), ReadError>
-    ensures gives { Gives (λ x. (x.0, x.1.now)) result (spec.some_atoms tokens.now) }
-    ensures shorter { IfOk result (λ x. length x.1.now < length tokens.now) }
-{
-    let mut found = AtomTrees::new(alloc);
-    let (first, mut rest) = read_atom(alloc, tokens)?;
-    found.push(first)?;
-    'each: while begins(rest, Want::Kind(Kind::Colon)) {
-        let (value, after) = read_next_atom(alloc, rest)?;
-        found.push(value)?;
-        rest = after;
-    }
-    Ok((found, rest))
-}
-
-#[tactic(auto, unfolding(crate::specs::Reading::next_atom))]
-fn read_next_atom(alloc: Global, tokens: &[Token]) -> Result<(AtomTree, &[Token]), ReadError>
-    ensures gives { Gives (λ x. (x.0, x.1.now)) result (spec.next_atom tokens.now) }
-    ensures shorter { IfOk result (λ x. length x.1.now < length tokens.now) }
-{
-    let (_, rest) = token(tokens, Want::Kind(Kind::Colon))?;
-    read_atom(alloc, rest)
+    let atoms = separated_by(tokens, Want::Kind(Kind::Colon), read_atom)?;
+    Ok(AtomTrees::from_vec(alloc, atoms)?)
 }
 
 // ["#" Word]
-#[tactic(auto, unfolding(crate::specs::Reading::mark))]
-fn read_mark(alloc: Global, tokens: &[Token]) -> Result<(Option<Text>, &[Token]), ReadError>
-    ensures gives { Gives (λ x. (x.0, x.1.now)) result (spec.mark tokens.now) }
-    ensures shorter { IfOk result (λ x. length x.1.now ≤ length tokens.now) }
+#[tactic(auto, unfolding(crate::specs::Grammar::mark))]
+fn read_mark<'t>(tokens: &mut Tokens<'_, 't>) -> Result<Option<Slice<'t>>, ReadError>
+    ensures { Reads (reader_of spec.mark tokens.old) result tokens.new }
 {
-    if begins(tokens, Want::Kind(Kind::Hash)) {
-        let (_, rest) = token(tokens, Want::Kind(Kind::Hash))?;
-        let (word, rest) = token(rest, Want::Kind(Kind::Word))?;
-        let word = word.text.copy(alloc)?;
-        return Ok((Some(word), rest));
+    if !tokens.eat(Want::Kind(Kind::Hash)) {
+        return Ok(None);
     }
-    Ok((None, tokens))
-}
-
-#[tactic(auto, unfolding(crate::specs::Reading::sign))]
-fn pass_sign(tokens: &[Token]) -> Result<&[Token], ReadError>
-    ensures gives { Gives (λ x. (tt {0}, x.now)) result (spec.sign tokens.now) }
-    ensures shorter { IfOk result (λ x. length x.now ≤ length tokens.now) }
-{
-    if begins(tokens, MINUS) {
-        let (_, rest) = token(tokens, MINUS)?;
-        return Ok(rest);
-    }
-    Ok(tokens)
-}
-
-#[tactic(auto, unfolding(crate::specs::Reading::fraction))]
-fn pass_fraction(tokens: &[Token]) -> Result<&[Token], ReadError>
-    ensures gives { Gives (λ x. (tt {0}, x.now)) result (spec.fraction tokens.now) }
-    ensures shorter { IfOk result (λ x. length x.now ≤ length tokens.now) }
-{
-    if begins(tokens, Want::Kind(Kind::Dot)) {
-        let (_, rest) = token(tokens, Want::Kind(Kind::Dot))?;
-        let (_, rest) = token(rest, NUMBER)?;
-        return Ok(rest);
-    }
-    Ok(tokens)
+    let word = tokens.expect(Want::Kind(Kind::Word))?;
+    Ok(Some(word.text.again()))
 }
 
 // Coord = ["-"] Number ["." Number]
-#[tactic(auto, unfolding(crate::specs::Reading::coord))]
-fn pass_coord(tokens: &[Token]) -> Result<&[Token], ReadError>
-    ensures gives { Gives (λ x. (tt {0}, x.now)) result (spec.coord tokens.now) }
-    ensures shorter { IfOk result (λ x. length x.now < length tokens.now) }
+#[tactic(auto, unfolding(crate::specs::Grammar::coord))]
+fn pass_coord(tokens: &mut Tokens<'_, '_>) -> Result<(), ReadError>
+    ensures { Reads (reader_of spec.coord tokens.old) result tokens.new }
 {
-    let rest = pass_sign(tokens)?;
-    let (_, rest) = token(rest, NUMBER)?;
-    pass_fraction(rest)
+    tokens.eat(MINUS);
+    tokens.expect(NUMBER)?;
+    if tokens.eat(Want::Kind(Kind::Dot)) {
+        tokens.expect(NUMBER)?;
+    }
+    Ok(())
 }
 
 // Position = "<" Coord "," Coord ">"
-#[tactic(auto, unfolding(crate::specs::Reading::position))]
-fn pass_position(tokens: &[Token]) -> Result<&[Token], ReadError>
-    ensures gives { Gives (λ x. (tt {0}, x.now)) result (spec.position tokens.now) }
-    ensures shorter { IfOk result (λ x. length x.now < length tokens.now) }
+#[tactic(auto, unfolding(crate::specs::Grammar::position))]
+fn pass_position(tokens: &mut Tokens<'_, '_>) -> Result<(), ReadError>
+    ensures { Reads (reader_of spec.position tokens.old) result tokens.new }
 {
-    let (_, rest) = token(tokens, LESS)?;
-    let rest = pass_coord(rest)?;
-    let (_, rest) = token(rest, COMMA)?;
-    let rest = pass_coord(rest)?;
-    let (_, rest) = token(rest, Want::Kind(Kind::Greater))?;
-    Ok(rest)
+    tokens.expect(LESS)?;
+    pass_coord(tokens)?;
+    tokens.expect(COMMA)?;
+    pass_coord(tokens)?;
+    tokens.expect(Want::Kind(Kind::Greater))?;
+    Ok(())
 }
 
-#[tactic(auto, unfolding(crate::specs::Reading::place))]
-fn pass_place(tokens: &[Token]) -> Result<&[Token], ReadError>
-    ensures gives { Gives (λ x. (tt {0}, x.now)) result (spec.place tokens.now) }
-    ensures shorter { IfOk result (λ x. length x.now ≤ length tokens.now) }
+// [Position]
+#[tactic(auto, unfolding(crate::specs::Grammar::place))]
+fn pass_place(tokens: &mut Tokens<'_, '_>) -> Result<(), ReadError>
+    ensures { Reads (reader_of spec.place tokens.old) result tokens.new }
 {
-    if begins(tokens, LESS) {
-        return pass_position(tokens);
+    if tokens.begins(LESS) {
+        pass_position(tokens)?;
     }
-    Ok(tokens)
+    Ok(())
 }
 
 // ["(" "R" ")"]
-#[tactic(auto, unfolding(crate::specs::Reading::root))]
-fn read_root(tokens: &[Token]) -> Result<(bool, &[Token]), ReadError>
-    ensures gives { Gives (λ x. (x.0, x.1.now)) result (spec.root tokens.now) }
-    ensures shorter { IfOk result (λ x. length x.1.now ≤ length tokens.now) }
+#[tactic(auto, unfolding(crate::specs::Grammar::root))]
+fn read_root(tokens: &mut Tokens<'_, '_>) -> Result<bool, ReadError>
+    ensures { Reads (reader_of spec.root tokens.old) result tokens.new }
 {
-    if begins(tokens, OPEN) {
-        let (_, rest) = token(tokens, OPEN)?;
-        let (_, rest) = token(rest, Want::Keyword(Keyword::Root))?;
-        let (_, rest) = token(rest, CLOSE)?;
-        return Ok((true, rest));
+    let rooted = tokens.eat(OPEN);
+    if rooted {
+        tokens.expect(Want::Keyword(Keyword::Root))?;
+        tokens.expect(CLOSE)?;
     }
-    Ok((false, tokens))
+    Ok(rooted)
 }
 
 // Node = "(" Item ["(" "R" ")"] "," Label [Position] ")"
-#[tactic(auto, unfolding(crate::specs::Reading::node, crate::specs::Reading::label))]
-fn read_node(alloc: Global, tokens: &[Token]) -> Result<(NodeTree, &[Token]), ReadError>
-    ensures gives { Gives (λ x. (x.0, x.1.now)) result (spec.node tokens.now) }
-    ensures shorter { IfOk result (λ x. length x.1.now < length tokens.now) }
+#[tactic(auto, unfolding(crate::specs::Grammar::node, crate::specs::Grammar::label))]
+fn read_node<'t>(tokens: &mut Tokens<'_, 't>) -> Result<NodeTree<'t>, ReadError>
+    ensures { Reads (reader_of spec.node tokens.old) result tokens.new }
 {
-    let (_, rest) = token(tokens, OPEN)?;
-    let (name, rest) = token(rest, Want::Item)?;
-    let (root, rest) = read_root(rest)?;
-    let (_, rest) = token(rest, COMMA)?;
-    let (label, rest) = read_atoms(alloc, rest)?;
-    let (mark, rest) = read_mark(alloc, rest)?;
-    let rest = pass_place(rest)?;
-    let (_, rest) = token(rest, CLOSE)?;
-    let name = name.text.copy(alloc)?;
-    Ok((
-        NodeTree {
-            name,
-            root,
-            label,
-            mark,
-        },
-        rest,
-    ))
+    tokens.expect(OPEN)?;
+    let name = tokens.expect(Want::Item)?;
+    let root = read_root(tokens)?;
+    tokens.expect(COMMA)?;
+    let label = read_atoms(tokens)?;
+    let mark = read_mark(tokens)?;
+    pass_place(tokens)?;
+    tokens.expect(CLOSE)?;
+    Ok(NodeTree {
+        name: name.text.again(),
+        root,
+        label,
+        mark,
+    })
 }
 
 // Edge = "(" Item "," Item "," Item "," Label ")"
-#[tactic(auto, unfolding(crate::specs::Reading::edge, crate::specs::Reading::label))]
-fn read_edge(alloc: Global, tokens: &[Token]) -> Result<(EdgeTree, &[Token]), ReadError>
-    ensures gives { Gives (λ x. (x.0, x.1.now)) result (spec.edge tokens.now) }
-    ensures shorter { IfOk result (λ x. length x.1.now < length tokens.now) }
+#[tactic(auto, unfolding(crate::specs::Grammar::edge, crate::specs::Grammar::label))]
+fn read_edge<'t>(tokens: &mut Tokens<'_, 't>) -> Result<EdgeTree<'t>, ReadError>
+    ensures { Reads (reader_of spec.edge tokens.old) result tokens.new }
 {
-    let (_, rest) = token(tokens, OPEN)?;
-    let (name, rest) = token(rest, Want::Item)?;
-    let (_, rest) = token(rest, COMMA)?;
-    let (source, rest) = token(rest, Want::Item)?;
-    let (_, rest) = token(rest, COMMA)?;
-    let (target, rest) = token(rest, Want::Item)?;
-    let (_, rest) = token(rest, COMMA)?;
-    let (label, rest) = read_atoms(alloc, rest)?;
-    let (mark, rest) = read_mark(alloc, rest)?;
-    let (_, rest) = token(rest, CLOSE)?;
-    let name = name.text.copy(alloc)?;
-    let source = source.text.copy(alloc)?;
-    let target = target.text.copy(alloc)?;
-    let edge = EdgeTree {
-        name,
-        source,
-        target,
+    tokens.expect(OPEN)?;
+    let name = tokens.expect(Want::Item)?;
+    tokens.expect(COMMA)?;
+    let source = tokens.expect(Want::Item)?;
+    tokens.expect(COMMA)?;
+    let target = tokens.expect(Want::Item)?;
+    tokens.expect(COMMA)?;
+    let label = read_atoms(tokens)?;
+    let mark = read_mark(tokens)?;
+    tokens.expect(CLOSE)?;
+    Ok(EdgeTree {
+        name: name.text.again(),
+        source: source.text.again(),
+        target: target.text.again(),
         label,
         mark,
-    };
-    Ok((edge, rest))
+    })
 }
 
-fn read_nodes(alloc: Global, tokens: &[Token]) -> Result<(Vec<NodeTree>, &[Token]), ReadError>
-    ensures gives { Gives (λ x. (x.0.items, x.1.now)) result (spec.nodes tokens.now) }
-    ensures shorter { IfOk result (λ x. length x.1.now ≤ length tokens.now) }
+#[tactic(auto, unfolding(crate::specs::Grammar::nodes))]
+fn read_nodes<'t>(tokens: &mut Tokens<'_, 't>) -> Result<Vec<NodeTree<'t>>, ReadError>
+    ensures { ReadsAs (λ x. x.items) (reader_of spec.nodes tokens.old) result tokens.new }
 {
-    let mut found = Vec::new(alloc);
-    let mut rest = tokens;
-    'each: while begins(rest, OPEN) {
-        let (value, after) = read_node(alloc, rest)?;
-        found.push(value)?;
-        rest = after;
-    }
-    Ok((found, rest))
+    repeated_by(tokens, OPEN, read_node)
 }
 
-fn read_edges(alloc: Global, tokens: &[Token]) -> Result<(Vec<EdgeTree>, &[Token]), ReadError>
-    ensures gives { Gives (λ x. (x.0.items, x.1.now)) result (spec.edges tokens.now) }
-    ensures shorter { IfOk result (λ x. length x.1.now ≤ length tokens.now) }
+#[tactic(auto, unfolding(crate::specs::Grammar::edges))]
+fn read_edges<'t>(tokens: &mut Tokens<'_, 't>) -> Result<Vec<EdgeTree<'t>>, ReadError>
+    ensures { ReadsAs (λ x. x.items) (reader_of spec.edges tokens.old) result tokens.new }
 {
-    let mut found = Vec::new(alloc);
-    let mut rest = tokens;
-    'each: while begins(rest, OPEN) {
-        let (value, after) = read_edge(alloc, rest)?;
-        found.push(value)?;
-        rest = after;
-    }
-    Ok((found, rest))
+    repeated_by(tokens, OPEN, read_edge)
 }
 
 // {Node} "|" {Edge} "]"
-#[tactic(auto, unfolding(crate::specs::Reading::body))]
-fn read_body(alloc: Global, tokens: &[Token]) -> Result<(HostTree, &[Token]), ReadError>
-    ensures gives { Gives (λ x. ((x.0.nodes.items, x.0.edges.items), x.1.now)) result (spec.body tokens.now) }
-    ensures shorter { IfOk result (λ x. length x.1.now < length tokens.now) }
+#[tactic(auto, unfolding(crate::specs::Grammar::body))]
+fn read_body<'t>(tokens: &mut Tokens<'_, 't>) -> Result<HostTree<'t>, ReadError>
+    ensures { ReadsAs (λ x. (x.nodes.items, x.edges.items)) (reader_of spec.body tokens.old) result tokens.new }
 {
-    let (nodes, rest) = read_nodes(alloc, tokens)?;
-    let (_, rest) = token(rest, BAR)?;
-    let (edges, rest) = read_edges(alloc, rest)?;
-    let (_, rest) = token(rest, CLOSE_BRACKET)?;
-    Ok((HostTree { nodes, edges }, rest))
+    let nodes = read_nodes(tokens)?;
+    tokens.expect(BAR)?;
+    let edges = read_edges(tokens)?;
+    tokens.expect(CLOSE_BRACKET)?;
+    Ok(HostTree { nodes, edges })
 }
 
-// The tokens behind a bar that another one follows before the next closing bracket.
-fn behind_bar(tokens: &[Token]) -> &[Token]
-    ensures { result.now ≡ spec.behind_bar tokens.now }
+// Whether a bar comes next, and another one before the next closing bracket.
+fn has_two_bars(tokens: &[Token<'_>]) -> bool
+    ensures { result ≡ spec.two_bars tokens.now }
 {
     match tokens {
-        [first, rest @ ..] if BAR.is_met_by(first) && stands_before(rest, BAR, CLOSE_BRACKET) => {
-            rest
-        }
-        _ => tokens,
+        [first, rest @ ..] => BAR.is_met_by(first) && stands_before(rest, BAR, CLOSE_BRACKET),
+        [] => false,
     }
 }
 
-/// The tree of a host at the front of the tokens, and the tokens behind it.
-#[tactic(auto, unfolding(crate::specs::Reading::host))]
-pub(crate) fn read_host_tree(
-    alloc: Global,
-    tokens: &[Token],
-) -> Result<(HostTree, &[Token]), ReadError>
-    ensures gives { Gives (λ x. ((x.0.nodes.items, x.0.edges.items), x.1.now)) result (spec.host tokens.now) }
-    ensures shorter { IfOk result (λ x. length x.1.now < length tokens.now) }
+// ["|"] {Node} "|" {Edge} "]"
+#[tactic(auto, unfolding(crate::specs::Grammar::barred))]
+fn read_barred<'t>(tokens: &mut Tokens<'_, 't>) -> Result<HostTree<'t>, ReadError>
+    ensures { ReadsAs (λ x. (x.nodes.items, x.edges.items)) (reader_of spec.barred tokens.old) result tokens.new }
 {
-    let (_, rest) = token(tokens, Want::Kind(Kind::OpenBracket))?;
-    if begins(rest, LESS) {
-        let rest = pass_position(rest)?;
-        return read_body(alloc, behind_bar(rest));
+    if has_two_bars(tokens.left()) {
+        tokens.expect(BAR)?;
+        return read_body(tokens);
     }
-    read_body(alloc, rest)
+    read_body(tokens)
+}
+
+/// The tree of a host: "[" [Position ["|"]] {Node} "|" {Edge} "]".
+#[tactic(auto, unfolding(crate::specs::Grammar::host))]
+pub(crate) fn read_host_tree<'t>(tokens: &mut Tokens<'_, 't>) -> Result<HostTree<'t>, ReadError>
+    ensures { ReadsAs (λ x. (x.nodes.items, x.edges.items)) (reader_of spec.host tokens.old) result tokens.new }
+{
+    tokens.expect(Want::Kind(Kind::OpenBracket))?;
+    if tokens.begins(LESS) {
+        pass_position(tokens)?;
+        return read_barred(tokens);
+    }
+    read_body(tokens)
 }

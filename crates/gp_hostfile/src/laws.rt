@@ -1,10 +1,15 @@
 //! What holds of host texts and of the texts of graphs. Each function does nothing: its contract is the law.
 
 ghost use Rattle.gp_values.specs.Graph.{IsGraph};
-ghost use Rattle.gp_hostfile.specs.Laws.{HostTextsHaveOneGraph, HostTextsHaveNoFault, HostTextsHaveOneFault, GraphsHaveOneText, GraphTextsAreReadBack};
+ghost use Rattle.gp_hostfile.specs.Laws.{HostTextsHaveAnAnswer, HostTextsHaveOneGraph, HostTextsHaveNoFault, HostTextsHaveOneFault, GraphsHaveOneText, GraphTextsAreReadBack};
 ghost use Rattle.gp_hostfile.specs.Renumbered.{HasShortNumbers};
 
 use gp_graph::Graph;
+
+/// Each text is the text of a graph, or has a fault.
+pub fn host_texts_have_an_answer()
+    ensures { HostTextsHaveAnAnswer }
+{}
 
 /// A text is the text of at most one graph.
 pub fn host_texts_have_one_graph()

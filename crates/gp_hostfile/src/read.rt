@@ -2,14 +2,14 @@
 
 ghost use Rattle.std.specs.Prelude.{◌≤◌, length};
 ghost use Rattle.gp_hostfile.specs.Host.{ReadsHost};
-ghost use Rattle.gp_hostfile.specs.Drawn.{ReadsTree};
+ghost use Rattle.gp_hostfile.specs.inside.Stages.{ReadsTree, ReadsText};
 
+use crate::build::build;
 use crate::check::check;
-use crate::draw::draw;
 use crate::fault::HostFault;
 use crate::grammar::read_host_tree;
 use crate::tree::HostTree;
-use gp_grammar::ReadError;
+use gp_grammar::{ReadError, Tokens};
 use gp_graph::Graph;
 use gp_tokens::{Token, lex};
 use std::alloc::Global;
@@ -19,26 +19,34 @@ use std::alloc::Global;
 pub fn read_host(alloc: Global, text: &[u8]) -> Result<Graph, HostFault>
     ensures { ReadsHost text.now result }
 {
-    let tokens = lex(alloc, text)?;
-    let tree = read_tree(alloc, &tokens)?;
+    let tree = tree_of_text(alloc, text)?;
     let nodes = check(alloc, &tree)?;
-    draw(alloc, &tree, &nodes)
+    build(alloc, &tree, &nodes)
+}
+
+// The tree of a text. Its tokens are let go.
+fn tree_of_text(alloc: Global, text: &[u8]) -> Result<HostTree<'_>, HostFault>
+    ensures { ReadsText text.now result }
+{
+    let tokens = lex(alloc, text)?;
+    tree_of_tokens(alloc, &tokens)
 }
 
 // The tree of all tokens.
-fn read_tree(alloc: Global, tokens: &[Token]) -> Result<HostTree, HostFault>
+fn tree_of_tokens<'t>(alloc: Global, tokens: &[Token<'t>]) -> Result<HostTree<'t>, HostFault>
     ensures { ReadsTree tokens.now result }
 {
-    match read_host_tree(alloc, tokens) {
-        Ok((tree, [])) => Ok(tree),
-        Ok((_, rest)) => Err(HostFault::Syntax(place(tokens, rest.len() as u64))),
+    let mut cursor = Tokens::new(alloc, tokens);
+    match read_host_tree(&mut cursor) {
+        Ok(tree) if cursor.count() == 0 => Ok(tree),
+        Ok(_) => Err(HostFault::Syntax(place(tokens, cursor.count() as u64))),
         Err(ReadError::Syntax(left)) => Err(HostFault::Syntax(place(tokens, left))),
         Err(ReadError::NoMemory) => Err(HostFault::NoMemory),
     }
 }
 
 // The place of the first of so many tokens at the end.
-fn place(tokens: &[Token], left: u64) -> u64
+fn place(tokens: &[Token<'_>], left: u64) -> u64
     ensures { result ≤ length tokens.now }
 {
     (tokens.len() as u64).saturating_sub(left)

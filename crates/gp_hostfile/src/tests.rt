@@ -201,14 +201,6 @@ fn edges_go_by_ends_mark_and_label_text(rt: HostRuntime) -> Result<(), Fail> {
 }
 
 #[test]
-fn laws_hold() {
-    laws::host_texts_have_one_graph();
-    laws::host_texts_have_one_fault();
-    laws::graphs_have_one_text();
-    laws::graph_texts_are_read_back();
-}
-
-#[test]
 fn a_written_graph_is_read_back(rt: HostRuntime) -> Result<(), Fail> {
     let graph = pair(rt.alloc())?;
     laws::graphs_have_short_numbers(&graph);

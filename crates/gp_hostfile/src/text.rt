@@ -5,7 +5,7 @@ ghost use Rattle.std.specs.Fmt.{decimal};
 ghost use Rattle.gp_values.specs.Graph.{IsGraph, node_at, edge_at};
 ghost use Rattle.gp_values.specs.Order.{numbered, nodes_from, edges_from};
 ghost use Rattle.gp_hostfile.specs.GraphText.{IsGraphText, WritesGraph, BeginsGraph, root_text, node_mark_text, edge_mark_text, node_line};
-ghost use Rattle.gp_hostfile.specs.Lines.{line_key, line_keys, entry_keys, key_line, key_lines};
+ghost use Rattle.gp_hostfile.specs.inside.Lines.{line_key, line_keys, entry_keys, key_line, key_lines};
 
 use gp_graph::Graph;
 use gp_memory::NoMemory;

@@ -1,11 +1,12 @@
-//! Hosts as they are spelled.
+//! Hosts as they are spelled. Names and words are slices of the text.
 
-ghost use Rattle.std.specs.Prelude.{◌≡◌, [], ◌∷◌, ◌++◌, OnOk};
+ghost use Rattle.std.specs.Prelude.{◌≡◌, [], IfOk};
 
 use gp_grammar::Numeral;
 use gp_memory::NoMemory;
-use gp_tokens::Text;
+use gp_tokens::Slice;
 use gp_values::Chars;
+use smallvec::SmallVec;
 use std::alloc::Global;
 use std::marker::Model;
 
@@ -16,10 +17,21 @@ pub(crate) enum AtomTree {
     String(Chars),
 }
 
-/// The atoms of a label. Contracts see their list.
+// What fills the room of a list.
+impl Default for AtomTree {
+    fn default() -> AtomTree {
+        let numeral = Numeral {
+            negative: false,
+            value: 0,
+        };
+        AtomTree::Number(numeral, 0)
+    }
+}
+
+/// The atoms of a label. Contracts see their list. One atom takes no memory of its own.
 #[derive(Drop)]
 pub(crate) struct AtomTrees {
-    atoms: Vec<AtomTree>,
+    atoms: SmallVec<AtomTree, 1>,
 }
 
 impl Model for AtomTrees {
@@ -37,16 +49,19 @@ impl AtomTrees {
         ensures { result ≡ [] }
     {
         AtomTrees {
-            atoms: Vec::new(alloc),
+            atoms: SmallVec::new(alloc),
         }
     }
 
-    /// Puts an atom at the end.
-    pub(crate) fn push(&mut self, atom: AtomTree) -> Result<(), NoMemory>
-        ensures { OnOk result (self.new ≡ self.old ++ atom ∷ []) }
+    /// The list of these.
+    pub(crate) fn from_vec(alloc: Global, atoms: Vec<AtomTree>) -> Result<AtomTrees, NoMemory>
+        ensures { IfOk result (λ t. t ≡ atoms.items) }
     {
-        self.atoms.push(atom)?;
-        Ok(())
+        let mut held = SmallVec::new(alloc);
+        for atom in atoms {
+            held.push(atom)?;
+        }
+        Ok(AtomTrees { atoms: held })
     }
 
     /// The atoms, in order.
@@ -59,26 +74,26 @@ impl AtomTrees {
 
 /// A node: its name, whether it is a root, the atoms of its label, and its mark's word.
 #[derive(Drop)]
-pub(crate) struct NodeTree {
-    pub(crate) name: Text,
+pub(crate) struct NodeTree<'t> {
+    pub(crate) name: Slice<'t>,
     pub(crate) root: bool,
     pub(crate) label: AtomTrees,
-    pub(crate) mark: Option<Text>,
+    pub(crate) mark: Option<Slice<'t>>,
 }
 
 /// An edge: its name, those of its ends, the atoms of its label, and its mark's word.
 #[derive(Drop)]
-pub(crate) struct EdgeTree {
-    pub(crate) name: Text,
-    pub(crate) source: Text,
-    pub(crate) target: Text,
+pub(crate) struct EdgeTree<'t> {
+    pub(crate) name: Slice<'t>,
+    pub(crate) source: Slice<'t>,
+    pub(crate) target: Slice<'t>,
     pub(crate) label: AtomTrees,
-    pub(crate) mark: Option<Text>,
+    pub(crate) mark: Option<Slice<'t>>,
 }
 
 /// The nodes and the edges, in the order of the text.
 #[derive(Drop)]
-pub(crate) struct HostTree {
-    pub(crate) nodes: Vec<NodeTree>,
-    pub(crate) edges: Vec<EdgeTree>,
+pub(crate) struct HostTree<'t> {
+    pub(crate) nodes: Vec<NodeTree<'t>>,
+    pub(crate) edges: Vec<EdgeTree<'t>>,
 }

@@ -1,4 +1,4 @@
--- What files and sinks may tell, and what a read and a write may answer.
+-- What a read and a write may answer, by what is known of the files' content and of what was written.
 use Rattle.std.specs.Prelude.{◌≡◌, ◌⊎◌, ℕ, ◌+◌, ◌-◌, ◌^◌, ◌≤◌, ◌<◌, min, List, ◌++◌, length, take, Option, Some, None, IfSome, IsSomeAnd, Result, Ok, Err}
 use Rattle.std.specs.Option.{option_map}
 use Rattle.std.specs.Ordering.{nat_cmp}
@@ -22,25 +22,25 @@ raised count = min (count + 1) (2 ^ 64 - 1)
 abbrev pub Rose : ℕ → ℕ → Type 0
 Rose before now = raised before ≤ now
 
--- The file of that name has these bytes. Where no content is told, this says nothing.
+-- The file of that name has these bytes. Where the content is not known, this says nothing.
 abbrev pub HasFile : Option Content → List ℕ → List ℕ → Type 0
-HasFile told name bytes = IfSome told (λ files. map.get files name ≡ Some bytes)
+HasFile content name bytes = IfSome content (λ files. map.get files name ≡ Some bytes)
 
--- The content is told, and no file has that name. Where no content is told, this never holds.
+-- The content is known, and no file has that name. Where it is not known, this never holds.
 abbrev pub LacksFile : Option Content → List ℕ → Type 0
-LacksFile told name = IsSomeAnd told (λ files. map.get files name ≡ None)
+LacksFile content name = IsSomeAnd content (λ files. map.get files name ≡ None)
 
 -- What a read may answer, by the count of faults before it and now: all bytes of the file, within the
--- limit; that the file has more; a fault, or a name that the told content lacks; want of memory. The
--- count moves at a fault alone. Where no content is told, Ok says only that the limit is kept, TooLong
--- says only that no fault was counted, and Failed always has a fault that was counted.
+-- limit; that the file has more; a fault, or a name that the known content lacks; want of memory. The
+-- count moves at a fault alone. Where the content is not known, Ok says only that the limit is kept,
+-- TooLong says only that no fault was counted, and Failed always has a fault that was counted.
 abbrev pub ReadAnswers : Option Content → List ℕ → ℕ → ℕ → ℕ → Result (Vec ℕ Global) ReadRefusal → Type 0
-ReadAnswers told name limit before now (Ok v) = HasFile told name v.items × (length v.items ≤ limit) × (now ≡ before)
-ReadAnswers told name limit before now (Err refusal.TooLong) = (bytes : List ℕ) × HasFile told name bytes × (limit < length bytes) × (now ≡ before)
-ReadAnswers told name limit before now (Err refusal.Failed) = Rose before now ⊎ (LacksFile told name × (now ≡ before))
-ReadAnswers told name limit before now (Err refusal.NoMemory) = now ≡ before
+ReadAnswers content name limit before now (Ok v) = HasFile content name v.items × (length v.items ≤ limit) × (now ≡ before)
+ReadAnswers content name limit before now (Err refusal.TooLong) = (bytes : List ℕ) × HasFile content name bytes × (limit < length bytes) × (now ≡ before)
+ReadAnswers content name limit before now (Err refusal.Failed) = Rose before now ⊎ (LacksFile content name × (now ≡ before))
+ReadAnswers content name limit before now (Err refusal.NoMemory) = now ≡ before
 
--- Bytes went out behind what was written before. Where nothing was told, nothing is told.
+-- Bytes went out behind what was written before. Where that is not known, this says nothing.
 abbrev pub Gains : Option (List ℕ) → Option (List ℕ) → List ℕ → Type 0
 Gains old new bytes = new ≡ option_map (λ written. written ++ bytes) old
 

@@ -1,11 +1,12 @@
-//! The files of the system. They tell no content.
+//! The files of the system. Contracts know nothing of their content.
 
-ghost use Rattle.std.specs.Prelude.{◌≡◌, ◌≤◌, ◌<◌, None, IfOk, IsErrOf, IfSome, length, vec_len};
+ghost use Rattle.std.specs.Prelude.{◌≡◌, ◌≢◌, ◌≤◌, ◌<◌, None, IfOk, IsErrOf, IfSome, length, vec_len};
+ghost use Rattle.std.specs.IoError.{error_kind};
 
 use crate::outside::{Files, ReadRefusal};
 use std::alloc::{AllocError, Global};
 use std::fs::File;
-use std::io::Read;
+use std::io::{self, ErrorKind, Read};
 use std::marker::Model;
 use std::rt;
 
@@ -13,7 +14,8 @@ use std::rt;
 const CHUNK: usize = 65536;
 
 /// The files of the system, by their paths. Each read opens the file anew. A path that can't be opened, a
-/// folder and a read that fails count a fault. Contracts see the count of the faults.
+/// folder and a read that fails count a fault, unless the system says that it had no memory for it. Contracts
+/// see the count of the faults.
 #[derive(Drop)]
 pub struct DiskFiles<R: rt::Files> {
     rt: R,
@@ -51,8 +53,23 @@ fn chunk_of(alloc: Global) -> Result<Vec<u8>, AllocError>
     vec![in alloc; 0u8; CHUNK]
 }
 
+// What an open or a read that failed comes to.
+fn refusal_of(error: io::Error) -> ReadRefusal
+    ensures memory { error_kind error ≡ ErrorKind.OutOfMemory → result ≡ ReadRefusal.NoMemory }
+    ensures other { error_kind error ≢ ErrorKind.OutOfMemory → result ≡ ReadRefusal.Failed }
+{
+    match error.kind() {
+        ErrorKind::OutOfMemory => ReadRefusal::NoMemory,
+        _ => ReadRefusal::Failed,
+    }
+}
+
 // The bytes that a reader has left, where these are at most `limit`. No more than these are kept.
-fn read_all<R: Read>(alloc: Global, reader: &mut R, limit: u64) -> Result<Vec<u8>, ReadRefusal>
+pub(crate) fn read_all<R: Read>(
+    alloc: Global,
+    reader: &mut R,
+    limit: u64,
+) -> Result<Vec<u8>, ReadRefusal>
     ensures within { IfOk result (λ bytes. length bytes.items ≤ limit) }
     ensures bytes { IfOk result (λ bytes. IfSome (R.remaining reader.old) (λ left. bytes.items ≡ left)) }
     ensures longer { IsErrOf result ReadRefusal.TooLong →
@@ -60,9 +77,9 @@ fn read_all<R: Read>(alloc: Global, reader: &mut R, limit: u64) -> Result<Vec<u8
 {
     let mut chunk = chunk_of(alloc)?;
     let mut bytes = Vec::new(alloc);
-    loop {
+    'each: loop {
         match reader.read(&mut chunk) {
-            Err(_) => return Err(ReadRefusal::Failed),
+            Err(error) => return Err(refusal_of(error)),
             Ok(0) => return Ok(bytes),
             Ok(count) => {
                 if count as u64 > limit - bytes.len() as u64 {
@@ -85,7 +102,7 @@ fn read_file<R: rt::Files>(
 {
     match File::open(rt, name) {
         Ok(mut file) => read_all(alloc, &mut file, limit),
-        Err(_) => Err(ReadRefusal::Failed),
+        Err(error) => Err(refusal_of(error)),
     }
 }
 

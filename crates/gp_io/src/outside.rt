@@ -31,14 +31,14 @@ pub struct Failed;
 
 /// Files that are read whole, by their names.
 pub trait Files {
-    /// The bytes of the files by their names, where that is told. No call changes it.
+    /// The bytes of the files by their names, where these are known. No call changes them.
     ghost content: { Self → Option Content };
 
     /// How often a read failed. It never falls.
     ghost faults: { Self → ℕ };
 
     /// All bytes of the file of that name, where these are at most `limit`. `TooLong` comes where the
-    /// file has more, and `Failed` where the count of faults rose or the told content lacks the name.
+    /// file has more, and `Failed` where the count of faults rose or the known content lacks the name.
     fn read(&mut self, alloc: Global, name: &str, limit: u64) -> Result<Vec<u8>, ReadRefusal>
         ensures answer { ReadAnswers (content self.old) name.now limit
             (faults self.old) (faults self.new) result }
@@ -48,7 +48,7 @@ pub trait Files {
 
 /// What takes bytes, piece by piece.
 pub trait Sink {
-    /// The bytes that were written, where that is told.
+    /// The bytes that were written, where these are known.
     ghost written: { Self → Option (List ℕ) };
 
     /// How often a write failed. It never falls.

@@ -1,4 +1,4 @@
-//! The standard streams. They tell nothing of what was written.
+//! The standard streams. Contracts know nothing of what was written to them.
 
 ghost use Rattle.std.specs.Prelude.{◌≡◌, ◌≤◌, None};
 ghost use Rattle.gp_io.specs.Outside.{WriteAnswers};
@@ -69,7 +69,7 @@ impl<W: Write> Sink for StdSink<W> {
         ensures answer { WriteAnswers None None self.old.faults self.new.faults piece.now result }
         ensures later { self.old.faults ≤ self.new.faults }
 
-        // A stream that tells its bytes gains the whole piece, or a prefix of it.
+        // A stream whose bytes are known gains the whole piece, or a prefix of it.
         ensures stream { Takes (W.contents self.old.stream) (W.contents self.new.stream) piece.now result }
     {
         let answer = write_whole(&mut self.stream, piece);

@@ -1,7 +1,8 @@
 //! What the outside gives, in memory and for real.
 
+use crate::disk_files::read_all;
 use crate::{DiskFiles, Failed, Files, MemFiles, MemSink, ReadRefusal, Sink, StdSink};
-use std::io::{self, Write};
+use std::io::{self, ErrorKind, Read, Write};
 use std::test::Fail;
 
 #[test]
@@ -75,6 +76,38 @@ fn files_of_the_system_are_read_whole_within_the_limit(rt: HostRuntime) -> Resul
     );
     assert_eq!(rt; files.read(alloc, "/proc", 9), Err(ReadRefusal::Failed));
     assert_eq!(rt; files.faults(), 2);
+    Ok(())
+}
+
+// A stream that gives two bytes at its first read, and fails at the second.
+#[derive(Drop)]
+struct Breaking {
+    kind: ErrorKind,
+    reads: u8,
+}
+
+impl Read for Breaking {
+    fn read(&mut self, buf: &mut [u8]) -> io::Result<usize> {
+        self.reads = self.reads.saturating_add(1);
+        if self.reads > 1 {
+            return Err(io::Error::from(self.kind));
+        }
+        Ok(buf.len().min(2))
+    }
+}
+
+#[test]
+fn a_read_that_fails_midway_is_a_fault_or_want_of_memory(rt: HostRuntime) -> Result<(), Fail> {
+    let rows = [
+        (ErrorKind::BrokenPipe, ReadRefusal::Failed),
+        (ErrorKind::PermissionDenied, ReadRefusal::Failed),
+        (ErrorKind::OutOfMemory, ReadRefusal::NoMemory),
+    ];
+    for (kind, refusal) in rows {
+        let mut stream = Breaking { kind, reads: 0 };
+        assert_eq!(rt; read_all(rt.alloc(), &mut stream, 9), Err(refusal));
+        assert_eq!(rt; stream.reads, 2);
+    }
     Ok(())
 }
 

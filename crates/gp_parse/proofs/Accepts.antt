@@ -6,11 +6,12 @@ use Rattle.std.proofs.lemmas.List.{length-map}
 use Rattle.std.proofs.lemmas.Simd.{map-map}
 use Rattle.std.proofs.lemmas.Bool.{leb-true, le-leb}
 use Rattle.gp_values.specs.Names.{Name, first_doubled, first_unknown}
-use Rattle.gp_grammar.specs.declared.graph.Numeral.{Numeral}
-use Rattle.gp_grammar.specs.declared.graph.NodeTree.{NodeTree}
-use Rattle.gp_grammar.specs.declared.graph.EdgeTree.{EdgeTree}
-use Rattle.gp_grammar.specs.Graph.{Drawing}
-use Rattle.gp_grammar.specs.Labels.{has_labels, integer_of, node_names, edge_names}
+use Rattle.gp_grammar.specs.declared.numeral.Numeral.{Numeral}
+use Rattle.gp_parse.specs.declared.graph.NodeTree.{NodeTree}
+use Rattle.gp_parse.specs.declared.graph.EdgeTree.{EdgeTree}
+use Rattle.gp_parse.specs.Graph.{Drawing}
+use Rattle.gp_parse.specs.Labels.{has_labels, node_names, edge_names}
+use Rattle.gp_grammar.specs.Numerals.{integer_of}
 use Rattle.gp_syntax.specs.Expression.{Expression}
 use Rattle.gp_syntax.specs.Declaration.{Declaration, DeclaredNode, DeclaredEdge, Side, IsSmall, NamesOnce, KnowsNodes, HasInterface, IsWellNamed, nodes_in, labels}
 use Rattle.gp_syntax.specs.Declaration as declared

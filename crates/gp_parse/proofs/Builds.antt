@@ -5,10 +5,11 @@ use Rattle.std.specs.List.{list_all}
 use Rattle.std.specs.Option.{option_map}
 use Rattle.gp_values.specs.declared.atom.Atom.{Atom}
 use Rattle.gp_values.specs.Names.{Name, same_name, has_name, place_of}
-use Rattle.gp_grammar.specs.declared.graph.Numeral.{Numeral}
-use Rattle.gp_grammar.specs.declared.graph.NodeTree.{NodeTree}
-use Rattle.gp_grammar.specs.declared.graph.EdgeTree.{EdgeTree}
-use Rattle.gp_grammar.specs.Labels.{integer_of, label_of, node_names, edge_names}
+use Rattle.gp_grammar.specs.declared.numeral.Numeral.{Numeral}
+use Rattle.gp_parse.specs.declared.graph.NodeTree.{NodeTree}
+use Rattle.gp_parse.specs.declared.graph.EdgeTree.{EdgeTree}
+use Rattle.gp_parse.specs.Labels.{label_of, node_names, edge_names}
+use Rattle.gp_grammar.specs.Numerals.{integer_of}
 use Rattle.gp_syntax.specs.declared.plain.PlainLeftNode.{PlainLeftNode}
 use Rattle.gp_syntax.specs.declared.plain.PlainRightNode.{PlainRightNode}
 use Rattle.gp_syntax.specs.Declaration as declared

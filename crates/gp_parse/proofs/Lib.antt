@@ -1,5 +1,5 @@
-pub mod Items
 pub mod Laws
 pub mod Accepts
 pub mod Builds
 pub mod Programs
+pub mod Depths

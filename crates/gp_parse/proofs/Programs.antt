@@ -1,7 +1,6 @@
 -- What the text of a program is, by what was read of it.
 use Rattle.std.proofs.Common.{◌≡◌, ◌≢◌, ℕ, Bool, true, false, List, [], ◌∷◌, map, length, slice_get, Some, None, Ok, Err, refl, sym, ap, subst, ◌∙◌}
-use Rattle.std.specs.Prelude.{◌==◌}
-use Rattle.std.proofs.Math.Dec.{eqb-suc-zero}
+use Rattle.std.specs.Prelude.{Option, Result}
 use Rattle.std.proofs.lemmas.List.{length-map}
 use Rattle.std.proofs.lemmas.Option.{slice_get-map}
 use Rattle.gp_tokens.specs.declared.token.Token.{Token}
@@ -16,10 +15,12 @@ use Rattle.gp_syntax.specs.Plain.{left_edge_of, right_node_of, right_edge_of, pl
 use Rattle.gp_syntax.proofs.Declarations.{from_map, fits_declaration}
 use Rattle.gp_parse.specs.declared.program.ProgramRefusal.{ProgramRefusal}
 use Rattle.gp_parse.specs.declared.program.ProgramRefusal.TheVariants as refusals
-use Rattle.gp_parse.specs.Grammar.{ProgramDrawing, IsProgramDrawing}
-use Rattle.gp_parse.specs.Reading.{program}
+use Rattle.gp_parse.specs.Grammar.{ProgramDrawing, IsProgramDrawing, program}
+use Rattle.gp_grammar.specs.inside.Reading.{reader_of}
 use Rattle.gp_parse.specs.Keeps.{HasOrigin, KeepsOrigins}
-use Rattle.gp_parse.specs.Program.{declaration_of, IsProgramText, IsReadProgram, IsDrawnBy, IsBuilt, ReadsProgram, ReadsDrawing}
+use Rattle.gp_parse.specs.Program.{declaration_of, IsProgramText, IsReadProgram, IsDrawnBy, IsBuilt, ReadsProgram, ReadsDrawing, ReadsTokens, all_read}
+use Rattle.gp_parse.specs.Seen.{program_seen}
+use Rattle.gp_parse.specs.declared.reading.ProgramTree.{ProgramTree}
 use Rattle.gp_parse.specs.Accepted.{is_accepted}
 use Rattle.gp_parse.proofs.Laws.{program_sound, program_again}
 use Rattle.gp_parse.proofs.Accepts.{accepted, accepts}
@@ -38,30 +39,22 @@ Read = ProgramDrawing × List Token
 same_tree : (a b : Read) → Some a ≡ Some b → a.0 ≡ b.0
 same_tree a b e = ap (λ (x : Read). x.0) (same_some a b e)
 
-same_rest : (a b : Read) → Some a ≡ Some b → a.1 ≡ b.1
-same_rest a b e = ap (λ (x : Read). x.1) (same_some a b e)
-
--- what the test of an empty rest says
-pub nothing_left : (b : Bool) (rest : List Token) → b ≡ (length rest == 0) → b ≡ true → rest ≡ []
-nothing_left b [] e h = refl
-nothing_left b (t ∷ ts) e h = absurd (let k = rw eqb-suc-zero at e in cc)
-
-pub something_left : (b : Bool) (rest : List Token) → b ≡ (length rest == 0) → b ≡ false → rest ≢ []
-something_left b [] e h n = absurd cc
-something_left b (t ∷ ts) e h n = absurd cc
-
 -- what the tokens are read as is what the text is drawn by
-read_again : (bytes : List ℕ) (tokens : List Token) (p : ProgramDrawing) → tokens_of bytes ≡ Ok tokens → IsDrawnBy bytes p → program tokens ≡ Some (p, [])
-read_again bytes tokens p e d = subst (λ (ts : List Token). program ts ≡ Some (p, [])) (same_tokens bytes d.tokens tokens d.lexed e) (program_again d.tokens [] p d.shape tt)
+read_again : (bytes : List ℕ) (tokens : List Token) (p : ProgramDrawing) → tokens_of bytes ≡ Ok tokens → IsDrawnBy bytes p → reader_of program tokens ≡ Some (p, [])
+read_again bytes tokens p e d = subst (λ (ts : List Token). reader_of program ts ≡ Some (p, [])) (same_tokens bytes d.tokens tokens d.lexed e) (program_again d.tokens [] p d.shape tt)
 
-pub drawn : (bytes : List ℕ) (tokens rest : List Token) (p : ProgramDrawing) → tokens_of bytes ≡ Ok tokens → program tokens ≡ Some (p, rest) → rest ≡ [] → IsDrawnBy bytes p
+pub drawn : (bytes : List ℕ) (tokens rest : List Token) (p : ProgramDrawing) → tokens_of bytes ≡ Ok tokens → reader_of program tokens ≡ Some (p, rest) → rest ≡ [] → IsDrawnBy bytes p
 drawn bytes tokens rest p e h n = record { tokens = tokens; lexed = e; shape = subst (λ (ts : List Token). IsProgramDrawing tokens ts p) n (program_sound tokens (p, rest) h) }
 
-pub left_over : (bytes : List ℕ) (tokens rest : List Token) (p q : ProgramDrawing) → tokens_of bytes ≡ Ok tokens → program tokens ≡ Some (p, rest) → rest ≢ [] → IsDrawnBy bytes q → ⊥
-left_over bytes tokens rest p q e h n d = n (same_rest (p, rest) (q, []) (sym h ∙ read_again bytes tokens q e d))
+read_all : (x : Option Read) (p : ProgramDrawing) → all_read x ≡ Some p → x ≡ Some (p, [])
+read_all None p h = absurd cc
+read_all (Some (q, [])) p h = ap (λ (y : ProgramDrawing). Some (y, [])) (same_some q p h)
+read_all (Some (q, u ∷ us)) p h = absurd cc
 
-pub unread : (bytes : List ℕ) (tokens : List Token) (q : ProgramDrawing) → tokens_of bytes ≡ Ok tokens → program tokens ≡ None → IsDrawnBy bytes q → ⊥
-unread bytes tokens q e h d = let k = read_again bytes tokens q e d in absurd cc
+pub drawing_read : (bytes : List ℕ) (tokens : List Token) → tokens_of bytes ≡ Ok tokens → (r : Result ProgramTree ProgramRefusal) → ReadsTokens tokens r → ReadsDrawing bytes r
+drawing_read bytes tokens e (Ok t) h = drawn bytes tokens [] (program_seen t) e (read_all (reader_of program tokens) (program_seen t) h) refl
+drawing_read bytes tokens e (Err refusals.NotYet) h = λ q d. let k : all_read (reader_of program tokens) ≡ Some q = ap all_read (read_again bytes tokens q e d) in cc
+drawing_read bytes tokens e (Err refusals.NoMemory) h = tt
 
 pub no_tokens : (bytes : List ℕ) (fault : LexFault) (q : ProgramDrawing) → tokens_of bytes ≡ Err fault → IsDrawnBy bytes q → ⊥
 no_tokens bytes fault q e d = let k = d.lexed in absurd cc

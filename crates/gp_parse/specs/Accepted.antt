@@ -2,8 +2,8 @@
 use Rattle.std.specs.Prelude.{Bool, ◌&&◌, nat_le, nat_eq, length, is_none, codes}
 use Rattle.std.specs.Cmp.Lexicographic.{pointwise}
 use Rattle.gp_values.specs.Names.{first_doubled, first_unknown}
-use Rattle.gp_grammar.specs.Graph.{Drawing}
-use Rattle.gp_grammar.specs.Labels.{has_labels, node_names, edge_names}
+use Rattle.gp_parse.specs.Graph.{Drawing}
+use Rattle.gp_parse.specs.Labels.{has_labels, node_names, edge_names}
 use Rattle.gp_parse.specs.Ends.{end_names}
 use Rattle.gp_parse.specs.Grammar.{RuleDrawing, ProgramDrawing}
 

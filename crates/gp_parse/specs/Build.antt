@@ -1,9 +1,9 @@
 -- The rule of a drawing, part by part.
 use Rattle.std.specs.Prelude.{ℕ, Bool, false, if◌then◌else◌, List, [], ◌∷◌, Option, Some, None}
 use Rattle.gp_values.specs.Names.{Name, same_name, has_name, place_of}
-use Rattle.gp_grammar.specs.declared.graph.NodeTree.{NodeTree}
-use Rattle.gp_grammar.specs.declared.graph.EdgeTree.{EdgeTree}
-use Rattle.gp_grammar.specs.Labels.{node_names}
+use Rattle.gp_parse.specs.declared.graph.NodeTree.{NodeTree}
+use Rattle.gp_parse.specs.declared.graph.EdgeTree.{EdgeTree}
+use Rattle.gp_parse.specs.Labels.{node_names}
 use Rattle.gp_syntax.specs.Declaration.{rule_of}
 use Rattle.gp_syntax.specs.Declaration as declared
 use Rattle.gp_syntax.specs.Rule.{LeftNode, LeftEdge, RightNode, RightEdge}

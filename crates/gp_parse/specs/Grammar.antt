@@ -1,34 +1,28 @@
 -- The grammar of programs that call one rule without variables, once or in a loop.
-use Rattle.std.specs.Prelude.{List, [], map}
+use Rattle.std.specs.Prelude.{List, []}
 use Rattle.gp_values.specs.Names.{Name}
 use Rattle.gp_tokens.specs.declared.keyword.Keyword.TheVariants as keywords
-use Rattle.gp_tokens.specs.declared.token.Kind.TheVariants as kinds
 use Rattle.gp_tokens.specs.declared.token.Token.{Token}
-use Rattle.gp_grammar.specs.declared.want.Want.{Want}
 use Rattle.gp_grammar.specs.declared.want.Want.TheVariants as wants
-use Rattle.gp_grammar.specs.Shape.{Shape, Is, ◌then◌, Made, Either, Absent, Separated}
-use Rattle.gp_grammar.specs.Graph.{Drawing, IsDrawing, comma}
+use Rattle.gp_grammar.specs.Grammar.{Grammar, One, Made, At, Absent, Separated, ◌followed_by◌, shape_of}
+use Rattle.gp_grammar.specs.Shape.{Shape}
+use Rattle.gp_grammar.specs.Signs.{open_sign, close_sign, open_brace, close_brace, comma, equal, arrow, exclamation}
+use Rattle.gp_parse.specs.Graph.{Drawing, drawing}
 use Rattle.gp_syntax.specs.declared.plain.PlainMain.{PlainMain}
 use Rattle.gp_syntax.specs.declared.plain.PlainMain.TheVariants as mains
 
-abbrev pub open_brace : Want
-open_brace = wants.Kind kinds.OpenBrace
+abbrev pub text_of : Token → Name
+text_of t = t.text
 
-abbrev pub close_brace : Want
-close_brace = wants.Kind kinds.CloseBrace
+unfoldable pub item : Grammar Name
+item = Made text_of (One wants.Item)
 
-abbrev pub equal : Want
-equal = wants.Kind kinds.Equal
-
-abbrev pub exclamation : Want
-exclamation = wants.Kind kinds.Exclamation
-
-abbrev pub texts : List Token → List Name
-texts ts = map (λ (t : Token). t.text) ts
+unfoldable pub items : Grammar (List Name)
+items = Separated comma item
 
 -- [Item {"," Item}]
-abbrev pub IsInterface : Shape (List Name)
-IsInterface = Either (Made texts (Separated comma (Is wants.Item))) (Absent [])
+unfoldable pub interface : Grammar (List Name)
+interface = At wants.Item items (Absent [])
 
 -- a rule as it is drawn: its name, its two sides, and the names of its interface
 pub record RuleDrawing : Type 0 where
@@ -41,14 +35,14 @@ abbrev pub rule_drawing : Token × (Token × (Token × (Drawing × (Token × (Dr
 rule_drawing (name, (_, (_, (left, (_, (right, (_, (_, (_, (interface, _)))))))))) = record { name = name.text; left = left; right = right; interface = interface }
 
 -- RuleDecl = RuleName "(" ")" Graph "=>" Graph "interface" "=" "{" [Item {"," Item}] "}"
-abbrev pub IsRuleDrawing : Shape RuleDrawing
-IsRuleDrawing =
-    Made rule_drawing (Is wants.RuleName then Is (wants.Kind kinds.OpenParenthesis) then Is (wants.Kind kinds.CloseParenthesis) then IsDrawing
-    then Is (wants.Kind kinds.Arrow) then IsDrawing then Is (wants.Keyword keywords.Interface) then Is equal then Is open_brace then IsInterface then Is close_brace)
+unfoldable pub rule : Grammar RuleDrawing
+rule =
+    Made rule_drawing (One wants.RuleName followed_by One open_sign followed_by One close_sign followed_by drawing followed_by One arrow followed_by drawing
+    followed_by One (wants.Keyword keywords.Interface) followed_by One equal followed_by One open_brace followed_by interface followed_by One close_brace)
 
 -- ["!"], a loop where it stands
-abbrev pub IsMain : Shape PlainMain
-IsMain = Either (Made (λ _. mains.Loop) (Is exclamation)) (Absent mains.Call)
+unfoldable pub main : Grammar PlainMain
+main = At exclamation (Made (λ _. mains.Loop) (One exclamation)) (Absent mains.Call)
 
 -- the name of the procedure, the name that it calls, whether in a loop, and the rule
 pub record ProgramDrawing : Type 0 where
@@ -61,5 +55,8 @@ abbrev pub program_drawing : Token × (Token × (Token × (PlainMain × RuleDraw
 program_drawing (name, (_, (call, (main, rule)))) = record { name = name.text; call = call.text; main = main; rule = rule }
 
 -- Program = ProcName "=" RuleName ["!"] RuleDecl
+unfoldable pub program : Grammar ProgramDrawing
+program = Made program_drawing (One wants.ProcedureName followed_by One equal followed_by One wants.RuleName followed_by main followed_by rule)
+
 abbrev pub IsProgramDrawing : Shape ProgramDrawing
-IsProgramDrawing = Made program_drawing (Is wants.ProcedureName then Is equal then Is wants.RuleName then IsMain then IsRuleDrawing)
+IsProgramDrawing = shape_of program

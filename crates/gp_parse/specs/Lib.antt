@@ -1,8 +1,11 @@
+pub mod Depth
+pub mod Graph
+pub mod Labels
 pub mod Grammar
-pub mod Reading
 pub mod Seen
-pub mod Program
 pub mod Ends
 pub mod Accepted
 pub mod Build
 pub mod Keeps
+pub mod Program
+pub mod inside

@@ -1,13 +1,14 @@
 -- The program texts that are accepted today, and the programs that they are.
-use Rattle.std.specs.Prelude.{◌≡◌, ℕ, ℤ, true, false, List, [], map, codes, Option, Some, None, Result, Ok, Err}
+use Rattle.std.specs.Prelude.{◌≡◌, ℕ, ℤ, true, false, List, [], ◌∷◌, map, codes, Option, Some, None, Result, Ok, Err}
 use Rattle.gp_values.specs.Names.{Name}
 use Rattle.gp_tokens.specs.declared.token.Token.{Token}
 use Rattle.gp_tokens.specs.Lexed.{tokens_of}
-use Rattle.gp_grammar.specs.declared.graph.Numeral.{Numeral}
-use Rattle.gp_grammar.specs.declared.graph.NodeTree.{NodeTree}
-use Rattle.gp_grammar.specs.declared.graph.EdgeTree.{EdgeTree}
-use Rattle.gp_grammar.specs.Graph.{Drawing}
-use Rattle.gp_grammar.specs.Labels.{integer_of, has_labels}
+use Rattle.gp_grammar.specs.declared.numeral.Numeral.{Numeral}
+use Rattle.gp_parse.specs.declared.graph.NodeTree.{NodeTree}
+use Rattle.gp_parse.specs.declared.graph.EdgeTree.{EdgeTree}
+use Rattle.gp_parse.specs.Graph.{Drawing}
+use Rattle.gp_parse.specs.Labels.{has_labels}
+use Rattle.gp_grammar.specs.Numerals.{integer_of}
 use Rattle.gp_syntax.specs.declared.plain.PlainRule.{PlainRule}
 use Rattle.gp_syntax.specs.declared.plain.PlainProgram.{PlainProgram}
 use Rattle.gp_syntax.specs.Expression.{Expression, Number, Empty, Holds}
@@ -18,7 +19,8 @@ use Rattle.gp_parse.specs.declared.program.ProgramRefusal.{ProgramRefusal}
 use Rattle.gp_parse.specs.declared.program.ProgramRefusal.TheVariants as refusals
 use Rattle.gp_memory.specs.declared.refusal.NoMemory.{NoMemory}
 use Rattle.gp_parse.specs.declared.reading.ProgramTree.{ProgramTree}
-use Rattle.gp_parse.specs.Grammar.{RuleDrawing, ProgramDrawing, IsProgramDrawing}
+use Rattle.gp_parse.specs.Grammar.{RuleDrawing, ProgramDrawing, program, IsProgramDrawing}
+use Rattle.gp_grammar.specs.inside.Reading.{reader_of}
 use Rattle.gp_parse.specs.Seen.{program_seen}
 use Rattle.gp_parse.specs.Keeps.{KeepsOrigins}
 use Rattle.gp_memory.specs.Free.{Free}
@@ -86,6 +88,17 @@ abbrev pub ReadsDrawing : List ℕ → Result ProgramTree ProgramRefusal → Typ
 ReadsDrawing bytes (Ok t) = IsDrawnBy bytes (program_seen t)
 ReadsDrawing bytes (Err refusals.NotYet) = (p : ProgramDrawing) → IsDrawnBy bytes p → ⊥
 ReadsDrawing bytes (Err refusals.NoMemory) = Free
+
+-- what was read, where nothing is left behind it
+abbrev pub all_read : Option (ProgramDrawing × List Token) → Option ProgramDrawing
+all_read (Some (t, [])) = Some t
+all_read (Some (t, u ∷ us)) = None
+all_read None = None
+
+abbrev pub ReadsTokens : List Token → Result ProgramTree ProgramRefusal → Type 0
+ReadsTokens tokens (Ok t) = all_read (reader_of program tokens) ≡ Some (program_seen t)
+ReadsTokens tokens (Err refusals.NotYet) = all_read (reader_of program tokens) ≡ None
+ReadsTokens tokens (Err refusals.NoMemory) = Free
 
 -- the rule is that of the drawing
 pub record IsBuilt (d : RuleDrawing) (r : PlainRule) : Type 0 where

@@ -1,6 +1,6 @@
 -- The trees of the code, as what they are of the text.
-use Rattle.gp_grammar.specs.declared.graph.GraphTree.{GraphTree}
-use Rattle.gp_grammar.specs.Graph.{Drawing}
+use Rattle.gp_parse.specs.declared.graph.GraphTree.{GraphTree}
+use Rattle.gp_parse.specs.Graph.{Drawing}
 use Rattle.gp_parse.specs.declared.reading.RuleTree.{RuleTree}
 use Rattle.gp_parse.specs.declared.reading.ProgramTree.{ProgramTree}
 use Rattle.gp_parse.specs.Grammar.{RuleDrawing, ProgramDrawing}

@@ -2,15 +2,16 @@
 
 ghost use Rattle.std.specs.Prelude.{◌≡◌, map, is_none, is_some};
 ghost use Rattle.std.specs.List.{list_all};
-ghost use Rattle.gp_grammar.specs.Labels.{label_of, has_labels, node_names, edge_names};
+ghost use Rattle.gp_parse.specs.Labels.{label_of, has_labels, node_names, edge_names};
 ghost use Rattle.gp_values.specs.Names.{first_doubled, first_unknown};
 ghost use Rattle.gp_parse.specs.Ends.{end_names};
 ghost use Rattle.gp_parse.specs.Accepted as spec;
 ghost use Rattle.gp_parse.specs.Seen.{graph_seen, rule_seen, program_seen};
 
+use crate::graph::{EdgeTree, GraphTree, NodeTree};
 use crate::names::{are_known, ends_are_known, have_names_once};
 use crate::reading::{ProgramTree, RuleTree};
-use gp_grammar::{EdgeTree, GraphTree, NodeTree, Numeral};
+use gp_grammar::Numeral;
 
 /// The greatest numbers of nodes and of edges of a side.
 const MOST_NODES: usize = 32;

@@ -3,7 +3,7 @@
 ghost use Rattle.std.specs.Prelude.{◌≡◌, ◌↔◌, IsTrue, IfOk, true, Some, map, is_some};
 ghost use Rattle.std.specs.Option.{option_copied};
 ghost use Rattle.std.specs.List.{list_all};
-ghost use Rattle.gp_grammar.specs.Labels.{label_of};
+ghost use Rattle.gp_parse.specs.Labels.{label_of};
 ghost use Rattle.gp_syntax.specs.Plain.{left_node_of, left_edge_of, right_node_of, right_edge_of};
 ghost use Rattle.gp_values.specs.Names.{same_name};
 ghost use Rattle.gp_syntax.specs.Declaration.{place_in};
@@ -11,9 +11,10 @@ ghost use Rattle.gp_parse.specs.Build as spec;
 ghost use Rattle.gp_parse.specs.Keeps.{HasOrigin, KeepsOrigins};
 ghost use Rattle.gp_parse.specs.Seen.{rule_seen};
 
+use crate::graph::{EdgeTree, NodeTree, label_list};
 use crate::names::{has_name, place_of};
 use crate::reading::RuleTree;
-use gp_grammar::{EdgeTree, NodeTree, Numeral, label_list};
+use gp_grammar::Numeral;
 use gp_memory::NoMemory;
 use gp_syntax::{PlainLeftEdge, PlainLeftNode, PlainRightEdge, PlainRightNode};
 use gp_tokens::Text;

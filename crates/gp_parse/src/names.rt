@@ -4,7 +4,7 @@ ghost use Rattle.std.specs.Prelude.{◌≡◌, ℕ, List, map, is_none};
 ghost use Rattle.gp_values.specs.Names.{has_name, place_of, first_doubled, first_unknown};
 ghost use Rattle.gp_parse.specs.Ends.{end_names};
 
-use gp_grammar::{EdgeTree, NodeTree};
+use crate::graph::{EdgeTree, NodeTree};
 use gp_tokens::Text;
 
 /// What has a name.

@@ -1,17 +1,17 @@
 //! Program texts.
 
 ghost use Rattle.std.specs.Prelude.{◌≡◌, true};
-ghost use Rattle.gp_parse.specs.Program.{ReadsProgram, ReadsDrawing, BuildsRule, IsAccepted};
+ghost use Rattle.gp_parse.specs.Program.{ReadsProgram, ReadsDrawing, ReadsTokens, BuildsRule, IsAccepted};
 ghost use Rattle.gp_parse.specs.Accepted as spec;
 ghost use Rattle.gp_parse.specs.Seen.{rule_seen, program_seen};
 
 use crate::accept::is_accepted;
 use crate::build::{left_edges, left_nodes, right_edges, right_nodes};
 use crate::reading::{ProgramTree, RuleTree, read_tree};
-use gp_grammar::ReadError;
+use gp_grammar::{ReadError, Tokens};
 use gp_memory::NoMemory;
 use gp_syntax::{PlainProgram, PlainRule};
-use gp_tokens::{LexFault, lex};
+use gp_tokens::{LexFault, Token, lex};
 use std::alloc::Global;
 
 /// Why a text is not run as a program.
@@ -32,8 +32,16 @@ fn read_drawing(alloc: Global, text: &[u8]) -> Result<ProgramTree, ProgramRefusa
         Err(LexFault::NoMemory) => return Err(ProgramRefusal::NoMemory),
         Err(_) => return Err(ProgramRefusal::NotYet),
     };
-    match read_tree(alloc, &tokens) {
-        Ok((tree, rest)) if rest.is_empty() => Ok(tree),
+    tree_of_tokens(alloc, &tokens)
+}
+
+// The tree of all tokens.
+fn tree_of_tokens(alloc: Global, tokens: &[Token<'_>]) -> Result<ProgramTree, ProgramRefusal>
+    ensures { ReadsTokens tokens.now result }
+{
+    let mut cursor = Tokens::new(alloc, tokens);
+    match read_tree(&mut cursor) {
+        Ok(tree) if cursor.count() == 0 => Ok(tree),
         Ok(_) => Err(ProgramRefusal::NotYet),
         Err(ReadError::NoMemory) => Err(ProgramRefusal::NoMemory),
         Err(ReadError::Syntax(_)) => Err(ProgramRefusal::NotYet),

@@ -1,18 +1,16 @@
 //! Reading the tokens of a program.
 
-ghost use Rattle.std.specs.Prelude.{◌≡◌, ◌<◌, ◌≤◌, length, IfOk};
-ghost use Rattle.gp_grammar.specs.Reading.{Gives};
-ghost use Rattle.gp_parse.specs.Reading as spec;
+ghost use Rattle.gp_grammar.specs.inside.Cursor.{Reads, ReadsAs};
+ghost use Rattle.gp_grammar.specs.inside.Reading.{reader_of};
+ghost use Rattle.gp_parse.specs.Grammar as spec;
 ghost use Rattle.gp_parse.specs.Seen.{rule_seen, program_seen};
 
-use gp_grammar::{GraphTree, ReadError, Want, begins, read_graph, token};
+use crate::graph::{GraphTree, read_graph};
+use gp_grammar::{ReadError, Tokens, Want, separated_by};
 use gp_syntax::PlainMain;
-use gp_tokens::{Keyword, Kind, Text, Token};
-use std::alloc::Global;
+use gp_tokens::{Keyword, Kind, Text};
 
 const COMMA: Want = Want::Kind(Kind::Comma);
-
-const EXCLAMATION: Want = Want::Kind(Kind::Exclamation);
 
 /// A rule as it is drawn, with the names of its interface.
 #[derive(Drop)]
@@ -32,104 +30,83 @@ pub(crate) struct ProgramTree {
     pub rule: RuleTree,
 }
 
-// A comma and an item.
-#[tactic(auto, unfolding(crate::specs::Reading::next_item))]
-fn read_next_item(tokens: &[Token]) -> Result<(&Token, &[Token]), ReadError>
-    ensures gives { Gives (λ x. (x.0.now, x.1.now)) result (spec.next_item tokens.now) }
-    ensures shorter { IfOk result (λ x. length x.1.now < length tokens.now) }
+#[tactic(auto, unfolding(crate::specs::Grammar::item))]
+fn read_item(tokens: &mut Tokens<'_, '_>) -> Result<Text, ReadError>
+    ensures { Reads (reader_of spec.item tokens.old) result tokens.new }
 {
-    let (_, rest) = token(tokens, COMMA)?;
-    token(rest, Want::Item)
+    let item = tokens.expect(Want::Item)?.text.copy(tokens.alloc())?;
+    Ok(item)
 }
 
-fn read_items(alloc: Global, tokens: &[Token]) -> Result<(Vec<Text>, &[Token]), ReadError>
-    ensures gives { Gives (λ x. (x.0.items, x.1.now)) result (spec.items tokens.now) }
-    ensures shorter { IfOk result (λ x. length x.1.now < length tokens.now) }
+#[tactic(auto, unfolding(crate::specs::Grammar::items))]
+fn read_items(tokens: &mut Tokens<'_, '_>) -> Result<Vec<Text>, ReadError>
+    ensures { ReadsAs (λ x. x.items) (reader_of spec.items tokens.old) result tokens.new }
 {
-    let (first, mut rest) = token(tokens, Want::Item)?;
-    let mut found = Vec::new(alloc);
-    found.push(first.text.copy(alloc)?)?;
-    'each: while begins(rest, COMMA) {
-        let (item, after) = read_next_item(rest)?;
-        found.push(item.text.copy(alloc)?)?;
-        rest = after;
+    separated_by(tokens, COMMA, read_item)
+}
+
+// [Item {"," Item}]
+#[tactic(auto, unfolding(crate::specs::Grammar::interface))]
+fn read_interface(tokens: &mut Tokens<'_, '_>) -> Result<Vec<Text>, ReadError>
+    ensures { ReadsAs (λ x. x.items) (reader_of spec.interface tokens.old) result tokens.new }
+{
+    if tokens.begins(Want::Item) {
+        return read_items(tokens);
     }
-    Ok((found, rest))
+    Ok(Vec::new(tokens.alloc()))
 }
 
-#[tactic(auto, unfolding(crate::specs::Reading::interface))]
-fn read_interface(alloc: Global, tokens: &[Token]) -> Result<(Vec<Text>, &[Token]), ReadError>
-    ensures gives { Gives (λ x. (x.0.items, x.1.now)) result (spec.interface tokens.now) }
-    ensures shorter { IfOk result (λ x. length x.1.now ≤ length tokens.now) }
+#[tactic(auto, unfolding(crate::specs::Grammar::rule))]
+fn read_rule(tokens: &mut Tokens<'_, '_>) -> Result<RuleTree, ReadError>
+    ensures { ReadsAs rule_seen (reader_of spec.rule tokens.old) result tokens.new }
 {
-    if begins(tokens, Want::Item) {
-        let (found, rest) = read_items(alloc, tokens)?;
-        return Ok((found, rest));
-    }
-    Ok((Vec::new(alloc), tokens))
-}
-
-#[tactic(auto, unfolding(crate::specs::Reading::rule))]
-fn read_rule(alloc: Global, tokens: &[Token]) -> Result<(RuleTree, &[Token]), ReadError>
-    ensures gives { Gives (λ x. (rule_seen x.0, x.1.now)) result (spec.rule tokens.now) }
-{
-    let (name, rest) = token(tokens, Want::RuleName)?;
-    let (_, rest) = token(rest, Want::Kind(Kind::OpenParenthesis))?;
-    let (_, rest) = token(rest, Want::Kind(Kind::CloseParenthesis))?;
-    let (left, rest) = read_graph(alloc, rest)?;
-    let (_, rest) = token(rest, Want::Kind(Kind::Arrow))?;
-    let (right, rest) = read_graph(alloc, rest)?;
-    let (_, rest) = token(rest, Want::Keyword(Keyword::Interface))?;
-    let (_, rest) = token(rest, Want::Kind(Kind::Equal))?;
-    let (_, rest) = token(rest, Want::Kind(Kind::OpenBrace))?;
-    let (interface, rest) = read_interface(alloc, rest)?;
-    let (_, rest) = token(rest, Want::Kind(Kind::CloseBrace))?;
-    let name = name.text.copy(alloc)?;
-    Ok((
-        RuleTree {
-            name,
-            left,
-            right,
-            interface,
-        },
-        rest,
-    ))
+    let name = tokens.expect(Want::RuleName)?.text.copy(tokens.alloc())?;
+    tokens.expect(Want::Kind(Kind::OpenParenthesis))?;
+    tokens.expect(Want::Kind(Kind::CloseParenthesis))?;
+    let left = read_graph(tokens)?;
+    tokens.expect(Want::Kind(Kind::Arrow))?;
+    let right = read_graph(tokens)?;
+    tokens.expect(Want::Keyword(Keyword::Interface))?;
+    tokens.expect(Want::Kind(Kind::Equal))?;
+    tokens.expect(Want::Kind(Kind::OpenBrace))?;
+    let interface = read_interface(tokens)?;
+    tokens.expect(Want::Kind(Kind::CloseBrace))?;
+    Ok(RuleTree {
+        name,
+        left,
+        right,
+        interface,
+    })
 }
 
 // A loop where a sign of one comes next.
-#[tactic(auto, unfolding(crate::specs::Reading::main))]
-fn read_main(tokens: &[Token]) -> Result<(PlainMain, &[Token]), ReadError>
-    ensures { Gives (λ x. (x.0, x.1.now)) result (spec.main tokens.now) }
+#[tactic(auto, unfolding(crate::specs::Grammar::main))]
+fn read_main(tokens: &mut Tokens<'_, '_>) -> Result<PlainMain, ReadError>
+    ensures { Reads (reader_of spec.main tokens.old) result tokens.new }
 {
-    if begins(tokens, EXCLAMATION) {
-        let (_, rest) = token(tokens, EXCLAMATION)?;
-        return Ok((PlainMain::Loop, rest));
+    if tokens.eat(Want::Kind(Kind::Exclamation)) {
+        return Ok(PlainMain::Loop);
     }
-    Ok((PlainMain::Call, tokens))
+    Ok(PlainMain::Call)
 }
 
-/// The program at the front of the tokens, and the tokens behind it.
-#[tactic(auto, unfolding(crate::specs::Reading::program))]
-pub(crate) fn read_tree(
-    alloc: Global,
-    tokens: &[Token],
-) -> Result<(ProgramTree, &[Token]), ReadError>
-    ensures gives { Gives (λ x. (program_seen x.0, x.1.now)) result (spec.program tokens.now) }
+/// The program that comes next.
+#[tactic(auto, unfolding(crate::specs::Grammar::program))]
+pub(crate) fn read_tree(tokens: &mut Tokens<'_, '_>) -> Result<ProgramTree, ReadError>
+    ensures { ReadsAs program_seen (reader_of spec.program tokens.old) result tokens.new }
 {
-    let (name, rest) = token(tokens, Want::ProcedureName)?;
-    let (_, rest) = token(rest, Want::Kind(Kind::Equal))?;
-    let (call, rest) = token(rest, Want::RuleName)?;
-    let (main, rest) = read_main(rest)?;
-    let (rule, rest) = read_rule(alloc, rest)?;
-    let name = name.text.copy(alloc)?;
-    let call = call.text.copy(alloc)?;
-    Ok((
-        ProgramTree {
-            name,
-            call,
-            main,
-            rule,
-        },
-        rest,
-    ))
+    let name = tokens
+        .expect(Want::ProcedureName)?
+        .text
+        .copy(tokens.alloc())?;
+    tokens.expect(Want::Kind(Kind::Equal))?;
+    let call = tokens.expect(Want::RuleName)?.text.copy(tokens.alloc())?;
+    let main = read_main(tokens)?;
+    let rule = read_rule(tokens)?;
+    Ok(ProgramTree {
+        name,
+        call,
+        main,
+        rule,
+    })
 }

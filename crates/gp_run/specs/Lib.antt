@@ -1,1 +1,4 @@
 pub mod Agreement
+pub mod Engine
+pub mod Finished
+pub mod inside

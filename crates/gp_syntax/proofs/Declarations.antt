@@ -24,7 +24,7 @@ same_name_itself a = go (same_name a a) refl
     go false e = absurd (other_text a a (sym e) refl)
 
 -- a name that a list has has a place below its length
-first_place : (names : List Name) (n : Name) (s : ℕ) → has_name names n ≡ true → (i : ℕ) × (position_from (same_name n) s names ≡ Some i) × (i < s + length names)
+pub first_place : (names : List Name) (n : Name) (s : ℕ) → has_name names n ≡ true → (i : ℕ) × (position_from (same_name n) s names ≡ Some i) × (i < s + length names)
 first_place [] n s h = absurd cc
 first_place (m ∷ names) n s h = go (same_name n m) refl h (λ k. first_place names n (s + 1) k)
   where
@@ -72,12 +72,12 @@ place_has names n i h =
 -- ---- names that stand once
 
 -- a name of two lists is one of either
-has_append : (xs ys : List Name) (n : Name) → has_name (xs ++ ys) n ≡ (has_name xs n || has_name ys n)
+pub has_append : (xs ys : List Name) (n : Name) → has_name (xs ++ ys) n ≡ (has_name xs n || has_name ys n)
 has_append [] ys n = refl
 has_append (x ∷ xs) ys n = elim (same_name n x) as (λ b. (b || has_name (xs ++ ys) n) ≡ ((b || has_name xs n) || has_name ys n)) [ true ↦ refl | false ↦ has_append xs ys n ]
 
 -- what the test of doubled names says of the first name and of the others
-once_head : (seen : List Name) (n : Name) (names : List Name) → first_doubled_behind seen (n ∷ names) ≡ None → (has_name seen n ≡ false) × (first_doubled_behind (seen ++ n ∷ []) names ≡ None)
+pub once_head : (seen : List Name) (n : Name) (names : List Name) → first_doubled_behind seen (n ∷ names) ≡ None → (has_name seen n ≡ false) × (first_doubled_behind (seen ++ n ∷ []) names ≡ None)
 once_head seen n names h = go (has_name seen n) refl h
   where
     go : (b : Bool) → has_name seen n ≡ b → (if b then Some n else first_doubled_behind (seen ++ n ∷ []) names) ≡ None → (has_name seen n ≡ false) × (first_doubled_behind (seen ++ n ∷ []) names ≡ None)
@@ -108,7 +108,7 @@ seen_again seen m names k n h d f =
     last false = ap (λ b. b || false) (subst (λ x. same_name n x ≡ true) (sym d) (same_name_itself n))
 
 -- where no name is doubled, two places of one name are one place
-stands_once : (seen names : List Name) (j k : ℕ) (n : Name) → first_doubled_behind seen names ≡ None → slice_get names j ≡ Some n → slice_get names k ≡ Some n → j ≡ k
+pub stands_once : (seen names : List Name) (j k : ℕ) (n : Name) → first_doubled_behind seen names ≡ None → slice_get names j ≡ Some n → slice_get names k ≡ Some n → j ≡ k
 stands_once seen [] j k n h e f = absurd (none-some n e)
 stands_once seen (m ∷ names) zero zero n h e f = refl
 stands_once seen (m ∷ names) zero (suc k) n h e f = absurd (seen_again seen m names k n h (same_Some m n e) f)
@@ -145,7 +145,7 @@ from_map f (x ∷ xs) (suc i) y e = from_map f xs i y e
 -- ---- the rule
 
 -- an origin is the place of the name on the left side
-in_interface : (d : Declaration) (n : Name) (i : ℕ) → origin_in d n ≡ Some i → place_of (node_names d.left) n ≡ Some i
+pub in_interface : (d : Declaration) (n : Name) (i : ℕ) → origin_in d n ≡ Some i → place_of (node_names d.left) n ≡ Some i
 in_interface d n i h = go (has_name d.interface n) h
   where
     go : (b : Bool) → (if b then place_of (node_names d.left) n else None) ≡ Some i → place_of (node_names d.left) n ≡ Some i

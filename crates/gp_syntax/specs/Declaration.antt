@@ -5,6 +5,7 @@ use Rattle.gp_values.specs.declared.marks.NodeMark.{NodeMark}
 use Rattle.gp_values.specs.declared.marks.NodeMark.TheVariants as node_marks
 use Rattle.gp_values.specs.declared.marks.EdgeMark.{EdgeMark}
 use Rattle.gp_values.specs.declared.marks.EdgeMark.TheVariants as edge_marks
+use Rattle.gp_values.specs.Marks.{node_mark_named, edge_mark_named}
 use Rattle.gp_values.specs.Names.{Name, same_name, has_name, place_of, first_doubled, first_unknown}
 use Rattle.gp_syntax.specs.declared.kinds.VariableType.{VariableType}
 use Rattle.gp_syntax.specs.Expression.{Expression, Number, Text, Variable, In_degree, Out_degree, Length_of, Negated, Plus, Minus, Times, Over, Dot, Empty, Join, Condition, Holds, HasType, HasEdge, HasEdgeWith, Compared, Not, And, Or, MarkPattern, Marked, AnyMark, renamed, renamed_condition}
@@ -138,21 +139,11 @@ pub record IsWellNamed (d : Declaration) : Type 0 where
 
 abbrev pub node_mark_of : Option Name → MarkPattern NodeMark
 node_mark_of None = Marked node_marks.None
-node_mark_of (Some w) =
-    if same_name w (codes "any") then AnyMark
-    else (if same_name w (codes "red") then Marked node_marks.Red
-    else (if same_name w (codes "green") then Marked node_marks.Green
-    else (if same_name w (codes "blue") then Marked node_marks.Blue
-    else (if same_name w (codes "grey") then Marked node_marks.Grey else Marked node_marks.None))))
+node_mark_of (Some w) = if same_name w (codes "any") then AnyMark else Marked (unwrap_or (node_mark_named w) node_marks.None)
 
 abbrev pub edge_mark_of : Option Name → MarkPattern EdgeMark
 edge_mark_of None = Marked edge_marks.None
-edge_mark_of (Some w) =
-    if same_name w (codes "any") then AnyMark
-    else (if same_name w (codes "red") then Marked edge_marks.Red
-    else (if same_name w (codes "green") then Marked edge_marks.Green
-    else (if same_name w (codes "blue") then Marked edge_marks.Blue
-    else (if same_name w (codes "dashed") then Marked edge_marks.Dashed else Marked edge_marks.None))))
+edge_mark_of (Some w) = if same_name w (codes "any") then AnyMark else Marked (unwrap_or (edge_mark_named w) edge_marks.None)
 
 -- the variables that stand in a left label, in the order of declaration
 abbrev pub left_variables : Declaration → List DeclaredVariable

@@ -16,6 +16,7 @@ pub mod Constant
 pub mod Plain
 pub mod Laws
 pub mod Rows
+pub mod Fault
 pub mod ValueRows
 pub mod Tree
 pub mod Checked

@@ -1,5 +1,5 @@
 -- What the trees of programs and rules stand for. A chain of one operator groups from the left.
-use Rattle.std.specs.Prelude.{ℕ, List, [], ◌∷◌, map, flat_map, Option, Some, None}
+use Rattle.std.specs.Prelude.{ℕ, List, ◌∷◌, map, flat_map, fold, Option, Some, None}
 use Rattle.gp_values.specs.Names.{Name}
 use Rattle.gp_syntax.specs.declared.expression.Signed.{Signed}
 use Rattle.gp_syntax.specs.declared.expression.SumSign.{SumSign}
@@ -50,20 +50,16 @@ multiplied products.Over d e = Over d e
 
 -- each further operand behind what stands before it
 abbrev pub sum : {Ref : Type 0} → Expression Ref → List (Signed SumSign (Expression Ref)) → Expression Ref
-sum e [] = e
-sum e (t ∷ ts) = sum (added t.sign e t.operand) ts
+sum {Ref} e ts = fold (λ d (t : Signed SumSign (Expression Ref)). added t.sign d t.operand) e ts
 
 abbrev pub product : {Ref : Type 0} → Expression Ref → List (Signed ProductSign (Expression Ref)) → Expression Ref
-product e [] = e
-product e (t ∷ ts) = product (multiplied t.sign e t.operand) ts
+product {Ref} e ts = fold (λ d (t : Signed ProductSign (Expression Ref)). multiplied t.sign d t.operand) e ts
 
 abbrev pub dots : {Ref : Type 0} → Expression Ref → List (Expression Ref) → Expression Ref
-dots e [] = e
-dots e (x ∷ xs) = dots (Dot e x) xs
+dots e es = fold Dot e es
 
 abbrev pub joins : {Ref : Type 0} → Expression Ref → List (Expression Ref) → Expression Ref
-joins e [] = e
-joins e (x ∷ xs) = joins (Join e x) xs
+joins e es = fold Join e es
 
 abbrev pub expression_step : {Ref : Type 0} → Expr-F Ref (Expression Ref) → Expression Ref
 expression_step (Expr-F.Number z) = Number z
@@ -101,12 +97,10 @@ label_of = fold-SimpleLabel (Expression ℕ) label_step
 -- ---- conditions
 
 abbrev pub ands : {Ref Mark : Type 0} → Condition Ref Mark → List (Condition Ref Mark) → Condition Ref Mark
-ands c [] = c
-ands c (d ∷ ds) = ands (And c d) ds
+ands c cs = fold And c cs
 
 abbrev pub ors : {Ref Mark : Type 0} → Condition Ref Mark → List (Condition Ref Mark) → Condition Ref Mark
-ors c [] = c
-ors c (d ∷ ds) = ors (Or c d) ds
+ors c cs = fold Or c cs
 
 abbrev pub condition_step : {Ref M Mark : Type 0} → (M → Mark) → Cond-F Ref M (Condition Ref Mark) → Condition Ref Mark
 condition_step mark (Cond-F.HasType type e) = HasType type (expression_of e)
@@ -189,12 +183,10 @@ rule_of_tree r = record {
 -- ---- commands, programs and records
 
 abbrev pub sequence : meant_run.Command → List meant_run.Command → meant_run.Command
-sequence p [] = p
-sequence p (q ∷ qs) = sequence (meant_run.Seq p q) qs
+sequence p ps = fold meant_run.Seq p ps
 
 abbrev pub choice : meant_run.Command → List meant_run.Command → meant_run.Command
-choice p [] = p
-choice p (q ∷ qs) = choice (meant_run.Or p q) qs
+choice p ps = fold meant_run.Or p ps
 
 abbrev pub command_step : Command-F meant_run.Command → meant_run.Command
 command_step (Command-F.Call c) = meant_run.Call c

@@ -10,8 +10,11 @@ mod kinds;
 mod label;
 pub mod laws;
 mod name;
+mod names;
 mod plain;
 mod rule;
+#[cfg(test)]
+mod tests;
 mod tree;
 
 pub use assignment::Assignment;
@@ -21,6 +24,7 @@ pub use found::{EdgeImage, Found, INLINE_EDGES, INLINE_NODES, Item};
 pub use kinds::{Comparison, NumberKind, VariableType};
 pub use label::SimpleLabel;
 pub use name::Name;
+pub use names::NameTable;
 pub use plain::{
     PlainLeftEdge, PlainLeftNode, PlainMain, PlainProgram, PlainRightEdge, PlainRightNode,
     PlainRule,

@@ -3,6 +3,7 @@
 ghost use Rattle.std.specs.Prelude.{◌≡◌};
 ghost use Rattle.gp_syntax.specs.Checked.{IsChecked};
 ghost use Rattle.gp_syntax.specs.Tree.{rule_of_tree};
+ghost use Rattle.gp_syntax.specs.WellFormed.{IsWellFormed};
 
 use crate::expression::{Cond, Expr};
 use crate::kinds::VariableType;
@@ -107,6 +108,7 @@ impl Rule {
     pub fn parts(&self) -> &RuleParts
         ensures value { result.now ≡ self.now }
         ensures checked { IsChecked (rule_of_tree self.now) }
+        ensures well_formed { IsWellFormed (rule_of_tree self.now) }
     {
         &self.parts
     }

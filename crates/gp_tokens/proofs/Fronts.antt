@@ -30,7 +30,7 @@ fits_if : (at : ℕ) (z : List ℕ) (b : Bool) (x y : First) → (b ≡ true →
 fits_if at z true x y p q = p refl
 fits_if at z false x y p q = q refl
 
-both : (a b : Bool) → (a && b) ≡ true → (a ≡ true) × (b ≡ true)
+pub both : (a b : Bool) → (a && b) ≡ true → (a ≡ true) × (b ≡ true)
 both true b h = (refl, h)
 both false b h = absurd cc
 
@@ -52,10 +52,10 @@ line_fits at t =
       }) g,
     )
 
-two_are : (x y b : ℕ) (t : List ℕ) → (b == x && slice_index t 0 == y) ≡ true → (b ≡ x) × (slice_index t 0 ≡ y)
+pub two_are : (x y b : ℕ) (t : List ℕ) → (b == x && slice_index t 0 == y) ≡ true → (b ≡ x) × (slice_index t 0 ≡ y)
 two_are x y b t e = let a = both _ _ e in ((Decides-eqb b x).0 a.0, (Decides-eqb (slice_index t 0) y).0 a.1)
 
-two_are_not : (x y b : ℕ) (t : List ℕ) → (b == x && slice_index t 0 == y) ≡ false → take 2 (b ∷ t) ≡ x ∷ y ∷ [] → ⊥
+pub two_are_not : (x y b : ℕ) (t : List ℕ) → (b == x && slice_index t 0 == y) ≡ false → take 2 (b ∷ t) ≡ x ∷ y ∷ [] → ⊥
 two_are_not x y b [] e h = cc
 two_are_not x y b (c ∷ t) e h =
     let one : b ≡ x = cc in
@@ -69,7 +69,7 @@ closed : (b : ℕ) (t : List ℕ) → b ≡ 42 → slice_index t 0 ≡ 47 → (2
 closed b [] one two = absurd (omega arith)
 closed b (c ∷ t) one two = let two' : c ≡ 47 = two in (omega arith, rw (one, two') closes)
 
-end_is : (t : List ℕ) (n : ℕ) → comment_end t ≡ Some n → (n ≤ length t) × EndsComment t (drop n t)
+pub end_is : (t : List ℕ) (n : ℕ) → comment_end t ≡ Some n → (n ≤ length t) × EndsComment t (drop n t)
 end_is [] n h = absurd cc
 end_is (b ∷ t) n h = go (λ m e. end_is t m e) (b == 42 && slice_index t 0 == 47) refl h
   where
@@ -201,7 +201,7 @@ abbrev descends : List (Kind × List ℕ) → Bool
 descends [] = true
 descends (s ∷ others) = list_all (λ o. nat_le (length o.1) (length s.1)) others && descends others
 
-found : (b next : ℕ) (table : List (Kind × List ℕ)) (r : Kind × ℕ) → first_fit b next table ≡ Some r → (text : List ℕ) × (Contains table (r.0, text)) × (stands b next text ≡ true) × (length text ≡ r.1)
+pub found : (b next : ℕ) (table : List (Kind × List ℕ)) (r : Kind × ℕ) → first_fit b next table ≡ Some r → (text : List ℕ) × (Contains table (r.0, text)) × (stands b next text ≡ true) × (length text ≡ r.1)
 found b next [] r h = absurd cc
 found b next (s ∷ others) r h = go (λ h. found b next others r h) (stands b next s.1) refl h
   where
@@ -215,7 +215,7 @@ found b next (s ∷ others) r h = go (λ h. found b next others r h) (stands b n
         let c = a.1 in
         (a.0, (suc c.0, omega (arith, c.1), c.2), a.2, a.3)
 
-longest : (b next : ℕ) (table : List (Kind × List ℕ)) (r : Kind × ℕ) (s : Kind × List ℕ) → descends table ≡ true → first_fit b next table ≡ Some r → Contains table s → stands b next s.1 ≡ true → length s.1 ≤ r.1
+pub longest : (b next : ℕ) (table : List (Kind × List ℕ)) (r : Kind × ℕ) (s : Kind × List ℕ) → descends table ≡ true → first_fit b next table ≡ Some r → Contains table s → stands b next s.1 ≡ true → length s.1 ≤ r.1
 longest b next [] r s d h c e = absurd cc
 longest b next (o ∷ others) r s d h (i, lt, at) e = go (λ d h c. longest b next others r s d h c e) (stands b next o.1) refl h i lt at
   where
@@ -239,7 +239,7 @@ longest b next (o ∷ others) r s d h (i, lt, at) e = go (λ d h c. longest b ne
     go below false q h (suc i) lt at = below (both _ _ d).1 h (i, omega arith, at)
 
 -- a sign that stands there is what the text begins with
-begun : (b : ℕ) (t text : List ℕ) → good text ≡ true → stands b (slice_index t 0) text ≡ true → (take (length text) (b ∷ t) ≡ text) × (0 < length text) × (length text ≤ length (b ∷ t))
+pub begun : (b : ℕ) (t text : List ℕ) → good text ≡ true → stands b (slice_index t 0) text ≡ true → (take (length text) (b ∷ t) ≡ text) × (0 < length text) × (length text ≤ length (b ∷ t))
 begun b t [] g e = absurd cc
 begun b t (x ∷ []) g e = let one : b ≡ x = (Decides-eqb b x).0 (both _ _ e).0 in (rw one refl, omega arith, omega arith)
 begun b [] (x ∷ y ∷ []) g e =
@@ -253,7 +253,7 @@ begun b (c ∷ t) (x ∷ y ∷ []) g e =
 begun b t (x ∷ y ∷ z ∷ more) g e = absurd cc
 
 -- and a sign that the text begins with stands there
-stands_there : (b : ℕ) (t text : List ℕ) → good text ≡ true → take (length text) (b ∷ t) ≡ text → stands b (slice_index t 0) text ≡ true
+pub stands_there : (b : ℕ) (t text : List ℕ) → good text ≡ true → take (length text) (b ∷ t) ≡ text → stands b (slice_index t 0) text ≡ true
 stands_there b t [] g e = absurd cc
 stands_there b t (x ∷ []) g e = let one : b ≡ x = cc in let q : (b == x) ≡ true = (Decides-eqb b x).1 one in rw q refl
 stands_there b [] (x ∷ y ∷ []) g e = absurd cc
@@ -266,7 +266,7 @@ stands_there b (c ∷ t) (x ∷ y ∷ []) g e =
 stands_there b t (x ∷ y ∷ z ∷ more) g e = absurd cc
 
 -- where none stands, the text begins with none
-none_stands : (b next : ℕ) (table : List (Kind × List ℕ)) (s : Kind × List ℕ) → first_fit b next table ≡ None → Contains table s → stands b next s.1 ≡ true → ⊥
+pub none_stands : (b next : ℕ) (table : List (Kind × List ℕ)) (s : Kind × List ℕ) → first_fit b next table ≡ None → Contains table s → stands b next s.1 ≡ true → ⊥
 none_stands b next [] s h (i, lt, at) e = absurd (omega arith)
 none_stands b next (o ∷ others) s h (i, lt, at) e = go (λ h c. none_stands b next others s h c e) (stands b next o.1) refl h i lt at
   where
@@ -278,7 +278,7 @@ none_stands b next (o ∷ others) s h (i, lt, at) e = go (λ h c. none_stands b 
         cc
     go below false q h (suc i) lt at = below h (i, omega arith, at)
 
-goods : (s : Kind × List ℕ) → Contains signs s → good s.1 ≡ true
+pub goods : (s : Kind × List ℕ) → Contains signs s → good s.1 ≡ true
 goods = passes (λ (s : Kind × List ℕ). good s.1) signs refl
 
 sign_fits : (at b : ℕ) (t : List ℕ) → is_blank b ≡ false → is_word_byte b ≡ false → (b == 34) ≡ false → (BeginsComment (b ∷ t) → ⊥) → Fits at (b ∷ t) (signed at (sign b (slice_index t 0)))

@@ -7,7 +7,7 @@ use Rattle.gp_tokens.specs.declared.token.Kind.{Kind}
 use Rattle.gp_tokens.specs.declared.token.Kind.TheVariants as k
 use Rattle.gp_tokens.specs.declared.token.Token.{Token}
 use Rattle.gp_tokens.specs.Bytes.{is_blank, is_digit, is_word_byte, is_line_byte, is_string_byte}
-use Rattle.gp_tokens.specs.Front.{signs}
+use Rattle.gp_tokens.specs.Signs.{signs}
 use Rattle.gp_tokens.specs.Numbers.{number_of}
 
 -- ---- what stands between tokens. Each says what the bytes up to a rest are.

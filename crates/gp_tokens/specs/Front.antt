@@ -1,5 +1,5 @@
--- What stands at the front of a text.
-use Rattle.std.specs.Prelude.{ℕ, suc, ◌+◌, Bool, true, ◌&&◌, if◌then◌else◌, ◌==◌, nat_lt, ◌<◌, ◌≤◌, List, [], ◌∷◌, take, drop, length, slice_index, Option, Some, None, option_map, codes}
+-- What stands at the front of a text, as `lex` finds it. No promise rests on it: the laws tie it to `Cut`.
+use Rattle.std.specs.Prelude.{ℕ, suc, ◌+◌, Bool, true, ◌&&◌, if◌then◌else◌, ◌==◌, nat_lt, ◌<◌, ◌≤◌, List, [], ◌∷◌, take, drop, length, slice_index, Option, Some, None, option_map}
 use Rattle.std.specs.List.{prefix_len}
 use Rattle.gp_tokens.specs.declared.fault.LexFault.TheVariants as fault
 use Rattle.gp_tokens.specs.declared.front.Class.{Class}
@@ -10,6 +10,7 @@ use Rattle.gp_tokens.specs.declared.token.Kind.{Kind}
 use Rattle.gp_tokens.specs.declared.token.Kind.TheVariants as k
 use Rattle.gp_tokens.specs.Bytes.{is_blank, is_digit, is_word_byte, is_line_byte, is_string_byte}
 use Rattle.gp_tokens.specs.Numbers.{checked_number}
+pub use Rattle.gp_tokens.specs.Signs.{other_signs, signs}
 
 abbrev pub is_in : Class → ℕ → Bool
 is_in class.Digit b = is_digit b
@@ -25,23 +26,6 @@ run c text = prefix_len (is_in c) text
 abbrev pub comment_end : List ℕ → Option ℕ
 comment_end [] = None
 comment_end (b ∷ text) = if b == 42 && slice_index text 0 == 47 then Some 2 else option_map suc (comment_end text)
-
--- the signs of one byte that begin no longer sign
-abbrev pub other_signs : List (Kind × List ℕ)
-other_signs =
-    (k.OpenParenthesis, codes "(") ∷ (k.CloseParenthesis, codes ")")
-    ∷ (k.OpenBracket, codes "[") ∷ (k.CloseBracket, codes "]")
-    ∷ (k.OpenBrace, codes "{") ∷ (k.CloseBrace, codes "}")
-    ∷ (k.Comma, codes ",") ∷ (k.Semicolon, codes ";") ∷ (k.Colon, codes ":") ∷ (k.Dot, codes ".")
-    ∷ (k.Plus, codes "+") ∷ (k.Minus, codes "-") ∷ (k.Star, codes "*") ∷ (k.Slash, codes "/")
-    ∷ (k.Hash, codes "#") ∷ (k.Bar, codes "|") ∷ []
-
--- the signs, the longer ones first
-abbrev pub signs : List (Kind × List ℕ)
-signs =
-    (k.LessEqual, codes "<=") ∷ (k.GreaterEqual, codes ">=") ∷ (k.NotEqual, codes "!=") ∷ (k.Arrow, codes "=>")
-    ∷ (k.Less, codes "<") ∷ (k.Greater, codes ">") ∷ (k.Exclamation, codes "!") ∷ (k.Equal, codes "=")
-    ∷ other_signs
 
 -- the sign begins with these two bytes, or is the first of them
 abbrev pub stands : ℕ → ℕ → List ℕ → Bool

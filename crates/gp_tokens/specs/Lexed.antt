@@ -1,4 +1,4 @@
--- The one list of tokens of a text, or its first fault.
+-- The tokens of a text, or its first fault, as a function. The laws say that it is the cut of `Cut`, or the fault there.
 use Rattle.std.specs.Prelude.{◌≡◌, ℕ, zero, suc, ◌+◌, ◌-◌, List, [], ◌∷◌, ◌++◌, take, Result, Ok, Err}
 use Rattle.gp_tokens.specs.declared.front.First.{First}
 use Rattle.gp_tokens.specs.declared.front.First.TheVariants as f

@@ -2,7 +2,9 @@ pub mod Bytes
 pub mod Kinds
 pub mod Words
 pub mod Numbers
+pub mod Signs
 pub mod Front
 pub mod Lexed
 pub mod Cut
 pub mod Lines
+pub mod Laws

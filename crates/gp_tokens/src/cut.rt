@@ -6,12 +6,12 @@ ghost use Rattle.gp_tokens.specs.Lexed.{Gives, tokens_of};
 
 use crate::fault::LexFault;
 use crate::front::{First, front};
-use crate::text::Text;
+use crate::text::Slice;
 use crate::token::Token;
 use std::alloc::Global;
 
-/// The tokens of the text, or the first fault that is met from the front.
-pub fn lex(alloc: Global, text: &[u8]) -> Result<Vec<Token>, LexFault>
+/// The tokens of the text, each a slice of it, or the first fault that is met from the front.
+pub fn lex<'t>(alloc: Global, text: &'t [u8]) -> Result<Vec<Token<'t>>, LexFault>
     ensures gives { Gives (λ v. v.items) result (tokens_of text.now) }
     ensures cut { IfOk result (λ tokens. IsCutOf text.now tokens.items) }
     ensures first_fault { IfErr result (λ e. e ≢ LexFault.NoMemory → IsFaultOf text.now e) }
@@ -25,11 +25,10 @@ pub fn lex(alloc: Global, text: &[u8]) -> Result<Vec<Token>, LexFault>
             First::Skip(len) => at += len,
             First::Token(kind, len) => {
                 let (slice, _behind) = rest.split_at(len);
-                let copy = Text::from_slice(alloc, slice)?;
                 tokens.push(Token {
                     kind,
                     start: at as u64,
-                    text: copy,
+                    text: Slice::new(slice),
                 })?;
                 at += len;
             }

@@ -20,7 +20,7 @@ pub fn line_of_token(alloc: Global, text: &[u8], place: u64) -> Result<u64, LexF
     Ok(line_at(text, start))
 }
 
-fn start_of(text: &[u8], tokens: &[Token], place: u64) -> usize
+fn start_of(text: &[u8], tokens: &[Token<'_>], place: u64) -> usize
     ensures { result ≡ start_of text.now (slice_get tokens.now place) }
 {
     match tokens.get(place as usize) {

@@ -78,7 +78,7 @@ fn row_of_byte(byte: u8) -> Result<&'static str, LexFault> {
     }
 }
 
-fn listed(alloc: Global, tokens: &[Token]) -> Result<String, Fail> {
+fn listed(alloc: Global, tokens: &[Token<'_>]) -> Result<String, Fail> {
     let mut list = String::new(alloc);
     for token in tokens {
         list.push_str(format!(in alloc; "{:?} {} ", token.kind, token.start)?.as_str())?;
@@ -154,7 +154,10 @@ fn words_have_their_classes(rt: HostRuntime) -> Result<(), Fail> {
     for token in lex(rt.alloc(), b"R")?.iter() {
         assert!(rt; token.is_word(Keyword::Root) && !token.is_word(Keyword::Bidirectional));
         assert_eq!(rt; token.text.copy(rt.alloc())?.as_bytes(), b"R".as_slice());
-        assert_eq!(rt; format!(in rt.alloc(); "{}", token.text)?.as_str(), "R");
+        assert_eq!(rt;
+            format!(in rt.alloc(); "{}", token.text.copy(rt.alloc())?)?.as_str(),
+            "R"
+        );
     }
     for token in lex(rt.alloc(), b"0017")?.iter() {
         assert_eq!(rt; token.number_value(), Some(17));

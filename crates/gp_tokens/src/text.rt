@@ -1,4 +1,4 @@
-//! Short texts that own their bytes.
+//! Texts of tokens: slices of the whole text, and short texts that own their bytes.
 
 ghost use Rattle.std.specs.Prelude.{◌≡◌, IfOk};
 ghost use Rattle.std.specs.Cmp.{on_equiv, on_per, partial_equiv_from_equiv};
@@ -10,7 +10,7 @@ use std::alloc::{AllocError, Global};
 use std::fmt;
 use std::marker::Model;
 
-/// The bytes of a token. Up to sixteen of them stand in the value itself. Contracts see their list.
+/// A text of its own memory. Up to sixteen bytes stand in the value itself. Contracts see their list.
 #[derive(Debug, Drop)]
 pub struct Text {
     bytes: SmallVec<u8, 16>,
@@ -70,4 +70,64 @@ impl fmt::Display for Text {
         }
         Ok(())
     }
+}
+
+/// Bytes of a text that is held elsewhere, as those of a token. Contracts see their list.
+#[derive(Debug, Drop)]
+pub struct Slice<'t> {
+    bytes: &'t [u8],
+}
+
+impl<'t> Model for Slice<'t> {
+    ghost use Rattle.std.specs.Prelude.{List, ℕ};
+
+    ghost Value = { List ℕ };
+
+    ghost view = { λ s. s.bytes.now };
+}
+
+impl<'t> Slice<'t> {
+    /// These bytes.
+    pub fn new(bytes: &'t [u8]) -> Slice<'t>
+        ensures { result ≡ bytes.now }
+    {
+        Slice { bytes }
+    }
+
+    /// The bytes, in order.
+    pub fn as_bytes(&self) -> &'t [u8]
+        ensures { result.now ≡ self.now }
+    {
+        self.bytes
+    }
+
+    /// The same slice once more.
+    pub fn again(&self) -> Slice<'t>
+        ensures { result ≡ self.now }
+    {
+        Slice { bytes: self.bytes }
+    }
+}
+
+impl Slice<'_> {
+    /// A text of these bytes with memory of its own.
+    pub fn copy(&self, alloc: Global) -> Result<Text, AllocError>
+        ensures { IfOk result (λ t. t ≡ self.now) }
+    {
+        Text::from_slice(alloc, self.as_bytes())
+    }
+}
+
+impl<'t> PartialEq for Slice<'t> {
+    ghost eq = { bytes_eq };
+
+    ghost laws = { partial_equiv_from_equiv nat_list_eq_equiv };
+
+    fn eq(&self, other: &Slice<'t>) -> bool {
+        self.as_bytes() == other.as_bytes()
+    }
+}
+
+impl<'t> Eq for Slice<'t> {
+    ghost laws = { nat_list_eq_equiv };
 }

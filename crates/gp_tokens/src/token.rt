@@ -7,7 +7,7 @@ ghost use Rattle.gp_tokens.specs.Words as spec;
 
 use crate::keyword::{Keyword, is_reserved};
 use crate::number::number;
-use crate::text::Text;
+use crate::text::Slice;
 
 /// What a token is: a number, a word, a string, or which sign.
 #[derive(Clone, Copy, Debug, PartialEq, Eq)]
@@ -51,12 +51,13 @@ impl Kind {
     }
 }
 
-/// A token: what it is, the offset of its first byte in the text, and a copy of its bytes.
+/// A token: what it is, the offset of its first byte in the text, and its bytes, which
+/// it borrows from the text.
 #[derive(Debug, Drop, PartialEq, Eq)]
-pub struct Token {
+pub struct Token<'t> {
     pub kind: Kind,
     pub start: u64,
-    pub text: Text,
+    pub text: Slice<'t>,
 }
 
 fn first_byte(text: &[u8]) -> u8
@@ -68,7 +69,7 @@ fn first_byte(text: &[u8]) -> u8
     }
 }
 
-impl Token {
+impl Token<'_> {
     /// Whether it is this word.
     pub fn is_word(&self, word: Keyword) -> bool
         ensures { result ≡ spec.is_word word self.now }

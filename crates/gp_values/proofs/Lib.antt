@@ -1,3 +1,4 @@
 pub mod Graphs
+pub mod Edits
 pub mod Order
 pub mod Labels

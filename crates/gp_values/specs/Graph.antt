@@ -1,6 +1,6 @@
 -- A host graph, as every contract sees it: two finite maps from numbers, and the two next numbers (Plump 2012,
 -- section 2: graphs over labels; Bak 2015: root nodes and marks).
-use Rattle.std.specs.Prelude.{◌≡◌, ℕ, ◌+◌, ◌<◌, ◌==◌, Bool, List, count_by, refl, Option, IsSome, Some}
+use Rattle.std.specs.Prelude.{◌≡◌, ℕ, ◌+◌, ◌-◌, ◌<◌, ◌==◌, Bool, List, count_by, refl, Option, IsSome, Some}
 use Rattle.std.specs.Coded.{Coded, code_by, coded×, coded_ℕ, coded_bool, coded_list}
 use Rattle.std.specs.Ordering.{nat_cmp}
 use Rattle.std.specs.FinMap as map
@@ -47,6 +47,13 @@ in_degree g n = count_by (λ (e : ℕ × Edge). e.1.target == n) (map.entries g.
 abbrev pub out_degree : Graph → ℕ → ℕ
 out_degree g n = count_by (λ (e : ℕ × Edge). e.1.source == n) (map.entries g.edges)
 
+-- how many nodes there are, and how many of them are roots
+abbrev pub node_count : Graph → ℕ
+node_count g = map.len g.nodes
+
+abbrev pub root_count : Graph → ℕ
+root_count g = count_by (λ (e : ℕ × Node). e.1.root) (map.entries g.nodes)
+
 -- Used numbers are below the next ones, the ends of edges are nodes, and labels are lists of atoms in their ranges.
 pub record IsGraph (g : Graph) : Type 0 where
   pub nodes_below : (n : ℕ) → IsSome (node_at g n) → n < g.next_node
@@ -80,6 +87,22 @@ without_edge g e = record g { edges = map.remove g.edges e }
 -- the node of this number carries something else
 abbrev pub relabeled : Graph → ℕ → Node → Graph
 relabeled g n x = record g { nodes = map.insert g.nodes n x }
+
+-- a node stands at a number below the next one
+abbrev pub with_node_at : Graph → ℕ → Node → Graph
+with_node_at g n x = record g { nodes = map.insert g.nodes n x }
+
+-- an edge stands at a number below the next one
+abbrev pub with_edge_at : Graph → ℕ → Edge → Graph
+with_edge_at g e d = record g { edges = map.insert g.edges e d }
+
+-- the next number of a node is one less
+abbrev pub without_node_number : Graph → Graph
+without_node_number g = record g { next_node = g.next_node - 1 }
+
+-- the next number of an edge is one less
+abbrev pub without_edge_number : Graph → Graph
+without_edge_number g = record g { next_edge = g.next_edge - 1 }
 
 -- no edge begins or ends at the node
 abbrev pub HasNoEdges : Graph → ℕ → Type 0

@@ -1,9 +1,6 @@
 pub mod Texts
-pub mod TextLaws
 pub mod Atoms
-pub mod EqualityLaws
 pub mod Compare
-pub mod CompareLaws
 pub mod Labels
 pub mod Names
 pub mod Apart
@@ -11,3 +8,4 @@ pub mod Marks
 pub mod Graph
 pub mod Laws
 pub mod Order
+pub mod inside

@@ -18,14 +18,6 @@ edge_mark_named word =
     if same_name word (codes "red") then Some edge_marks.Red else if same_name word (codes "green") then Some edge_marks.Green
     else if same_name word (codes "blue") then Some edge_marks.Blue else if same_name word (codes "dashed") then Some edge_marks.Dashed else None
 
--- none, red, green, blue, grey
-abbrev pub node_mark_rank : NodeMark → ℕ
-node_mark_rank node_marks.None = 0
-node_mark_rank node_marks.Red = 1
-node_mark_rank node_marks.Green = 2
-node_mark_rank node_marks.Blue = 3
-node_mark_rank node_marks.Grey = 4
-
 -- none, red, green, blue, dashed
 abbrev pub edge_mark_rank : EdgeMark → ℕ
 edge_mark_rank edge_marks.None = 0

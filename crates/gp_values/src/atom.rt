@@ -57,7 +57,7 @@ impl Default for Atom {
 
 impl PartialEq for Atom {
     ghost use Rattle.gp_values.specs.Atoms.{same_atom};
-    ghost use Rattle.gp_values.specs.CompareLaws.{atoms_per};
+    ghost use Rattle.gp_values.specs.inside.CompareLaws.{atoms_per};
 
     ghost eq = { same_atom };
 
@@ -73,7 +73,7 @@ impl PartialEq for Atom {
 }
 
 impl Eq for Atom {
-    ghost use Rattle.gp_values.specs.CompareLaws.{atoms_equiv};
+    ghost use Rattle.gp_values.specs.inside.CompareLaws.{atoms_equiv};
 
     ghost laws = { atoms_equiv };
 }
@@ -81,7 +81,7 @@ impl Eq for Atom {
 impl PartialOrd for Atom {
     ghost use Rattle.std.specs.Prelude.{Some};
     ghost use Rattle.gp_values.specs.Compare.{atom_cmp};
-    ghost use Rattle.gp_values.specs.CompareLaws.{atoms_po};
+    ghost use Rattle.gp_values.specs.inside.CompareLaws.{atoms_po};
 
     ghost partial_cmp = { λ x y. Some (atom_cmp x y) };
 
@@ -96,7 +96,7 @@ impl PartialOrd for Atom {
 impl Ord for Atom {
     ghost use Rattle.std.specs.Prelude.{refl};
     ghost use Rattle.gp_values.specs.Compare.{atom_cmp};
-    ghost use Rattle.gp_values.specs.CompareLaws.{atoms_total, atoms_ties};
+    ghost use Rattle.gp_values.specs.inside.CompareLaws.{atoms_total, atoms_ties};
 
     ghost cmp = { atom_cmp };
 

@@ -82,7 +82,7 @@ impl Chars {
 impl PartialEq for Chars {
     ghost use Rattle.std.specs.Prelude.{nat_eq};
     ghost use Rattle.std.specs.Cmp.Lexicographic.{pointwise};
-    ghost use Rattle.gp_values.specs.TextLaws.{texts_per};
+    ghost use Rattle.gp_values.specs.inside.TextLaws.{texts_per};
 
     ghost eq = { pointwise nat_eq };
 

@@ -1,6 +1,6 @@
 //! What holds of graphs as the specifications define them. Each function does nothing: its contract is the law.
 
-ghost use Rattle.gp_values.specs.Laws.{EditsKeepGraphs, EditsChangeOnePlace, SameGraphs, TestsEquality};
+ghost use Rattle.gp_values.specs.Laws.{EditsKeepGraphs, EditsChangeOnePlace, EditsAreTakenBack, SameGraphs, TestsEquality};
 ghost use Rattle.gp_values.specs.Compare.{OrdersLists};
 ghost use Rattle.gp_values.specs.Order.{WalksMeetAll};
 
@@ -12,6 +12,12 @@ pub fn edits_keep_graphs()
 /// An edit changes what it names, and nothing else.
 pub fn edits_change_one_place()
     ensures { EditsChangeOnePlace }
+{}
+
+/// A removal is taken back by putting, an addition by removing and lowering the next number, a relabelling by
+/// relabelling.
+pub fn edits_are_taken_back()
+    ensures { EditsAreTakenBack }
 {}
 
 /// Graphs are equal where their nodes, edges and next numbers are.

@@ -1,4 +1,10 @@
-//! Atoms, lists and marks, and what a graph is to every contract above.
+//! Values and graphs, which every crate of GP 2 speaks of.
+//!
+//! `Atom`, `List`, `NodeMark` and `EdgeMark` are what nodes and edges carry: make a `List` by `List::new` and
+//! `List::push`, read it by `List::atoms`, write it by `List::write_label`.
+//! What a host graph is to every contract stands in `specs/Graph.antt`: two finite maps and two next numbers, with
+//! the named edits that contracts cite (Plump 2012, "The Design of GP 2", section 2; Bak 2015 for roots and marks).
+//! `laws` has what holds of those edits, whoever makes them: call its functions where a proof needs such a law.
 #![tactic(auto)]
 
 mod atom;

@@ -1,20 +1,19 @@
 //! Lists of atoms.
 
-ghost use Rattle.std.specs.Prelude.{◌≡◌, ◌↔◌, [], ◌∷◌, ◌++◌, ◌<◌, length, IsOk, IfOk, OnOk, OnErr, IsTrue};
+ghost use Rattle.std.specs.Prelude.{◌≡◌, ◌↔◌, [], ◌∷◌, ◌++◌, IfOk, OnOk, OnErr, IsTrue};
 ghost use Rattle.gp_values.specs.Atoms.{AreAtoms};
 
 use crate::atom::Atom;
 use gp_memory::NoMemory;
-use smallvec::SmallVec;
 use std::alloc::Global;
 use std::cmp::Ordering;
 use std::marker::Model;
 
-/// A list of atoms, the value of a label. Contracts see the list of its atoms. A list of up to two atoms takes no
-/// memory beyond that of its strings.
+/// A list of atoms, the value of a label. Contracts see the list of its atoms. The empty list takes no memory, and
+/// a list of one atom has room for that atom alone.
 #[derive(Drop)]
 pub struct List {
-    atoms: SmallVec<Atom, 2>,
+    atoms: Vec<Atom>,
 }
 
 impl Model for List {
@@ -36,7 +35,7 @@ impl List {
         ensures { result ≡ [] }
     {
         List {
-            atoms: SmallVec::new(alloc),
+            atoms: Vec::new(alloc),
         }
     }
 
@@ -44,10 +43,11 @@ impl List {
     pub fn push(&mut self, atom: Atom) -> Result<(), NoMemory>
         ensures ok { OnOk result (self.new ≡ self.old ++ atom ∷ []) }
         ensures err { OnErr result (self.new ≡ self.old) }
-        ensures succeeds { length self.old < 2 → IsOk result }
     {
         atom.told();
-        let _at_least_two = self.atoms.capacity();
+        if self.atoms.is_empty() {
+            self.atoms.reserve_exact(1)?;
+        }
         self.atoms.push(atom)?;
         Ok(())
     }
@@ -64,11 +64,11 @@ impl List {
     pub fn copy(&self, alloc: Global) -> Result<List, NoMemory>
         ensures { IfOk result (λ v. v ≡ self.now) }
     {
-        let mut list = List::new(alloc);
-        for atom in self.atoms.as_slice() {
-            list.push(atom.copy(alloc)?)?;
+        let mut atoms = Vec::with_capacity(alloc, self.atoms.len())?;
+        for atom in &self.atoms {
+            atoms.push(atom.copy(alloc)?)?;
         }
-        Ok(list)
+        Ok(List { atoms })
     }
 
     /// Puts the atoms of another list behind those of this one. On refusal the list is as before.
@@ -91,7 +91,7 @@ impl List {
 
 impl PartialEq for List {
     ghost use Rattle.gp_values.specs.Atoms.{same_list};
-    ghost use Rattle.gp_values.specs.CompareLaws.{lists_per};
+    ghost use Rattle.gp_values.specs.inside.CompareLaws.{lists_per};
 
     ghost eq = { same_list };
 
@@ -103,7 +103,7 @@ impl PartialEq for List {
 }
 
 impl Eq for List {
-    ghost use Rattle.gp_values.specs.CompareLaws.{lists_equiv};
+    ghost use Rattle.gp_values.specs.inside.CompareLaws.{lists_equiv};
 
     ghost laws = { lists_equiv };
 }
@@ -111,7 +111,7 @@ impl Eq for List {
 impl PartialOrd for List {
     ghost use Rattle.std.specs.Prelude.{Some};
     ghost use Rattle.gp_values.specs.Compare.{list_cmp};
-    ghost use Rattle.gp_values.specs.CompareLaws.{lists_po};
+    ghost use Rattle.gp_values.specs.inside.CompareLaws.{lists_po};
 
     ghost partial_cmp = { λ v w. Some (list_cmp v w) };
 
@@ -126,7 +126,7 @@ impl PartialOrd for List {
 impl Ord for List {
     ghost use Rattle.std.specs.Prelude.{refl};
     ghost use Rattle.gp_values.specs.Compare.{list_cmp};
-    ghost use Rattle.gp_values.specs.CompareLaws.{list_cmp_total, list_cmp_ties};
+    ghost use Rattle.gp_values.specs.inside.CompareLaws.{list_cmp_total, list_cmp_ties};
 
     ghost cmp = { list_cmp };
 

@@ -1,15 +1,21 @@
 -- What any list of events does to a legal core.
-use Rattle.std.proofs.Common.{◌≡◌, ℕ, zero, suc, ◌^◌, ◌<◌, ◌≤◌, inl, inr, List, [], ◌∷◌, ◌++◌, false, Option, Some, length, refl, sym, ◌∙◌, ap, subst, arith, append-nil, append_assoc}
+use Rattle.std.proofs.Common.{◌≡◌, ℕ, zero, suc, ◌^◌, ◌<◌, ◌≤◌, inl, inr, List, [], ◌∷◌, ◌++◌, false, Option, Some, None, length, refl, sym, ◌∙◌, ap, subst, arith, append-nil, append_assoc}
 use Rattle.std.proofs.lemmas.List.{length-replicate}
 use Rattle.opt_system.specs.declared.answers.Mode.TheVariants.{Once}
-use Rattle.opt_system.specs.Meaning.{Meaning, undone_by, IsLawful}
+use Rattle.opt_system.specs.Meaning.{Meaning, applies, undone_by, IsLawful}
 use Rattle.opt_core.specs.declared.event.Ending.{Ending}
+use Rattle.opt_core.specs.declared.event.Reply.{Reply}
 use Rattle.opt_core.specs.declared.event.Reply.TheVariants as reply
+use Rattle.opt_core.specs.declared.event.Event.TheVariants as event
 use Rattle.opt_core.specs.Core.{Core, Legal, reached, AllApply, IsEnding}
 use Rattle.opt_core.specs.Steps.{AnswersWith, IsFresh}
-use Rattle.opt_core.specs.Runs.{Turn, Each, commits, committed_by, SameStart, Run, IsSound, EveryRunIsSound, EveryRunFromStart, BaseIsBack}
-use Rattle.opt_core.proofs.Legal.{none_open, used_none}
-use Rattle.opt_core.proofs.Turns.{IsTurn, turn}
+use Rattle.opt_core.specs.Runs.{Answered, Each, commits, commits_of, matches_of, SameStart, Run, IsSound, at_end, IsLateStep, EveryRunIsSound, EveryRunFromStart, BaseIsBack, LateOffersAreSteps}
+use Rattle.opt_core.proofs.Legal.{none_open, used_none, reached_snoc}
+use Rattle.opt_core.proofs.Events.{EventDoes, event_does}
+
+module _ {Found Reason : Type 0} where
+  committed_closed : {place : ℕ} {x : Ending Reason} → ◌≡◌ {A = Reply Found Reason} (reply.Committed place) (reply.Closed x) → ⊥
+  committed_closed e = cc
 
 module _ {State Found Goal Reason : Type 0} (m : Meaning State Found Goal Reason) where
   -- taking back commutes with taking back
@@ -36,7 +42,7 @@ module _ {System State Found Goal Reason : Type 0} (m : Meaning State Found Goal
   ]
 
   -- an ended core stays, and answers its ending
-  shut : (c d : Core System State Found Goal Reason) (ts : List (Turn System State Found Goal Reason)) (x : Ending Reason) → Run m c ts d → c.ending ≡ Some x → Each (λ u. u.reply ≡ reply.Closed x) ts × (d ≡ c)
+  shut : (c d : Core System State Found Goal Reason) (ts : List (Answered System State Found Goal Reason)) (x : Ending Reason) → Run m c ts d → c.ending ≡ Some x → Each (λ u. u.reply ≡ reply.Closed x) ts × (d ≡ c)
   shut c d [] x run is = (tt, run)
   shut c d (t ∷ ts) x run is =
       let before : t.before.ending ≡ Some x = ap (λ (y : Core System State Found Goal Reason). y.ending) run.0 ∙ is in
@@ -44,8 +50,8 @@ module _ {System State Found Goal Reason : Type 0} (m : Meaning State Found Goal
       let rest = shut t.after d ts x run.3 (ap (λ (y : Core System State Found Goal Reason). y.ending) a.1 ∙ before) in
       ((a.0, rest.0), rest.1 ∙ a.1 ∙ run.0)
 
-  no_turns : (c d : Core System State Found Goal Reason) → Legal m c → d ≡ c → IsSound m c [] d
-  no_turns c d l same = subst (λ (d : Core System State Found Goal Reason). IsSound m c [] d) (sym same) (record {
+  no_events : (c d : Core System State Found Goal Reason) → Legal m c → d ≡ c → IsSound m c [] d
+  no_events c d l same = subst (λ (d : Core System State Found Goal Reason). IsSound m c [] d) (sym same) (record {
     legal = tt;
     legal_end = l;
     start = record { system = refl; base = refl; goal = refl; given = refl };
@@ -55,24 +61,24 @@ module _ {System State Found Goal Reason : Type 0} (m : Meaning State Found Goal
     closed = tt;
   })
 
-  one_more : (t : Turn System State Found Goal Reason) (ts : List (Turn System State Found Goal Reason)) (d : Core System State Found Goal Reason) → Legal m t.before
-      → IsTurn m t.before t.event t.reply t.after → Run m t.after ts d → IsSound m t.after ts d → IsSound m t.before (t ∷ ts) d
+  one_more : (t : Answered System State Found Goal Reason) (ts : List (Answered System State Found Goal Reason)) (d : Core System State Found Goal Reason) → Legal m t.before
+      → EventDoes m t.before t.event t.reply t.after → Run m t.after ts d → IsSound m t.after ts d → IsSound m t.before (t ∷ ts) d
   one_more t ts d l one run rest =
       let start = starts one.start rest.start in record {
         legal = (one.legal, rest.legal);
         legal_end = rest.legal_end;
         start = start;
         answers = (one.says, rest.answers);
-        entries_are = rest.entries_are ∙ ap (λ (fs : List Found). fs ++ commits ts) one.adds ∙ append_assoc t.before.entries (committed_by t.event t.reply) (commits ts);
+        entries_are = rest.entries_are ∙ ap (λ (fs : List Found). fs ++ commits ts) one.adds ∙ append_assoc t.before.entries (matches_of (commits_of t.event t.reply)) (commits ts);
         once = λ once. at_most_one d rest.legal_end (ap m.mode start.goal ∙ once);
         closed = ((λ x is. shut t.after d ts x run is), rest.closed);
       }
 
-  sound : IsLawful m → (c d : Core System State Found Goal Reason) (ts : List (Turn System State Found Goal Reason)) → Legal m c → Run m c ts d → IsSound m c ts d
-  sound lawful c d [] l run = no_turns c d l run
+  sound : IsLawful m → (c d : Core System State Found Goal Reason) (ts : List (Answered System State Found Goal Reason)) → Legal m c → Run m c ts d → IsSound m c ts d
+  sound lawful c d [] l run = no_events c d l run
   sound lawful c d (t ∷ ts) l run =
       let before = subst (λ (y : Core System State Found Goal Reason). Legal m y) (sym run.0) l in
-      let one = turn m t.before t.after t.event t.reply lawful before run.1 run.2 in
+      let one = event_does m t.before t.after t.event t.reply lawful before run.1 run.2 in
       subst (λ (y : Core System State Found Goal Reason). IsSound m y (t ∷ ts) d) run.0
       (one_more t ts d before one run.3 (sound lawful t.after d ts one.legal run.3))
 
@@ -89,14 +95,28 @@ module _ {System State Found Goal Reason : Type 0} (m : Meaning State Found Goal
     ended = none_open m goal base [] (m.shares goal) left left (lawful.some_share goal);
   })
 
+  late : (o : Option (Ending Reason)) (c d : Core System State Found Goal Reason) (told place : ℕ) (f : Found) → Legal m c → told ≤ length c.entries
+      → AnswersWith m o c (event.Offer told f) (reply.Committed place) d → IsLateStep m c told place f d
+  late (Some x) c d told place f l le h = absurd (committed_closed h.0)
+  late None c d told place f l le h = record {
+    older = let e = h.0 in omega arith;
+    place_is = h.0;
+    applies_now = subst (λ (s : State). m.judged c.goal s f ≡ applies) l.at_all h.1;
+    entries_are = ap (λ (y : Core System State Found Goal Reason). y.entries) h.3;
+    state_is = ap (λ (y : Core System State Found Goal Reason). at_end m y) h.3 ∙ reached_snoc m c.base c.entries f;
+  }
+
 module _ (System : Type 0) {State Found Goal Reason : Type 0} (m : Meaning State Found Goal Reason) where
   pub every_run : IsLawful m → EveryRunIsSound System m
-  every_run lawful c d turns l run = sound m lawful c d turns l run
+  every_run lawful c d es l run = sound m lawful c d es l run
 
   pub from_start : IsLawful m → EveryRunFromStart System m
-  from_start lawful c d turns s base goal left few bounded is run =
-      let all = sound m lawful c d turns (fresh m lawful c s base goal left few bounded is) run in
-      (all, all.entries_are ∙ ap (λ (y : Core System State Found Goal Reason). y.entries ++ commits turns) is)
+  from_start lawful c d es s base goal left few bounded is run =
+      let all = sound m lawful c d es (fresh m lawful c s base goal left few bounded is) run in
+      (all, all.entries_are ∙ ap (λ (y : Core System State Found Goal Reason). y.entries ++ commits es) is)
 
   pub base_is_back : IsLawful m → BaseIsBack System m
   base_is_back lawful c l = ap (λ (at : State). undone_by m (length c.entries) at) l.at_all ∙ taken_back m lawful c.goal c.base c.entries l.each_applies
+
+  pub late_steps : LateOffersAreSteps System m
+  late_steps c d told place f l may h = late m c.ending c d told place f l may.0 h

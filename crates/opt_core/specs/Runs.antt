@@ -13,7 +13,7 @@ use Rattle.opt_core.specs.Core.{Core, Legal, IsEnding, reached}
 use Rattle.opt_core.specs.Steps.{MayCome, Answers, IsFresh, with_quiet}
 
 -- one event with its answer, and the cores before and after it
-pub record Turn (System State Found Goal Reason : Type 0) : Type 0 where
+pub record Answered (System State Found Goal Reason : Type 0) : Type 0 where
   pub before : Core System State Found Goal Reason
   pub event : Event Found
   pub reply : Reply Found Reason
@@ -28,21 +28,26 @@ module _ {Found : Type 0} where
   MayWant (event.Quiet told share) = ⊥
   MayWant event.Stop = ⊥
 
-  -- the match that an event and its answer commit, if they commit one
-  abbrev pub committed_by : {Reason : Type 0} → Event Found → Reply Found Reason → List Found
-  committed_by (event.Offer told f) (reply.Committed p) = f ∷ []
-  committed_by e r = []
+  -- the commit of an event and its answer, with its place: an offer that was answered Committed
+  abbrev pub commits_of : {Reason : Type 0} → Event Found → Reply Found Reason → List (ℕ × Found)
+  commits_of (event.Offer told f) (reply.Committed place) = (place, f) ∷ []
+  commits_of e r = []
+
+  -- commits without their places
+  abbrev pub matches_of : List (ℕ × Found) → List Found
+  matches_of [] = []
+  matches_of (x ∷ xs) = x.1 ∷ matches_of xs
 
 module _ {System State Found Goal Reason : Type 0} where
-  -- P holds of each turn
-  abbrev pub Each : (Turn System State Found Goal Reason → Type 0) → List (Turn System State Found Goal Reason) → Type 0
+  -- P holds of each answered event
+  abbrev pub Each : (Answered System State Found Goal Reason → Type 0) → List (Answered System State Found Goal Reason) → Type 0
   Each P [] = Unit {0}
   Each P (t ∷ ts) = P t × Each P ts
 
-  -- the matches that the turns committed, in order
-  abbrev pub commits : List (Turn System State Found Goal Reason) → List Found
+  -- the matches that were committed, in order
+  abbrev pub commits : List (Answered System State Found Goal Reason) → List Found
   commits [] = []
-  commits (t ∷ ts) = committed_by t.event t.reply ++ commits ts
+  commits (t ∷ ts) = matches_of (commits_of t.event t.reply) ++ commits ts
 
   -- both were started alike
   pub record SameStart (c d : Core System State Found Goal Reason) : Type 0 where
@@ -52,14 +57,14 @@ module _ {System State Found Goal Reason : Type 0} where
     pub given : d.given ≡ c.given
 
   -- once an ending stands, every later event is answered with it, and the core stays
-  abbrev pub StayClosed : List (Turn System State Found Goal Reason) → Core System State Found Goal Reason → Type 0
+  abbrev pub StayClosed : List (Answered System State Found Goal Reason) → Core System State Found Goal Reason → Type 0
   StayClosed [] d = Unit {0}
   StayClosed (t ∷ ts) d = ((x : Ending Reason) → t.after.ending ≡ Some x → Each (λ u. u.reply ≡ reply.Closed x) ts × (d ≡ t.after)) × StayClosed ts d
 
 module _ {System State Found Goal Reason : Type 0} (m : Meaning State Found Goal Reason) where
-  -- the turns lead from c to d: the first begins at c, each other at the core that the one before it left, the
+  -- the events lead from c to d: the first comes to c, each other to the core that the one before it left, the
   -- condition of each event holds, and each answer is one of the table
-  abbrev pub Run : Core System State Found Goal Reason → List (Turn System State Found Goal Reason) → Core System State Found Goal Reason → Type 0
+  abbrev pub Run : Core System State Found Goal Reason → List (Answered System State Found Goal Reason) → Core System State Found Goal Reason → Type 0
   Run c [] d = d ≡ c
   Run c (t ∷ ts) d = (t.before ≡ c) × MayCome m t.before t.event × Answers m t.before t.event t.reply t.after × Run t.after ts d
 
@@ -75,9 +80,9 @@ module _ {System State Found Goal Reason : Type 0} (m : Meaning State Found Goal
   IsOutdated c (event.Quiet told share) n = told < n
   IsOutdated c event.Stop n = ⊥
 
-  -- what an answer says of the entries before and after its turn
+  -- what an answer says of the entries before and after its event
   abbrev pub Says : Core System State Found Goal Reason → Event Found → Reply Found Reason → Core System State Found Goal Reason → Type 0
-  -- News: the entries past those that were told; no ending stands
+  -- News: the entries past those that the sender was told; no ending stands
   Says c e (reply.News es task) d = (told : ℕ) × (from : ℕ) × (e ≡ event.Look told from) × (es ≡ drop told c.entries) × (c.ending ≡ None) × (d ≡ c)
   -- Committed(p): the offered match applies at the p entries, and is entry p
   Says c e (reply.Committed p) d = (told : ℕ) × (f : Found) × (e ≡ event.Offer told f) × (p ≡ length c.entries)
@@ -93,32 +98,46 @@ module _ {System State Found Goal Reason : Type 0} (m : Meaning State Found Goal
   -- NoMemory: nothing changed; Quiet and Stop take no memory
   Says c e reply.NoMemory d = MayWant e × (d ≡ c)
 
-  -- what holds of turns that lead from c to d
-  pub record IsSound (c : Core System State Found Goal Reason) (turns : List (Turn System State Found Goal Reason)) (d : Core System State Found Goal Reason) : Type 0 where
+  -- what holds of events that lead from c to d
+  pub record IsSound (c : Core System State Found Goal Reason) (es : List (Answered System State Found Goal Reason)) (d : Core System State Found Goal Reason) : Type 0 where
     -- the core stays legal
-    pub legal : Each (λ t. Legal m t.after) turns
+    pub legal : Each (λ t. Legal m t.after) es
     pub legal_end : Legal m d
     -- system, base, goal and items given stay
     pub start : SameStart c d
     -- each answer is true
-    pub answers : Each (λ t. Says t.before t.event t.reply t.after) turns
+    pub answers : Each (λ t. Says t.before t.event t.reply t.after) es
     -- the entries are those from before and then each match that was answered Committed, in that order
-    pub entries_are : d.entries ≡ c.entries ++ commits turns
+    pub entries_are : d.entries ≡ c.entries ++ commits es
     -- a goal of one match gets at most one entry
     pub once : m.mode c.goal ≡ Once → length d.entries ≤ 1
     -- after the ending, every event is answered Closed with it
-    pub closed : StayClosed turns d
+    pub closed : StayClosed es d
+
+  -- a match that was found at the first `told` entries, and was committed at `place`, is a step from the state that the
+  -- entries before it reach: it applies there, it is the next entry, and with it they reach the state after its step
+  pub record IsLateStep (c : Core System State Found Goal Reason) (told place : ℕ) (f : Found) (d : Core System State Found Goal Reason) : Type 0 where
+    pub older : told ≤ place
+    pub place_is : place ≡ length c.entries
+    pub applies_now : m.judged c.goal (at_end c) f ≡ applies
+    pub entries_are : d.entries ≡ c.entries ++ f ∷ []
+    pub state_is : at_end d ≡ m.after (at_end c) f
 
 module _ (System : Type 0) {State Found Goal Reason : Type 0} (m : Meaning State Found Goal Reason) where
   -- whatever events come to a legal core, from whatever senders
   abbrev pub EveryRunIsSound : Type 0
-  EveryRunIsSound = (c d : Core System State Found Goal Reason) (turns : List (Turn System State Found Goal Reason)) → Legal m c → Run m c turns d → IsSound m c turns d
+  EveryRunIsSound = (c d : Core System State Found Goal Reason) (es : List (Answered System State Found Goal Reason)) → Legal m c → Run m c es d → IsSound m c es d
 
   -- the same from a core that was just started: its entries are then just the matches that were answered Committed
   abbrev pub EveryRunFromStart : Type 0
-  EveryRunFromStart = (c d : Core System State Found Goal Reason) (turns : List (Turn System State Found Goal Reason)) (s : System) (base : State) (goal : Goal) (left : ℕ)
-      → m.shares goal < 2 ^ 32 → left < 2 ^ 64 → IsFresh m c s base goal left → Run m c turns d → IsSound m c turns d × (d.entries ≡ commits turns)
+  EveryRunFromStart = (c d : Core System State Found Goal Reason) (es : List (Answered System State Found Goal Reason)) (s : System) (base : State) (goal : Goal) (left : ℕ)
+      → m.shares goal < 2 ^ 32 → left < 2 ^ 64 → IsFresh m c s base goal left → Run m c es d → IsSound m c es d × (d.entries ≡ commits es)
 
   -- the base is the state with all entries taken back
   abbrev pub BaseIsBack : Type 0
   BaseIsBack = (c : Core System State Found Goal Reason) → Legal m c → undone_by m (length c.entries) c.state ≡ c.base
+
+  -- a commit whose search was made at an older list of entries
+  abbrev pub LateOffersAreSteps : Type 0
+  LateOffersAreSteps = (c d : Core System State Found Goal Reason) (told place : ℕ) (f : Found) → Legal m c
+      → MayCome m c (event.Offer told f) → Answers m c (event.Offer told f) (reply.Committed place) d → IsLateStep m c told place f d

@@ -1,7 +1,7 @@
 //! What holds of every list of events. Each function does nothing: its contract is the law, over the definitions
 //! that `Core::start` and `Core::step` cite.
 
-ghost use Rattle.opt_core.specs.Runs.{EveryRunIsSound, EveryRunFromStart, BaseIsBack};
+ghost use Rattle.opt_core.specs.Runs.{EveryRunIsSound, EveryRunFromStart, BaseIsBack, LateOffersAreSteps};
 
 use opt_system::System;
 
@@ -15,4 +15,9 @@ pub fn every_run_is_sound<S: System>()
 /// The base of a legal core is its state with all entries taken back.
 pub fn base_is_the_state_taken_back<S: System>()
     ensures { (s : S) → BaseIsBack S (S.means s) }
+{}
+
+/// A commit is a step from the state that the entries before it reach, however few of them its search saw.
+pub fn a_late_offer_commits_a_step<S: System>()
+    ensures { (s : S) → LateOffersAreSteps S (S.means s) }
 {}

@@ -8,7 +8,8 @@ use Rattle.opt_gate.specs.declared.ask.Ask.TheVariants as ask
 use Rattle.opt_gate.specs.declared.key.Key.{Key}
 use Rattle.opt_gate.specs.Lists.{AllAt, times, once_below}
 use Rattle.opt_gate.specs.Pass.{GateView, PassView, OwnsRightly, IsWhole, first_pass, pass_after_split, new_pass, joined_pass}
-use Rattle.opt_gate.specs.Turn.{event_of, commits_of, pass_after}
+use Rattle.opt_core.specs.Runs.{commits_of}
+use Rattle.opt_gate.specs.Turn.{event_of, pass_after}
 
 both_places : (place n : ℕ) → cond (place == 0) 1 0 + 0 ≡ once_below 0 (suc (suc n)) → cond (place == 1) 1 0 + 0 ≡ once_below 1 (suc (suc n)) → ⊥
 both_places place n a b = grind (arith, nat_tests)

@@ -7,8 +7,8 @@ use Rattle.atomic_table.proofs.Lists.{at_set, set_else}
 use Rattle.opt_core.specs.declared.event.Ending.{Ending}
 use Rattle.opt_gate.specs.declared.view.View.{View}
 use Rattle.opt_gate.specs.Lists.{times}
-use Rattle.opt_gate.specs.Rule.{has, has_ticket, At, Turns, Knows, Placed, Ruled}
-use Rattle.opt_gate.specs.Plays.{waiting, Drew}
+use Rattle.opt_gate.specs.inside.Rule.{has, has_ticket, At, Turns, Knows, Placed, Ruled}
+use Rattle.opt_gate.specs.inside.Plays.{waiting, Drew}
 use Rattle.opt_gate.proofs.Sums.{total_set, total_same}
 use Rattle.opt_gate.proofs.Tickets.{next_word, drawn_words}
 

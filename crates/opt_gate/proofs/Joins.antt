@@ -6,9 +6,10 @@ use Rattle.atomic_table.specs.Table.{Joins}
 use Rattle.atomic_table.proofs.Lists.{at_set, set_else}
 use Rattle.opt_core.specs.declared.event.Ending.{Ending}
 use Rattle.opt_gate.specs.declared.view.View.{View}
-use Rattle.opt_gate.specs.Lists.{total, times, StartsWith, by_length, longer, shorter, first_of}
-use Rattle.opt_gate.specs.Rule.{has_ticket, At, Turns, Knows, Placed, Ruled}
-use Rattle.opt_gate.specs.Plays.{joined, spent}
+use Rattle.opt_gate.specs.Lists.{times, StartsWith, by_length, longer, either_of}
+use Rattle.opt_gate.specs.inside.Totals.{total, shorter}
+use Rattle.opt_gate.specs.inside.Rule.{has_ticket, At, Turns, Knows, Placed, Ruled}
+use Rattle.opt_gate.specs.inside.Plays.{joined, spent}
 use Rattle.opt_gate.proofs.Sums.{total_set}
 use Rattle.opt_gate.proofs.Draws.{not_served, none_has, no_ending}
 use Rattle.opt_gate.proofs.Passes.{not_none, off_on}
@@ -22,18 +23,18 @@ module _ {F R : Type 0} (log : List F) (end : Option (Ending R)) where
   -- what is known where a list and an ending are taken that know more, before others
   record Merged (a b : List F) (x y : Option (Ending R)) : Type 0 where
     known : StartsWith log a
-    ended : (z : Ending R) → first_of x y ≡ Some z → (end ≡ Some z) × (a ≡ log)
+    ended : (z : Ending R) → either_of x y ≡ Some z → (end ≡ Some z) × (a ≡ log)
     other : StartsWith a b
-    other_ended : (z : Ending R) → y ≡ Some z → (first_of x y ≡ Some z) × (b ≡ a)
+    other_ended : (z : Ending R) → y ≡ Some z → (either_of x y ≡ Some z) × (b ≡ a)
 
   all_of : (a b : List F) → StartsWith log a → b ≡ log → length b ≤ length a → a ≡ log
   all_of a b p e le = whole log a p (let n = ap (λ (l : List F). length l) e in omega arith)
 
-  first_ended : (a b : List F) (x y : Option (Ending R)) → IsKnown a x → IsKnown b y → length b ≤ length a → (z : Ending R) → first_of x y ≡ Some z → (end ≡ Some z) × (a ≡ log)
+  first_ended : (a b : List F) (x y : Option (Ending R)) → IsKnown a x → IsKnown b y → length b ≤ length a → (z : Ending R) → either_of x y ≡ Some z → (end ≡ Some z) × (a ≡ log)
   first_ended a b (Some x) y p q le z e = p.1 z e
   first_ended a b None y p q le z e = let r = q.1 z e in (r.0, all_of a b p.0 r.1 le)
 
-  other_first : (a : List F) (x y : Option (Ending R)) → IsKnown a x → (z : Ending R) → end ≡ Some z → y ≡ Some z → first_of x y ≡ Some z
+  other_first : (a : List F) (x y : Option (Ending R)) → IsKnown a x → (z : Ending R) → end ≡ Some z → y ≡ Some z → either_of x y ≡ Some z
   other_first a (Some x) y p z e f = sym (p.1 x refl).0 ∙ e
   other_first a None y p z e f = f
 

@@ -2,7 +2,7 @@ mod Sums
 mod Tickets
 mod Prefixes
 mod Owns
-mod Tells
+mod Shows
 pub mod Draws
 pub mod Watches
 pub mod Passes

@@ -5,7 +5,8 @@ use Rattle.std.proofs.Math.Seq.{drop-append_seam}
 use Rattle.std.proofs.lemmas.List.{length-append}
 use mathlib.Core.Option.{some}
 use lib.ListN.{get_elem?}
-use Rattle.opt_gate.specs.Lists.{StartsWith, AllAt, times, placed_from, once_below}
+use Rattle.opt_gate.specs.Lists.{StartsWith, AllAt, times, once_below}
+use Rattle.opt_gate.specs.inside.Totals.{placed_from}
 use Rattle.opt_gate.proofs.Prefixes.{all_longer}
 
 pub once_more : (p n : ℕ) → once_below p n + cond (n == p) 1 0 ≡ once_below p (n + 1)

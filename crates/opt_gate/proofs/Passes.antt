@@ -9,16 +9,17 @@ use Rattle.atomic_table.specs.Table.{Me, Step, Allows, step, gives}
 use Rattle.atomic_table.proofs.Lists.{at_set, set_here}
 use Rattle.opt_core.specs.declared.event.Ending.{Ending}
 use Rattle.opt_gate.specs.declared.view.View.{View}
-use Rattle.opt_gate.specs.Lists.{times, once_below, StartsWith, placed_from}
-use Rattle.opt_gate.specs.Rule.{has, has_ticket, At, Turns, Knows, Tally, Placed, Ruled}
-use Rattle.opt_gate.specs.Plays.{passed, Passed, Tells}
-use Rattle.opt_gate.specs.Follow.{MayFollow}
+use Rattle.opt_gate.specs.Lists.{times, once_below, StartsWith}
+use Rattle.opt_gate.specs.inside.Totals.{placed_from}
+use Rattle.opt_gate.specs.inside.Rule.{has, has_ticket, At, Turns, Knows, Tally, Placed, Ruled}
+use Rattle.opt_gate.specs.inside.Plays.{passed, Passed, Shows}
+use Rattle.opt_gate.specs.inside.Follow.{MayFollow}
 use Rattle.opt_gate.proofs.Sums.{total_set, total_same}
 use Rattle.opt_gate.proofs.Tickets.{passed_words}
 use Rattle.opt_gate.proofs.Prefixes.{starts_self, starts_trans, at_below}
 use Rattle.opt_gate.proofs.Owns.{owns_more, counts_more, times_append}
 use Rattle.opt_gate.proofs.Draws.{no_ending}
-use Rattle.opt_gate.proofs.Tells.{told}
+use Rattle.opt_gate.proofs.Shows.{told}
 
 pub not_true : (b : Bool) → (b ≡ true → ⊥) → b ≡ false
 not_true true n = absurd (n refl)
@@ -141,9 +142,9 @@ module _ {K F R C : Type 0} (entries : C → List F) (ended : C → Option (Endi
       pass_knowing i u e = ⊎_elim (λ z. subst (λ (x : View K F R). Knows key (entries c) (ended c) x) z.1 (pass_knows log end (knowing id v at) room))
           (λ z. still_knows log end el ee u (knowing i u z.1)) (at_set views id i w u e)
 
-      pass_tells : Tells passes (passed entries ended Same passes stops v c)
+      pass_shows : Shows passes (passed entries ended Same passes stops v c)
       unfolding w
-      pass_tells = told passes key (served + 1) drawn (set ws 0 ((get_or ws 0 0 + 1) % 2 ^ 64)) (entries c) (ended c) (set views id w) (pass_turns served drawn (passes key) ws views turns at)
+      pass_shows = told passes key (served + 1) drawn (set ws 0 ((get_or ws 0 0 + 1) % 2 ^ 64)) (entries c) (ended c) (set views id w) (pass_turns served drawn (passes key) ws views turns at)
           pass_knowing (pass_tally log end views at el ee tally) id w (set_here views id w (at_below views id v at)) room
 
     pub passes_on : (slots : ℕ) → 0 < slots → Allows (Ruled entries ended Same passes key) slots id (v, (0, Some c) ∷ []) 0 (λ n. (n + 1) % 2 ^ 64) (Passed entries ended Same passes stops (step slots 0 1 0 core.none) (v, (0, Some c) ∷ []))
@@ -164,8 +165,8 @@ module _ {K F R C : Type 0} (entries : C → List F) (ended : C → Option (Endi
             knowing = pass_knowing r.served r.drawn s.words r.log r.end s.views r.turns r.knowing r.tally at all.0 all.1;
             tally = pass_tally r.log r.end s.views at all.0 all.1 r.tally;
           },
-          λ c' is. subst (λ (x : C). (◌≡◌ {A = Me (Option C) (View K F R)} (w, no_slots) (passed entries ended Same passes stops v x, no_slots)) × Tells passes (passed entries ended Same passes stops v x)) (same_core c c' is)
-              (refl, pass_tells r.served r.drawn s.words r.log r.end s.views r.turns r.knowing r.tally at all.0 all.1),
+          λ c' is. subst (λ (x : C). (◌≡◌ {A = Me (Option C) (View K F R)} (w, no_slots) (passed entries ended Same passes stops v x, no_slots)) × Shows passes (passed entries ended Same passes stops v x)) (same_core c c' is)
+              (refl, pass_shows r.served r.drawn s.words r.log r.end s.views r.turns r.knowing r.tally at all.0 all.1),
         )
 
     pub passes_on_at : (slots : ℕ) → 0 < slots → (m : Me (Option C) (View K F R)) → m ≡ (v, (0, Some c) ∷ []) → Allows (Ruled entries ended Same passes key) slots id m 0 (λ n. (n + 1) % 2 ^ 64) (Passed entries ended Same passes stops (step slots 0 1 0 core.none) m)
@@ -173,8 +174,8 @@ module _ {K F R C : Type 0} (entries : C → List F) (ended : C → Option (Endi
         subst P (sym e) (passes_on slots some)
 
 module _ {K F R C : Type 0} (entries : C → List F) (ended : C → Option (Ending R)) (Same : K → C → Type 0) (passes : K → ℕ) where
-  -- what a passed turn tells, by whether it asked to stop
-  pub told_of : (b is_stop : Bool) (st : Step (Option C)) (m n : Me (Option C) (View K F R)) (v : View K F R) (c : C) (r : ℕ) → is_stop ≡ b → m ≡ (v, (0, Some c) ∷ []) → Passed entries ended Same passes (if b then 1 else 0) st m r n
-      → Tells passes (passed entries ended Same passes (if is_stop then 1 else 0) v c)
-  told_of b is_stop st m n v c r is me told = subst (λ (s : Bool). Tells passes (passed entries ended Same passes (if s then 1 else 0) v c)) (sym is)
-      (subst (λ (x : Me (Option C) (View K F R)). Tells passes (passed entries ended Same passes (if b then 1 else 0) x.0 c)) me (told c (ap (λ (x : Me (Option C) (View K F R)). x.1) me)).1)
+  -- what a passed turn shows, by whether it asked to stop
+  pub shown_of : (b is_stop : Bool) (st : Step (Option C)) (m n : Me (Option C) (View K F R)) (v : View K F R) (c : C) (r : ℕ) → is_stop ≡ b → m ≡ (v, (0, Some c) ∷ []) → Passed entries ended Same passes (if b then 1 else 0) st m r n
+      → Shows passes (passed entries ended Same passes (if is_stop then 1 else 0) v c)
+  shown_of b is_stop st m n v c r is me told = subst (λ (s : Bool). Shows passes (passed entries ended Same passes (if s then 1 else 0) v c)) (sym is)
+      (subst (λ (x : Me (Option C) (View K F R)). Shows passes (passed entries ended Same passes (if b then 1 else 0) x.0 c)) me (told c (ap (λ (x : Me (Option C) (View K F R)). x.1) me)).1)

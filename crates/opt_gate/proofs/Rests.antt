@@ -1,4 +1,4 @@
--- A load by a seat without a ticket keeps the rule, and tells of its view.
+-- A load by a seat without a ticket keeps the rule, and shows of its view.
 use Rattle.std.proofs.Common.{◌≡◌, ℕ, ◌^◌, ◌≤◌, ◌<◌, inl, inr, ⊎_elim, List, [], false, Option, None, set, get_or, refl, sym, ◌∙◌, ap, arith, subst}
 use mathlib.Core.Option as core
 use Rattle.atomic_table.specs.Table.{Me, Step, Allows, step, keeps}
@@ -6,13 +6,13 @@ use Rattle.atomic_table.proofs.Lists.{at_set, set_else}
 use Rattle.opt_core.specs.declared.event.Ending.{Ending}
 use Rattle.opt_gate.specs.declared.view.View.{View}
 use Rattle.opt_gate.specs.Lists.{times}
-use Rattle.opt_gate.specs.Rule.{has_ticket, At, Turns, Knows, Placed, Ruled}
-use Rattle.opt_gate.specs.Plays.{resting, Told, Tells}
+use Rattle.opt_gate.specs.inside.Rule.{has_ticket, At, Turns, Knows, Placed, Ruled}
+use Rattle.opt_gate.specs.inside.Plays.{resting, Shown, Shows}
 use Rattle.opt_gate.proofs.Sums.{total_same}
 use Rattle.opt_gate.proofs.Tickets.{same_words}
 use Rattle.opt_gate.proofs.Draws.{no_true, none_has, no_ending, not_served}
 use Rattle.opt_gate.proofs.Passes.{not_none}
-use Rattle.opt_gate.proofs.Tells.{told}
+use Rattle.opt_gate.proofs.Shows.{told}
 
 module _ {K F R : Type 0} (id : ℕ) (v : View K F R) (idle : v.ticket ≡ None) (calm : v.served ≡ false) where
   rest_turns : (served drawn n : ℕ) (ws : List ℕ) (views : List (View K F R)) → Turns served drawn n ws views → At views id v
@@ -41,7 +41,7 @@ module _ {K F R : Type 0} (id : ℕ) (v : View K F R) (idle : v.ticket ≡ None)
     rest_knows : (log : List F) (end : Option (Ending R)) → Knows key log end v → Knows key log end (resting v)
     rest_knows log end k = record { keyed = k.keyed; known = k.known; ended = k.ended; own = k.own; idle = k.idle; other = (v.knows, refl); other_ended = λ x e. absurd (no_ending x e) }
 
-    pub rests : (slots : ℕ) (carried : List (ℕ × Option C)) → 0 < v.room → Allows (Ruled entries ended Same passes key) slots id (v, carried) 0 (λ n. n) (Told passes (step slots 0 0 0 core.none) (v, carried))
+    pub rests : (slots : ℕ) (carried : List (ℕ × Option C)) → 0 < v.room → Allows (Ruled entries ended Same passes key) slots id (v, carried) 0 (λ n. n) (Shown passes (step slots 0 0 0 core.none) (v, carried))
     rests slots carried some s r long at wide =
         let w = resting v in (
           w,
@@ -65,14 +65,14 @@ module _ {K F R : Type 0} (id : ℕ) (v : View K F R) (idle : v.ticket ≡ None)
 
 module _ {K F R C : Type 0} (entries : C → List F) (ended : C → Option (Ending R)) (Same : K → C → Type 0) (passes : K → ℕ) (key : K) where
   pub rests_at : (id slots : ℕ) (v : View K F R) (m : Me (Option C) (View K F R)) → m ≡ (v, []) → v.ticket ≡ None → v.served ≡ false → 0 < v.room
-      → Allows (Ruled entries ended Same passes key) slots id m 0 (λ n. n) (Told passes (step slots 0 0 0 core.none) m)
+      → Allows (Ruled entries ended Same passes key) slots id m 0 (λ n. n) (Shown passes (step slots 0 0 0 core.none) m)
   rests_at id slots v m e idle calm some =
-      let P : Me (Option C) (View K F R) → Type 0 = λ x. Allows (Ruled entries ended Same passes key) slots id x 0 (λ n. n) (Told passes (step slots 0 0 0 core.none) x) in
+      let P : Me (Option C) (View K F R) → Type 0 = λ x. Allows (Ruled entries ended Same passes key) slots id x 0 (λ n. n) (Shown passes (step slots 0 0 0 core.none) x) in
       subst P (sym e) (rests id v idle calm entries ended Same passes key slots [] some)
 
 module _ {K F R C : Type 0} (passes : K → ℕ) where
-  pub told_me : (st : Step (Option C)) (v : View K F R) (m n : Me (Option C) (View K F R)) (r : ℕ) → m ≡ (v, []) → Told passes st m r n → n ≡ (resting v, [])
-  told_me st v m n r e t = t.0 ∙ ap (λ (x : Me (Option C) (View K F R)). (resting x.0, x.1)) e
+  pub shown_me : (st : Step (Option C)) (v : View K F R) (m n : Me (Option C) (View K F R)) (r : ℕ) → m ≡ (v, []) → Shown passes st m r n → n ≡ (resting v, [])
+  shown_me st v m n r e t = t.0 ∙ ap (λ (x : Me (Option C) (View K F R)). (resting x.0, x.1)) e
 
-  pub told_tells : (st : Step (Option C)) (v : View K F R) (m n : Me (Option C) (View K F R)) (r : ℕ) → m ≡ (v, []) → Told passes st m r n → Tells passes v
-  told_tells st v m n r e t = subst (λ (x : Me (Option C) (View K F R)). Tells passes x.0) e t.1
+  pub shown_all : (st : Step (Option C)) (v : View K F R) (m n : Me (Option C) (View K F R)) (r : ℕ) → m ≡ (v, []) → Shown passes st m r n → Shows passes v
+  shown_all st v m n r e t = subst (λ (x : Me (Option C) (View K F R)). Shows passes x.0) e t.1

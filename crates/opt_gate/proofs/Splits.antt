@@ -9,12 +9,12 @@ use Rattle.opt_core.specs.declared.event.Ending.{Ending}
 use Rattle.opt_core.specs.declared.event.Ending.TheVariants as ending
 use Rattle.opt_gate.specs.declared.view.View.{View}
 use Rattle.opt_gate.specs.Lists.{times, once_below}
-use Rattle.opt_gate.specs.Rule.{view, has_ticket, At, Turns, Knows, Placed, Ruled}
-use Rattle.opt_gate.specs.Plays.{split_left, split_right}
+use Rattle.opt_gate.specs.inside.Rule.{view, has_ticket, At, Turns, Knows, Placed, Ruled}
+use Rattle.opt_gate.specs.inside.Plays.{split_left, split_right}
 use Rattle.opt_core.specs.Core.{Core}
 use Rattle.opt_core.specs.Runs.{SameStart}
 use Rattle.opt_gate.specs.declared.key.Key.{Key}
-use Rattle.opt_gate.specs.Cores.{entries_of, ended_of, IsOfKey, passes_of, first_view}
+use Rattle.opt_gate.specs.inside.Cores.{entries_of, ended_of, IsOfKey, passes_of, first_view}
 use Rattle.opt_gate.proofs.Sums.{total_set, total_same, total_snoc}
 use Rattle.opt_gate.proofs.Draws.{not_served, none_has, no_ending}
 use Rattle.opt_gate.proofs.Passes.{not_none, off_on}

@@ -11,11 +11,11 @@ use Rattle.opt_core.specs.declared.event.Reply.{Reply}
 use Rattle.opt_core.specs.Core.{Core, Legal}
 use Rattle.opt_core.specs.Steps.{Answers, MayCome}
 use Rattle.opt_gate.specs.declared.key.Key.{Key}
-use Rattle.opt_gate.specs.Plays.{waiting, serving, passed, Takes, Took, Tells}
-use Rattle.opt_gate.specs.Cores.{entries_of, ended_of, IsOfKey, passes_of}
-use Rattle.opt_gate.specs.Follow.{MayFollow}
+use Rattle.opt_gate.specs.inside.Plays.{waiting, serving, passed, Takes, Took, Shows}
+use Rattle.opt_gate.specs.inside.Cores.{entries_of, ended_of, IsOfKey, passes_of}
+use Rattle.opt_gate.specs.inside.Follow.{MayFollow}
 use Rattle.opt_gate.specs.Turn.{stops_of}
-use Rattle.opt_gate.specs.Seats.{Acts, is_stop}
+use Rattle.opt_gate.specs.inside.Seats.{Acts, is_stop}
 use Rattle.opt_gate.proofs.Follows.{follows}
 
 module _ {C : Type 0} where
@@ -47,7 +47,7 @@ module _ {K F R C : Type 0} (entries : C → List F) (ended : C → Option (Endi
       subst (λ (x : C). Took entries ended Same passes v x m3) same record {
         ticket = t;
         me = me;
-        learns = record { same = l.same; further = l.further; stands = l.stands; tells = let w = l.tells in record { own = w.own; once = w.once; other = w.other; other_ended = w.other_ended; narrow = w.narrow; all_own = w.all_own; all_stops = w.all_stops } };
+        learns = record { same = l.same; further = l.further; stands = l.stands; shows = let w = l.shows in record { own = w.own; once = w.once; other = w.other; other_ended = w.other_ended; narrow = w.narrow; all_own = w.all_own; all_stops = w.all_stops } };
       }
 
 abbrev pub none_out : {C : Type 0} → List (ℕ × Option C)
@@ -83,8 +83,8 @@ module _ {System State Found Goal Reason : Type 0} (m : Meaning State Found Goal
       })
 
   module _ (n' : Me (Option (Core System State Found Goal Reason)) (View (Key (Core System State Found Goal Reason)) Found Reason)) where
-    pub acted : n' ≡ (passed entries_of ended_of IsOfKey passes_of (if stop then 1 else 0) n.0 a, []) → Tells passes_of (passed entries_of ended_of IsOfKey passes_of (if stop then 1 else 0) n.0 a) → MayCome m b e → Legal m b → Legal m a → Acts m v e r n'
-    acted me tells came legal legal_after = record {
+    pub acted : n' ≡ (passed entries_of ended_of IsOfKey passes_of (if stop then 1 else 0) n.0 a, []) → Shows passes_of (passed entries_of ended_of IsOfKey passes_of (if stop then 1 else 0) n.0 a) → MayCome m b e → Legal m b → Legal m a → Acts m v e r n'
+    acted me shows came legal legal_after = record {
       before = b;
       after = a;
       of_key = t.learns.same;
@@ -96,6 +96,6 @@ module _ {System State Found Goal Reason : Type 0} (m : Meaning State Found Goal
       stood = t.learns.stands;
       me = me ∙ (ap (λ (k : ℕ). (passed entries_of ended_of IsOfKey passes_of k n.0 a, none_out)) count
           ∙ ap (λ (w : View (Key (Core System State Found Goal Reason)) Found Reason). (passed entries_of ended_of IsOfKey passes_of (stops_of e) w a, none_out)) sight);
-      tells = subst (λ (k : ℕ). Tells passes_of (passed entries_of ended_of IsOfKey passes_of k (serving entries_of ended_of IsOfKey passes_of v b) a)) count
-          (subst (λ (w : View (Key (Core System State Found Goal Reason)) Found Reason). Tells passes_of (passed entries_of ended_of IsOfKey passes_of (if stop then 1 else 0) w a)) sight tells);
+      shows = subst (λ (k : ℕ). Shows passes_of (passed entries_of ended_of IsOfKey passes_of k (serving entries_of ended_of IsOfKey passes_of v b) a)) count
+          (subst (λ (w : View (Key (Core System State Found Goal Reason)) Found Reason). Shows passes_of (passed entries_of ended_of IsOfKey passes_of (if stop then 1 else 0) w a)) sight shows);
     }

@@ -1,5 +1,5 @@
 -- What a turn of a seat is to its pass.
-use Rattle.std.proofs.Common.{◌≡◌, ℕ, ◌+◌, ◌≤◌, ◌<◌, ◌^◌, List, [], ◌∷◌, ◌++◌, Option, Some, None, length, take, drop, refl, sym, ◌∙◌, ap, arith, subst}
+use Rattle.std.proofs.Common.{◌≡◌, ℕ, ◌+◌, ◌≤◌, ◌<◌, List, [], ◌∷◌, ◌++◌, Option, Some, None, length, take, drop, refl, sym, ◌∙◌, ap, arith, subst}
 use Rattle.std.proofs.lemmas.List.{length-append, length-drop, take-append-le, take-append-drop, take_all, append-nil}
 use Rattle.atomic_table.specs.Table.{Me}
 use Rattle.atomic_table.specs.Seated.{TableId}
@@ -9,23 +9,24 @@ use Rattle.opt_core.specs.declared.event.Event.{Event}
 use Rattle.opt_core.specs.declared.event.Event.TheVariants as event
 use Rattle.opt_core.specs.declared.event.Reply.{Reply}
 use Rattle.opt_core.specs.declared.event.Reply.TheVariants as reply
-use Rattle.opt_core.specs.Core.{Core, Legal, IsEnding, reached, at_first}
+use Rattle.opt_core.specs.Core.{Core, Legal, reached, at_first}
 use Rattle.opt_core.specs.Steps.{Answers, AnswersWith, MayCome}
-use Rattle.opt_core.specs.Runs.{SameStart, Says, committed_by}
-use Rattle.opt_core.proofs.Turns.{turn}
-use Rattle.opt_core.proofs.Legal.{few_entries}
+use Rattle.opt_core.specs.Runs.{SameStart, Says, commits_of, matches_of}
+use Rattle.opt_core.proofs.Events.{event_does}
 use Rattle.opt_gate.specs.declared.ask.Ask.{Ask}
 use Rattle.opt_gate.specs.declared.ask.Ask.TheVariants as ask
 use Rattle.opt_gate.specs.declared.key.Key.{Key}
 use Rattle.opt_gate.specs.declared.view.View.{View}
-use Rattle.opt_gate.specs.Lists.{StartsWith, placed_from}
-use Rattle.opt_gate.specs.Cores.{entries_of, ended_of, IsOfKey, passes_of}
-use Rattle.opt_gate.specs.Plays.{resting, serving, passed, Tells}
+use Rattle.opt_gate.specs.Lists.{StartsWith}
+use Rattle.opt_gate.specs.inside.Totals.{placed_from}
+use Rattle.opt_gate.specs.inside.Cores.{entries_of, ended_of, IsOfKey, passes_of}
+use Rattle.opt_gate.specs.inside.Plays.{resting, serving, passed, Shows}
 use Rattle.opt_gate.specs.Pass.{PassView, IsWhole}
-use Rattle.opt_gate.specs.Turn.{event_of, stops_of, commits_of, news_of, entries_told, pass_after, told_after, MayAsk, IsTrueEnding, IsOneEvent}
-use Rattle.opt_gate.specs.Seats.{told_and_handed, Acts}
+use Rattle.opt_gate.specs.Turn.{event_of, stops_of, news_of, entries_told, pass_after, told_after, MayAsk, IsTrueEnding, IsOneEvent}
+use Rattle.opt_gate.specs.inside.Seats.{told_and_handed, Acts}
 use Rattle.opt_gate.proofs.Owns.{rest_is}
 use Rattle.opt_gate.proofs.Taking.{none_out}
+use Rattle.opt_gate.proofs.Prefixes.{starts_trans}
 
 module _ {A : Type 0} where
   take_seen : (list seen : List A) (n : ℕ) → StartsWith list seen → n ≤ length seen → take n list ≡ take n seen
@@ -92,7 +93,7 @@ module _ {System State Found Goal Reason : Type 0} (m : Meaning State Found Goal
     handed a reply.NoMemory h = refl
 
   -- the entries that a turn adds, with their places
-  placed : (c d : Core System State Found Goal Reason) (e : Event Found) (r : Reply Found Reason) → Says m c e r d → placed_from (length c.entries) (committed_by e r) ≡ commits_of e r
+  placed : (c d : Core System State Found Goal Reason) (e : Event Found) (r : Reply Found Reason) → Says m c e r d → placed_from (length c.entries) (matches_of (commits_of e r)) ≡ commits_of e r
   placed c d (event.Offer told f) (reply.Committed place) s = ap (λ (n : ℕ). (n, f) ∷ []) (sym s.3)
   placed c d (event.Offer told f) (reply.News es task) s = refl
   placed c d (event.Offer told f) (reply.Stale n) s = refl
@@ -106,10 +107,10 @@ module _ {System State Found Goal Reason : Type 0} (m : Meaning State Found Goal
 
   commits : (c d : Core System State Found Goal Reason) (e : Event Found) (r : Reply Found Reason) → IsLawful m → Legal m c → MayCome m c e → Answers m c e r d
       → placed_from (length c.entries) (drop (length c.entries) d.entries) ≡ commits_of e r
-  commits c d e r lawful legal may h = let t = turn m c d e r lawful legal may h in placed_rest d.entries c.entries (committed_by e r) t.adds ∙ placed c d e r t.says
+  commits c d e r lawful legal may h = let t = event_does m c d e r lawful legal may h in placed_rest d.entries c.entries (matches_of (commits_of e r)) t.adds ∙ placed c d e r t.says
 
   adds : (c d : Core System State Found Goal Reason) (e : Event Found) (r : Reply Found Reason) → IsLawful m → Legal m c → MayCome m c e → Answers m c e r d → StartsWith d.entries c.entries
-  adds c d e r lawful legal may h = let t = turn m c d e r lawful legal may h in (committed_by e r, t.adds)
+  adds c d e r lawful legal may h = let t = event_does m c d e r lawful legal may h in (matches_of (commits_of e r), t.adds)
 
   -- what was told then: what was told before, and the entries of the News
   module _ (c d : Core System State Found Goal Reason) (told : ℕ) (le : told ≤ length c.entries) where
@@ -138,12 +139,7 @@ module _ {System State Found Goal Reason : Type 0} (m : Meaning State Found Goal
 
   -- the ending of a legal core is true after its entries
   pub true_ending : (start d : Core System State Found Goal Reason) → SameStart start d → Legal m d → (x : Ending Reason) → d.ending ≡ Some x → IsTrueEnding m start d.entries x
-  true_ending start d same legal x is =
-      let at : d.state ≡ reached m start.base d.entries = legal.at_all ∙ ap (λ (b : State). reached m b d.entries) same.base in
-      let a : IsEnding m d.goal d.state d.entries d.quiet d.given d.left (Some x) = subst (λ (o : Option (Ending Reason)). IsEnding m d.goal d.state d.entries d.quiet d.given d.left o) is legal.ended in
-      let b : IsEnding m d.goal d.state d.entries d.quiet start.given d.left (Some x) = subst (λ (n : ℕ). IsEnding m d.goal d.state d.entries d.quiet n d.left (Some x)) same.given a in
-      let c : IsEnding m start.goal d.state d.entries d.quiet start.given d.left (Some x) = subst (λ (g : Goal). IsEnding m g d.state d.entries d.quiet start.given d.left (Some x)) same.goal b in
-      (d.quiet, d.left, subst (λ (s : State). IsEnding m start.goal s d.entries d.quiet start.given d.left (Some x)) at c)
+  true_ending start d same legal x is = record { core = d; of_start = same; legal = legal; entries = refl; ending = is }
 
 -- what contracts see of a seat's view
 module _ {K F R : Type 0} where
@@ -158,7 +154,7 @@ module _ {System State Found Goal Reason : Type 0} where
   of_its_key o k key c e f same = subst (λ (x : Key (Core System State Found Goal Reason)). SameStart x.core.value c) (one_key o k key e f) same
 
   pub whole_pass : (key : Key (Core System State Found Goal Reason)) (v : View (Key (Core System State Found Goal Reason)) Found Reason) (table : TableId) (number told room : ℕ)
-      → Tells passes_of v → v.key ≡ Some key → room ≡ v.room → IsWhole key (seen_as v table number told room)
+      → Shows passes_of v → v.key ≡ Some key → room ≡ v.room → IsWhole key (seen_as v table number told room)
   whole_pass key v table number told room t is same = record {
     each_once = λ full. t.all_own key is (sym same ∙ full);
     stopped = λ full. t.all_stops key is (sym same ∙ full);
@@ -181,8 +177,8 @@ module _ {System State Found Goal Reason : Type 0} (m : Meaning State Found Goal
   now_told = handed m acts.before acts.after told told_b a r answered
 
   longer_after : length acts.before.entries ≤ length acts.after.entries
-  longer_after = let t = turn m acts.before acts.after e r lawful acts.legal acts.may_come acts.answers in
-      let x = ap (λ (l : List Found). length l) t.adds in let y = length-append acts.before.entries (committed_by e r) in omega arith
+  longer_after = let t = event_does m acts.before acts.after e r lawful acts.legal acts.may_come acts.answers in
+      let x = ap (λ (l : List Found). length l) t.adds in let y = length-append acts.before.entries (matches_of (commits_of e r)) in omega arith
 
   sight : n.0 ≡ passed entries_of ended_of IsOfKey passes_of (stops_of e) (serving entries_of ended_of IsOfKey passes_of v acts.before) acts.after
   sight = ap (λ (x : Me (Option (Core System State Found Goal Reason)) (View (Key (Core System State Found Goal Reason)) Found Reason)). x.0) acts.me
@@ -193,12 +189,6 @@ module _ {System State Found Goal Reason : Type 0} (m : Meaning State Found Goal
       let x : n.0.knows ≡ acts.after.entries = ap (λ (w : View (Key (Core System State Found Goal Reason)) Found Reason). w.knows) sight in
       let y = ap (λ (l : List Found). length l) x in let z = told_fits told (length acts.after.entries) r (let l = longer_after in let t = told_b in omega arith) in
       let w = now_told in omega arith
-
-  pub told_narrow : told_and_handed told r < 2 ^ 64
-  told_narrow = let l = acts.legal_after in
-      let few = few_entries m acts.after.goal acts.after.base acts.after.state acts.after.entries acts.after.quiet acts.after.given acts.after.left acts.after.ending l in
-      let x : n.0.knows ≡ acts.after.entries = ap (λ (w : View (Key (Core System State Found Goal Reason)) Found Reason). w.knows) sight in
-      let y = ap (λ (l : List Found). length l) x in let z = told_known in omega arith
 
   -- the pass after the turn, with these commits, told number and stops
   after_with : List (ℕ × Found) → ℕ → ℕ → PassView (Key (Core System State Found Goal Reason)) Found Reason
@@ -253,13 +243,18 @@ module _ {System State Found Goal Reason : Type 0} (m : Meaning State Found Goal
   ending_known x end =
       let known : n.0.knows ≡ acts.after.entries = ap (λ (w : View (Key (Core System State Found Goal Reason)) Found Reason). w.knows) sight in
       let ended : acts.after.ending ≡ Some x = sym (ap (λ (w : View (Key (Core System State Found Goal Reason)) Found Reason). w.ending) sight) ∙ end in
-      let t = turn m acts.before acts.after e r lawful acts.legal acts.may_come acts.answers in let o = acts.of_key key keyed in
+      let t = event_does m acts.before acts.after e r lawful acts.legal acts.may_come acts.answers in let o = acts.of_key key keyed in
       let same : SameStart key.core.value acts.after = record { system = t.start.system ∙ o.system; base = t.start.base ∙ o.base; goal = t.start.goal ∙ o.goal; given = t.start.given ∙ o.given } in
       subst (λ (l : List Found). IsTrueEnding m key.core.value l x) (sym known) (true_ending m key.core.value acts.after same acts.legal_after x ended)
 
+  -- what the pass knew begins what it knows then
+  pub further_then : StartsWith n.0.knows v.knows
+  further_then = starts_trans n.0.knows acts.before.entries v.knows
+      (subst (λ (l : List Found). StartsWith l acts.before.entries) (sym known_is) (adds m acts.before acts.after e r lawful acts.legal acts.may_come acts.answers)) acts.knew
+
   pub whole_then : (table' : TableId) (told' : ℕ) → room ≡ v.room → IsWhole key (seen_as n.0 table' number told' room)
   whole_then table' told' same = subst (λ (w : View (Key (Core System State Found Goal Reason)) Found Reason). IsWhole key (seen_as w table' number told' room)) (sym sight)
-      (whole_pass key (passed entries_of ended_of IsOfKey passes_of (stops_of e) (serving entries_of ended_of IsOfKey passes_of v acts.before) acts.after) table' number told' room acts.tells keyed same)
+      (whole_pass key (passed entries_of ended_of IsOfKey passes_of (stops_of e) (serving entries_of ended_of IsOfKey passes_of v acts.before) acts.after) table' number told' room acts.shows keyed same)
 
   pub room_stays : n.0.room ≡ v.room
   room_stays = ap (λ (w : View (Key (Core System State Found Goal Reason)) Found Reason). w.room) sight

@@ -9,13 +9,13 @@ use Rattle.atomic_table.proofs.Lists.{at_set, set_here, set_again, one_turn}
 use Rattle.opt_core.specs.declared.event.Ending.{Ending}
 use Rattle.opt_gate.specs.declared.view.View.{View}
 use Rattle.opt_gate.specs.Lists.{times}
-use Rattle.opt_gate.specs.Rule.{has, has_ticket, At, Turns, Knows, Tally, Placed, Ruled}
-use Rattle.opt_gate.specs.Plays.{serving, Learns, Watched}
+use Rattle.opt_gate.specs.inside.Rule.{has, has_ticket, At, Turns, Knows, Tally, Placed, Ruled}
+use Rattle.opt_gate.specs.inside.Plays.{serving, Learns, Watched}
 use Rattle.opt_gate.proofs.Sums.{total_same, total_le}
 use Rattle.opt_gate.proofs.Tickets.{served_word, same_words}
 use Rattle.opt_gate.proofs.Prefixes.{starts_self, all_further, at_below}
 use Rattle.opt_gate.proofs.Draws.{some_same, not_served, no_ending}
-use Rattle.opt_gate.proofs.Tells.{told}
+use Rattle.opt_gate.proofs.Shows.{told}
 
 some_key : {K : Type 0} (a b : K) → Some a ≡ Some b → a ≡ b
 some_key a b e = cc
@@ -90,7 +90,7 @@ module _ {K F R : Type 0} (id : ℕ) (v : View K F R) (calm : v.served ≡ false
             same = λ k' is. subst (λ (x : K). Same x c) (⊎_elim (λ e. some_key key k' (sym e ∙ is)) (λ none. absurd (omega arith)) k.keyed) same;
             further = (k.known.0, el ∙ k.known.1);
             stands = λ x e. let s = k.ended x e in (ee ∙ s.0, el ∙ sym s.1);
-            tells = told passes key served drawn (set ws 0 (get_or ws 0 0)) log end (set views id (serving entries ended Same passes v c)) (serve_turns c served drawn (passes key) ws views turns at now)
+            shows = told passes key served drawn (set ws 0 (get_or ws 0 0)) log end (set views id (serving entries ended Same passes v c)) (serve_turns c served drawn (passes key) ws views turns at now)
                 serve_knowing serve_tally id (serving entries ended Same passes v c) (set_here views id (serving entries ended Same passes v c) (at_below views id v at)) room;
           }
 

@@ -4,51 +4,38 @@ use mathlib.Core.Option.{some}
 use lib.ListN.{get_elem?}
 
 module _ {A : Type 0} where
-  -- the sum of a number of each
-  abbrev pub total : (A → ℕ) → List A → ℕ
-  total f [] = 0
-  total f (v ∷ vs) = f v + total f vs
-
   -- the list begins with these
   abbrev pub StartsWith : List A → List A → Type 0
   StartsWith list seen = (rest : List A) × (list ≡ seen ++ rest)
 
-  -- each entry stands in the list at its place
+  -- each entry is in the list at its place
   abbrev pub AllAt : List A → List (ℕ × A) → Type 0
   AllAt list [] = Unit {0}
   AllAt list (x ∷ xs) = (get_elem? list x.0 ≡ some x.1) × AllAt list xs
 
-  -- how often the place stands among these
+  -- how often the place comes among these
   abbrev pub times : ℕ → List (ℕ × A) → ℕ
   times place [] = 0
   times place (x ∷ xs) = cond (x.0 == place) 1 0 + times place xs
-
-  -- the entries with their places, the first at this one
-  abbrev pub placed_from : ℕ → List A → List (ℕ × A)
-  placed_from place [] = []
-  placed_from place (x ∷ xs) = (place, x) ∷ placed_from (place + 1) xs
 
   -- x where the first list is at least as long as the second, else y
   abbrev pub by_length : {B : Type 0} → List A → List A → B → B → B
   by_length a b x y = cond (nat_le (length b) (length a)) x y
 
-  -- the longer of two lists, and the other one
+  -- the longer of two lists
   abbrev pub longer : List A → List A → List A
   longer a b = by_length a b a b
 
-  abbrev pub shorter : List A → List A → List A
-  shorter a b = by_length a b b a
-
 module _ {E : Type 0} where
   -- the first of two that is there
-  abbrev pub first_of : Option E → Option E → Option E
-  first_of (Some x) y = Some x
-  first_of None y = y
+  abbrev pub either_of : Option E → Option E → Option E
+  either_of (Some x) y = Some x
+  either_of None y = y
 
 module _ {A E : Type 0} where
   -- the ending of two that go with two lists, that of the longer list first
   abbrev pub ending_of_both : List A → List A → Option E → Option E → Option E
-  ending_of_both a b x y = first_of (by_length a b x y) (by_length a b y x)
+  ending_of_both a b x y = either_of (by_length a b x y) (by_length a b y x)
 
 -- 1 for a place below n, else 0
 abbrev pub once_below : ℕ → ℕ → ℕ

@@ -64,7 +64,7 @@ module _ {K F R : Type 0} where
     stops = p.stops + q.stops;
   }
 
-  -- the own commits of a pass: each stands at its place in what the pass knows, and no place comes twice
+  -- the own commits of a pass: each is at its place in what the pass knows, and no place comes twice
   pub record OwnsRightly (p : PassView K F R) : Type 0 where
     pub at_places : AllAt p.knows p.own
     pub once : (place : ℕ) → times place p.own ≤ 1

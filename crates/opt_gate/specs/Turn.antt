@@ -1,14 +1,14 @@
 -- One turn of a pass.
-use Rattle.std.specs.Prelude.{◌≡◌, ℕ, ◌+◌, ◌<◌, List, [], ◌∷◌, ◌++◌, Bool, Option, Some, length, take}
+use Rattle.std.specs.Prelude.{◌≡◌, ℕ, ◌+◌, ◌<◌, List, [], ◌++◌, Option, Some, length, take}
 use Rattle.opt_system.specs.Meaning.{Meaning, applies, faulty, Barren}
 use Rattle.opt_core.specs.declared.event.Ending.{Ending}
 use Rattle.opt_core.specs.declared.event.Event.{Event}
 use Rattle.opt_core.specs.declared.event.Event.TheVariants as event
 use Rattle.opt_core.specs.declared.event.Reply.{Reply}
 use Rattle.opt_core.specs.declared.event.Reply.TheVariants as reply
-use Rattle.opt_core.specs.Core.{Core, Legal, IsEnding, reached}
+use Rattle.opt_core.specs.Core.{Core, Legal, reached}
 use Rattle.opt_core.specs.Steps.{Answers, MayCome}
-use Rattle.opt_core.specs.Runs.{SameStart}
+use Rattle.opt_core.specs.Runs.{SameStart, commits_of}
 use Rattle.opt_gate.specs.declared.ask.Ask.{Ask}
 use Rattle.opt_gate.specs.declared.ask.Ask.TheVariants as ask
 use Rattle.opt_gate.specs.declared.key.Key.{Key}
@@ -43,11 +43,6 @@ module _ {Found Reason : Type 0} where
   news_of (reply.News es task) = es
   news_of r = []
 
-  -- the commit of an event and its answer, with its place: an offer that was answered Committed
-  abbrev pub commits_of : Event Found → Reply Found Reason → List (ℕ × Found)
-  commits_of (event.Offer told f) (reply.Committed place) = (place, f) ∷ []
-  commits_of e r = []
-
   -- the number of entries that were handed over, of n entries: News hands over all
   abbrev pub told_after : ℕ → Reply Found Reason → ℕ → ℕ
   told_after told (reply.News es task) n = n
@@ -76,9 +71,13 @@ module _ {System State Found Goal Reason : Type 0} (m : Meaning State Found Goal
   MayAsk start p (ask.Quiet share) = (share < m.shares start.goal) × Barren m start.goal share (reached m start.base (entries_told p))
   MayAsk start p ask.Stop = Unit {0}
 
-  -- the ending is true after these entries
-  abbrev pub IsTrueEnding : Core System State Found Goal Reason → List Found → Ending Reason → Type 0
-  IsTrueEnding start knows x = (quiet : List Bool) × (left : ℕ) × IsEnding m start.goal (reached m start.base knows) knows quiet start.given left (Some x)
+  -- the ending is true after these entries: a legal core of the start has it, with just these entries
+  pub record IsTrueEnding (start : Core System State Found Goal Reason) (knows : List Found) (x : Ending Reason) : Type 0 where
+    pub core : Core System State Found Goal Reason
+    pub of_start : SameStart start core
+    pub legal : Legal m core
+    pub entries : core.entries ≡ knows
+    pub ending : core.ending ≡ Some x
 
   -- one event of one core, of which the pass then knows all
   pub record IsOneEvent (start : Core System State Found Goal Reason) (p : PassView (Key (Core System State Found Goal Reason)) Found Reason) (a : Ask Found) (r : Reply Found Reason)

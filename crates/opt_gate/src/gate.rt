@@ -9,7 +9,7 @@ ghost use Rattle.opt_core.specs.declared.event.Reply.TheVariants.{Closed};
 ghost use Rattle.opt_gate.specs.Lists.{AllAt, StartsWith, times, once_below};
 ghost use Rattle.opt_gate.specs.Pass.{IsPassOf, IsWhole, OwnsRightly, first_pass, start_of};
 ghost use Rattle.opt_gate.specs.Turn.{MayAsk, IsOneEvent, IsTrueEnding, entries_told, news_of, pass_after};
-ghost use Rattle.opt_gate.specs.Seats.{told_and_handed};
+ghost use Rattle.opt_gate.specs.inside.Seats.{told_and_handed};
 
 use crate::ask::Ask;
 use crate::key::Key;
@@ -106,6 +106,7 @@ impl<S: System> GateOf<Core<S>, S::Found, S::Reason, GateRule<S>, S::Goal> {
         requires ask { MayAsk (S.means s.now) (start_of self.now) pass.old ask }
         ensures one_event { IsOneEvent (S.means s.now) (start_of self.now) pass.old ask result pass.new }
         ensures pass { pass.new ≡ pass_after pass.old ask result pass.new.knows pass.new.ending }
+        ensures further { StartsWith pass.new.knows pass.old.knows }
         ensures told { entries_told pass.new ≡ entries_told pass.old ++ news_of result }
         ensures applies { AllApply (S.means s.now) (start_of self.now).goal (start_of self.now).base pass.new.knows }
         ensures ending { (x : Ending S.Reason) → pass.new.ending ≡ Some x → IsTrueEnding (S.means s.now) (start_of self.now) pass.new.knows x }

@@ -1,4 +1,12 @@
 //! The gate: a ticket lock round a core, whose passes know what was committed.
+//!
+//! Call `Gate::start` with a core that was just started: it gives the gate and the first pass. Split a pass for each thread,
+//! and let each take turns with `Gate::turn`: a turn is one event of the one core, and nobody else has the core meanwhile.
+//! Join the passes, and `Gate::close` gives the core back. Only `turn` and `close` may wait, and they take no memory.
+//!
+//! A pass tells by its contracts what it knows: a beginning of the entries, after a turn all of them, and the ending once it
+//! was met. What is seen of a pass stands in `specs/Pass`, what a turn does in `specs/Turn`, and words on lists in
+//! `specs/Lists`; `specs/inside` has the rule of the table, which bodies and proofs alone need.
 #![tactic(auto)]
 
 mod ask;

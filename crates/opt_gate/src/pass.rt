@@ -26,7 +26,7 @@ pub struct PassOf<C, F, R> {
 
 impl<C, F, R> Model for PassOf<C, F, R> {
     ghost use Rattle.std.specs.Prelude.{◌≡◌, ◌<◌, ◌≤◌, [], length};
-    ghost use Rattle.opt_gate.specs.Plays.{resting};
+    ghost use Rattle.opt_gate.specs.inside.Plays.{resting};
     ghost use Rattle.opt_gate.specs.declared.key.Key.{Key as KeyData};
     ghost use Rattle.opt_gate.specs.Pass.{PassView};
 

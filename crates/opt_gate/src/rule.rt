@@ -1,8 +1,8 @@
-//! The rule of the gate's table, and what each step does and tells. These types are for the proofs alone.
+//! The rule of the gate's table, and what each step does and shows. These types are for the proofs alone.
 
-ghost use Rattle.opt_gate.specs.Cores.{entries_of, ended_of, goal_of, IsOfKey, passes_of, first_view};
-ghost use Rattle.opt_gate.specs.Plays.{Drew, Watched, Passed, Told, split_left, split_right, joined, spent};
-ghost use Rattle.opt_gate.specs.Rule.{Ruled};
+ghost use Rattle.opt_gate.specs.inside.Cores.{entries_of, ended_of, goal_of, IsOfKey, passes_of, first_view};
+ghost use Rattle.opt_gate.specs.inside.Plays.{Drew, Watched, Passed, Shown, split_left, split_right, joined, spent};
+ghost use Rattle.opt_gate.specs.inside.Rule.{Ruled};
 
 use crate::key::Key;
 use crate::view::View;
@@ -84,11 +84,11 @@ impl<K, F, R> Join<View<K, F, R>> for JoinPasses {
     ghost spent = { spent };
 }
 
-// The second load of a join, which tells of the pass that came of it.
-pub struct Tell<S> {
+// The second load of a join, which shows what the pass that came of it knows.
+pub struct Show<S> {
     marker: PhantomData<S>,
 }
 
-impl<S: System> Play<Option<Core<S>>, View<Key<Core<S>>, S::Found, S::Reason>> for Tell<S> {
-    ghost then = { Told passes_of };
+impl<S: System> Play<Option<Core<S>>, View<Key<Core<S>>, S::Found, S::Reason>> for Show<S> {
+    ghost then = { Shown passes_of };
 }

@@ -1,18 +1,22 @@
 //! The steps of a turn on the table that passes share.
 ghost use Rattle.std.specs.Prelude.{◌≡◌, ◌≤◌, ◌<◌, ◌^◌, ◌%◌, ℕ, [], ◌∷◌, None, Some, true, false, if◌then◌else◌};
-ghost use Rattle.opt_gate.specs.Plays.{resting, waiting, Takes, Took, passed, joined, Tells};
-ghost use Rattle.opt_gate.specs.Cores.{entries_of, ended_of, IsOfKey, passes_of};
-ghost use Rattle.opt_gate.specs.Follow.{MayFollow};
+ghost use Rattle.opt_gate.specs.inside.Plays.{resting, waiting, Takes, Took, passed, joined, Shows};
+ghost use Rattle.opt_gate.specs.inside.Cores.{entries_of, ended_of, IsOfKey, passes_of};
+ghost use Rattle.opt_gate.specs.inside.Follow.{MayFollow};
 ghost use Rattle.opt_core.specs.Core.{Legal};
-ghost use Rattle.opt_gate.specs.Seats.{Acts, MayComeTo, is_stop};
+ghost use Rattle.opt_gate.specs.inside.Seats.{Acts, MayComeTo, is_stop};
 
 use crate::key::Key;
-use crate::rule::{Draw, GateRule, JoinPasses, PassOn, PassOnStop, Tell, Watch};
+use crate::rule::{Draw, GateRule, JoinPasses, PassOn, PassOnStop, Show, Watch};
 use crate::view::View;
 use atomic_table::{Seat, Shared};
 use opt_core::{Core, Event, Reply};
 use opt_system::System;
 use std::sync::Wait;
+use std::{hint, thread};
+
+// How often a waiting pass looks at the ticket that is served before it lets other threads run between two looks.
+const LOOKS: u32 = 64;
 
 // The words and the slot of a gate.
 type GateTable<S: System> = Shared<
@@ -42,9 +46,16 @@ fn watch<S: System, R: Wait>(rt: &R, shared: &GateTable<S>, seat: &mut GateSeat<
     ensures same { seat.new.table_id ≡ seat.old.table_id }
     ensures takes { Takes entries_of ended_of IsOfKey passes_of seat.old.me seat.new.me }
 {
+    let mut looks = 0;
     for _ in rt.forever() {
         if shared.load::<Watch<S>>(seat, 0) == ticket {
             return;
+        }
+        if looks < LOOKS {
+            looks += 1;
+            hint::spin_loop();
+        } else {
+            thread::yield_now();
         }
     }
     unreachable!()
@@ -57,7 +68,7 @@ fn hand_on<S: System>(shared: &GateTable<S>, seat: &mut GateSeat<S>, core: Core<
     requires core { MayFollow entries_of ended_of IsOfKey (if is_stop then 1 else 0) seat.old.me.0 core }
     ensures same { seat.new.table_id ≡ seat.old.table_id }
     ensures me { seat.new.me ≡ (passed entries_of ended_of IsOfKey passes_of (if is_stop then 1 else 0) seat.old.me.0 core, []) }
-    ensures tells { Tells passes_of (passed entries_of ended_of IsOfKey passes_of (if is_stop then 1 else 0) seat.old.me.0 core) }
+    ensures shows { Shows passes_of (passed entries_of ended_of IsOfKey passes_of (if is_stop then 1 else 0) seat.old.me.0 core) }
 {
     drop(shared.exchange(seat, 0, Some(core)));
     if is_stop {
@@ -119,15 +130,15 @@ pub(crate) fn act<S: System, R: Wait>(
     reply
 }
 
-// Joins two seats without tickets. The second load tells of the seat that comes of it.
+// Joins two seats without tickets. The second load shows what the seat that comes of it knows.
 pub(crate) fn unite<S: System>(shared: &GateTable<S>, seat: &mut GateSeat<S>, other: GateSeat<S>)
     requires table { (seat.old.table_id ≡ shared.now.table_id) × (other.table_id ≡ shared.now.table_id) × (shared.now.table_id.words ≡ 2) }
     requires idle { (seat.old.me ≡ (resting seat.old.me.0, [])) × (0 < seat.old.me.0.room) }
     requires other { other.me ≡ (resting other.me.0, []) }
     ensures same { seat.new.table_id ≡ seat.old.table_id }
     ensures me { seat.new.me ≡ (resting (joined seat.old.me.0 other.me.0), []) }
-    ensures tells { Tells passes_of (joined seat.old.me.0 other.me.0) }
+    ensures shows { Shows passes_of (joined seat.old.me.0 other.me.0) }
 {
     shared.join_seat::<JoinPasses>(seat, other);
-    shared.load::<Tell<S>>(seat, 0);
+    shared.load::<Show<S>>(seat, 0);
 }

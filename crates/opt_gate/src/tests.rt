@@ -4,8 +4,8 @@ ghost use Rattle.std.specs.Prelude.{◌≡◌, [], None, IfOk, OnOk, replicate, 
 ghost use Rattle.opt_core.specs.Core.{reached};
 ghost use Rattle.opt_gate.specs.Pass.{IsPassOf, start_of};
 ghost use Rattle.opt_gate.specs.Turn.{entries_told};
-ghost use Rattle.opt_system.specs.Cells.{cells_means};
-ghost use Rattle.opt_system.specs.Row.{row};
+ghost use Rattle.opt_cells.specs.Cells.{cells_means};
+ghost use Rattle.opt_cells.specs.Row.{row};
 
 mod joined;
 mod worker;
@@ -13,8 +13,9 @@ mod worker;
 use crate::sharing::{gate_may_be_shared, pass_may_be_taken};
 use crate::{Ask, Gate, Pass};
 use joined::commit_and_join;
+use opt_cells::{CellRow, Cells, CellsGoal, Never};
 use opt_core::{Core, Reply};
-use opt_system::{CellRow, Cells, CellsGoal, Mode, Never};
+use opt_system::Mode;
 use std::alloc::Global;
 use std::process::Abort;
 use std::sync::Wait;

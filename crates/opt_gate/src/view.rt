@@ -1,7 +1,7 @@
 use opt_core::Ending;
 use std::collections::LinkedList;
 
-/// What a pass knows, and where it stands. It is for the proofs alone: no value of it is made.
+/// What a pass knows, and how far it has come with its turn. It is for the proofs alone: no value of it is made.
 pub struct View<K, F, R> {
     /// What the gate was made with. A pass that was joined into another one has none.
     pub key: Option<K>,

@@ -1,17 +1,15 @@
-//! The interface of a system of states and matches that workers search at the same time, with its laws.
+//! The interface of a system of states and matches that several workers search at the same time, with its laws.
+//!
+//! Implement `System`: its ghost member `means` is the meaning as plain data (what a match is in a state, the state after
+//! its step, the state with a step taken back, the shares of a goal), and each call answers by it. `check` says what a match
+//! is, `seek` searches one share of a goal, `apply` makes a step, and `back` takes steps back without taking memory.
+//!
+//! The meaning and the laws that it keeps stand in `specs/Meaning`, and what `check` and `seek` answer in `specs/Answers`.
+//! Two systems for tests are the crate `opt_cells`.
 #![tactic(auto)]
 
 mod answers;
-mod cell_row;
-mod cell_system;
-mod cells_goal;
 mod system;
 
 pub use answers::{Mode, Sought, Verdict};
-pub use cell_row::CellRow;
-pub use cell_system::Cells;
-pub use cells_goal::{CellsGoal, Never};
 pub use system::System;
-
-#[cfg(test)]
-mod tests;

@@ -1,20 +1,23 @@
 //! Cores over Cells, told of by senders with stale numbers.
 
-ghost use Rattle.std.specs.Prelude.{◌≡◌, ◌≤◌, ℕ, [], IsTrue, IfSome, IfOk, length};
+ghost use Rattle.std.specs.Prelude.{◌≡◌, ◌<◌, ◌≤◌, ℕ, [], IsTrue, IfSome, IfOk, length};
+ghost use Rattle.opt_system.specs.Meaning.{Barren};
 ghost use Rattle.opt_core.specs.Core.{at_first};
 ghost use Rattle.opt_core.specs.Steps.{MayCome};
-ghost use Rattle.opt_system.specs.Row.{row};
-
-mod traps;
+ghost use Rattle.opt_cells.specs.Row.{row};
 
 use super::Core;
 use crate::entries::Entries;
 use crate::event::{Ending, Event, Reply};
-use opt_system::{CellRow, Cells, CellsGoal, Mode, Never, Sought, System, Verdict};
+use crate::sharing::{
+    core_may_be_shared, core_may_be_taken, ending_may_be_taken, entries_may_be_taken,
+    event_may_be_taken, reply_may_be_taken,
+};
+use opt_cells::{CellRow, Cells, CellsGoal, Never, Traps};
+use opt_system::{Mode, Sought, System, Verdict};
 use std::alloc::Global;
 use std::process::Abort;
 use std::test::Fail;
-use traps::Traps;
 
 // The state after the first `told` entries, by replaying them on the base.
 fn replayed<S: System>(s: &S, core: &Core<S>, base: S::State, told: u64) -> Option<S::State>
@@ -35,6 +38,19 @@ fn replayed<S: System>(s: &S, core: &Core<S>, base: S::State, told: u64) -> Opti
         };
     }
     Some(at)
+}
+
+// Whether the share is barren, as the search says.
+fn is_barren<S: System>(s: &S, goal: S::Goal, share: u32, at: &S::State) -> bool
+    ensures { IsTrue result → (share < (S.means s.now).shares goal) × Barren (S.means s.now) goal share at.now }
+{
+    if share >= s.shares(goal) {
+        return false;
+    }
+    match s.seek(goal, share, at) {
+        Sought::Barren => true,
+        _ => false,
+    }
 }
 
 // Whether the condition of the event holds, as its sender finds it on a replica.
@@ -63,15 +79,7 @@ fn may_come<S: System>(s: &S, core: &Core<S>, base: S::State, event: &Event<S::F
             Verdict::Faulty(_) => true,
             _ => false,
         },
-        Event::Quiet { told: _, share } => {
-            if *share >= s.shares(core.goal) {
-                return false;
-            }
-            match s.seek(core.goal, *share, &at) {
-                Sought::Barren => true,
-                _ => false,
-            }
-        }
+        Event::Quiet { told: _, share } => is_barren(s, core.goal, *share, &at),
         Event::Stop => true,
     }
 }
@@ -131,46 +139,67 @@ fn event_of(sent: Sent) -> Event<usize> {
     }
 }
 
-// Plays the turns on a new core, and gives the core back.
-fn play(
+// Events with their answers, sent to a new core, and what the core is then.
+#[derive(Drop)]
+struct Play<'a> {
+    cells: &'a [bool],
+    mode: Mode,
+    shares: u32,
+    items: u64,
+    events: &'a [(Sent, &'a str)],
+    entries: &'a [usize],
+    left: u64,
+    ending: &'a str,
+}
+
+// Sends the events to a new core, and gives the core back.
+fn played(
     rt: &impl Abort,
     alloc: Global,
-    cells: &[bool],
+    row: &Play,
     goal: CellsGoal,
-    items: u64,
-    turns: &[(Sent, &str)],
 ) -> Result<Core<Cells>, Fail> {
-    let base = CellRow::new(alloc, cells.to_vec(alloc)?);
-    let Ok(mut core) = Core::start(alloc, &Cells, base, goal, items) else {
+    let base = CellRow::new(alloc, row.cells.to_vec(alloc)?);
+    let Ok(mut core) = Core::start(alloc, &Cells, base, goal, row.items) else {
         return Err(Fail::from("no core was made"));
     };
-    for (sent, answer) in turns {
-        let reply = send(alloc, &mut core, cells, event_of(*sent))?;
+    for (sent, answer) in row.events {
+        let reply = send(alloc, &mut core, row.cells, event_of(*sent))?;
         let text = text_of(alloc, reply)?;
         assert_eq!(rt; text.as_str(), *answer);
     }
     Ok(core)
 }
 
+// Compares what the core is then.
+fn check_play(rt: &impl Abort, alloc: Global, row: &Play) -> Result<(), Fail> {
+    assert!(rt; row.shares > 0);
+    let goal = CellsGoal {
+        mode: row.mode,
+        shares: row.shares,
+    };
+    let core = played(rt, alloc, row, goal)?;
+    assert_eq!(rt; core.goal().shares, row.shares);
+    let ended = core.ending();
+    let (_, entries, left, ending) = core.into_parts();
+    assert_eq!(rt; entries.as_slice(), row.entries);
+    assert_eq!(rt; left, row.left);
+    assert_eq!(rt; ended.map(text_of_ending), Some(row.ending));
+    assert_eq!(rt; ending.map(text_of_ending), Some(row.ending));
+    Ok(())
+}
+
 #[test]
-fn answers_are_those_of_the_table(rt: HostRuntime) -> Result<(), Fail> {
-    let alloc = rt.alloc();
-    let rows: [(
-        &[bool],
-        Mode,
-        u32,
-        u64,
-        &[(Sent, &str)],
-        &[usize],
-        u64,
-        &str,
-    ); 9] = [
-        (
-            &[true],
-            Mode::Saturate,
-            2,
-            10,
-            &[
+fn a_commit_makes_older_reports_stale(rt: HostRuntime) -> Result<(), Fail> {
+    check_play(
+        &rt,
+        rt.alloc(),
+        &Play {
+            cells: &[true],
+            mode: Mode::Saturate,
+            shares: 2,
+            items: 10,
+            events: &[
                 (Sent::Look(0, 0), "news [] 0"),
                 (Sent::Quiet(0, 1), "noted"),
                 (Sent::Look(0, 1), "news [] 0"),
@@ -182,125 +211,121 @@ fn answers_are_those_of_the_table(rt: HostRuntime) -> Result<(), Fail> {
                 (Sent::Quiet(1, 1), "closed blocked"),
                 (Sent::Look(1, 0), "closed blocked"),
             ],
-            &[0],
-            8,
-            "blocked",
-        ),
-        (
-            &[true, true],
-            Mode::Once,
-            1,
-            10,
-            &[
-                (Sent::Offer(0, 1), "committed 0"),
-                (Sent::Offer(0, 0), "closed committed"),
-                (Sent::Look(0, 0), "closed committed"),
-            ],
-            &[1],
-            9,
-            "committed",
-        ),
-        (
-            &[true],
-            Mode::Saturate,
-            1,
-            0,
-            &[(Sent::Offer(0, 0), "closed bound")],
-            &[],
-            0,
-            "bound",
-        ),
-        (
-            &[true],
-            Mode::Once,
-            1,
-            0,
-            &[(Sent::Offer(0, 0), "closed bound")],
-            &[],
-            0,
-            "bound",
-        ),
-        (
-            &[true],
-            Mode::Saturate,
-            1,
-            1,
-            &[
-                (Sent::Offer(0, 0), "committed 0"),
-                (Sent::Look(1, 0), "closed bound"),
-            ],
-            &[0],
-            0,
-            "bound",
-        ),
-        (
-            &[true],
-            Mode::Once,
-            1,
-            1,
-            &[
-                (Sent::Offer(0, 0), "committed 0"),
-                (Sent::Look(1, 0), "closed committed"),
-            ],
-            &[0],
-            0,
-            "committed",
-        ),
-        (
-            &[true, true],
-            Mode::Saturate,
-            2,
-            2,
-            &[
-                (Sent::Offer(0, 0), "committed 0"),
-                (Sent::Offer(0, 1), "closed bound"),
-            ],
-            &[0],
-            0,
-            "bound",
-        ),
-        (
-            &[true],
-            Mode::Saturate,
-            1,
-            10,
-            &[
-                (Sent::Stop, "closed stopped"),
-                (Sent::Offer(0, 0), "closed stopped"),
-            ],
-            &[],
-            10,
-            "stopped",
-        ),
-        (
-            &[false, false],
-            Mode::Once,
-            3,
-            0,
-            &[
-                (Sent::Quiet(0, 1), "noted"),
-                (Sent::Look(0, 4), "news [] 2"),
-                (Sent::Quiet(0, 2), "noted"),
-                (Sent::Look(0, 5), "news [] 0"),
-                (Sent::Quiet(0, 0), "closed blocked"),
-            ],
-            &[],
-            0,
-            "blocked",
-        ),
-    ];
-    for (cells, mode, shares, items, turns, entries, left, ending) in rows {
-        assert!(rt; shares > 0);
-        let core = play(&rt, alloc, cells, CellsGoal { mode, shares }, items, turns)?;
-        assert_eq!(rt; core.goal().shares, shares);
-        let ended = core.ending();
-        let (_, committed, rest, last) = core.into_parts();
-        assert_eq!(rt; committed.as_slice(), entries);
-        assert_eq!(rt; rest, left);
-        assert_eq!(rt; ended.map(text_of_ending), Some(ending));
-        assert_eq!(rt; last.map(text_of_ending), Some(ending));
+            entries: &[0],
+            left: 8,
+            ending: "blocked",
+        },
+    )
+}
+
+#[test]
+fn a_goal_of_one_match_ends_with_its_commit(rt: HostRuntime) -> Result<(), Fail> {
+    let alloc = rt.alloc();
+    let row = Play {
+        cells: &[true, true],
+        mode: Mode::Once,
+        shares: 1,
+        items: 10,
+        events: &[
+            (Sent::Offer(0, 1), "committed 0"),
+            (Sent::Offer(0, 0), "closed committed"),
+        ],
+        entries: &[1],
+        left: 9,
+        ending: "committed",
+    };
+    check_play(&rt, alloc, &row)?;
+    let row = Play {
+        cells: &[true],
+        mode: Mode::Once,
+        shares: 1,
+        items: 1,
+        events: &[(Sent::Offer(0, 0), "committed 0")],
+        entries: &[0],
+        left: 0,
+        ending: "committed",
+    };
+    check_play(&rt, alloc, &row)
+}
+
+// Sends the events to a new core over two true cells, which ends with no item left.
+fn check_spent(
+    rt: &impl Abort,
+    alloc: Global,
+    mode: Mode,
+    items: u64,
+    events: &[(Sent, &str)],
+    entries: &[usize],
+) -> Result<(), Fail> {
+    check_play(
+        rt,
+        alloc,
+        &Play {
+            cells: &[true, true],
+            mode,
+            shares: 1,
+            items,
+            events,
+            entries,
+            left: 0,
+            ending: "bound",
+        },
+    )
+}
+
+#[test]
+fn a_goal_ends_where_no_item_is_left(rt: HostRuntime) -> Result<(), Fail> {
+    let alloc = rt.alloc();
+    for mode in [Mode::Once, Mode::Saturate] {
+        let events = [(Sent::Offer(0, 0), "closed bound")];
+        check_spent(&rt, alloc, mode, 0, &events, &[])?;
     }
-    Ok(())
+    let events = [
+        (Sent::Offer(0, 0), "committed 0"),
+        (Sent::Look(1, 0), "closed bound"),
+    ];
+    check_spent(&rt, alloc, Mode::Saturate, 1, &events, &[0])?;
+    let events = [
+        (Sent::Offer(0, 0), "committed 0"),
+        (Sent::Offer(0, 1), "closed bound"),
+    ];
+    check_spent(&rt, alloc, Mode::Saturate, 2, &events, &[0])
+}
+
+#[test]
+fn stop_ends_a_goal_and_so_do_three_barren_shares(rt: HostRuntime) -> Result<(), Fail> {
+    let alloc = rt.alloc();
+    let row = Play {
+        cells: &[true],
+        mode: Mode::Saturate,
+        shares: 1,
+        items: 10,
+        events: &[
+            (Sent::Stop, "closed stopped"),
+            (Sent::Offer(0, 0), "closed stopped"),
+        ],
+        entries: &[],
+        left: 10,
+        ending: "stopped",
+    };
+    check_play(&rt, alloc, &row)?;
+    let row = Play {
+        cells: &[false, false],
+        mode: Mode::Once,
+        shares: 3,
+        items: 0,
+        events: &[
+            (Sent::Quiet(0, 1), "noted"),
+            (Sent::Look(0, 4), "news [] 2"),
+            (Sent::Quiet(0, 2), "noted"),
+            (Sent::Look(0, 5), "news [] 0"),
+            (Sent::Quiet(0, 0), "closed blocked"),
+        ],
+        entries: &[],
+        left: 0,
+        ending: "blocked",
+    };
+    check_play(&rt, alloc, &row)
 }
 
 #[test]
@@ -330,10 +355,6 @@ fn a_fault_ends_the_goal_where_it_still_holds(rt: HostRuntime) -> Result<(), Fai
     Ok(())
 }
 
-fn may_be_taken<T: Send>(_value: &T) {}
-
-fn may_be_shared<T: Sync>(_value: &T) {}
-
 #[test]
 fn threads_may_take_cores_events_and_answers(rt: HostRuntime) -> Result<(), Fail> {
     let alloc = rt.alloc();
@@ -342,12 +363,12 @@ fn threads_may_take_cores_events_and_answers(rt: HostRuntime) -> Result<(), Fail
         shares: 1,
     };
     if let Ok(core) = Core::start(alloc, &Cells, CellRow::new(alloc, Vec::new(alloc)), goal, 0) {
-        may_be_taken(&core);
-        may_be_shared(&core);
+        core_may_be_taken(&core);
+        core_may_be_shared(&core);
     }
-    may_be_taken(&Event::<usize>::Stop);
-    may_be_taken(&Reply::<usize, Never>::Noted);
-    may_be_taken(&Entries::<usize>::new(alloc));
-    may_be_taken(&Ending::<Never>::Blocked);
+    event_may_be_taken(&Event::<usize>::Stop);
+    reply_may_be_taken(&Reply::<usize, Never>::Noted);
+    entries_may_be_taken(&Entries::<usize>::new(alloc));
+    ending_may_be_taken(&Ending::<Never>::Blocked);
     Ok(())
 }

@@ -1,4 +1,4 @@
-use Rattle.gp_cli.specs.Parts.{whole, out_cut, err_cut}
+use Rattle.gp_cli.specs.inside.Parts.{whole, out_cut, err_cut}
 use Rattle.gp_cli.proofs.Replies.{gains_nothing}
 use Rattle.gp_cli.proofs.deliver.deliver.Goals as goal
 

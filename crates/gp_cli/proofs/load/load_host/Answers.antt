@@ -1,5 +1,5 @@
 use Rattle.std.proofs.lemmas.Result.{err_from_is_err_and}
-use Rattle.gp_cli.specs.Parts.{host_fault}
+use Rattle.gp_cli.specs.inside.Parts.{host_fault}
 use Rattle.gp_cli.proofs.Replies.{host_stops, fault_stands}
 use Rattle.gp_cli.proofs.load.load_host.Goals as goal
 

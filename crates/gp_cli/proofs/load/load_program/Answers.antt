@@ -1,5 +1,5 @@
 use Rattle.std.proofs.lemmas.Result.{err_from_is_err_and}
-use Rattle.gp_cli.specs.Parts.{other_text}
+use Rattle.gp_cli.specs.inside.Parts.{other_text}
 use Rattle.gp_cli.proofs.Replies.{program_stops}
 use Rattle.gp_cli.proofs.load.load_program.Goals as goal
 

@@ -1,4 +1,4 @@
-use Rattle.gp_cli.specs.Parts.{too_long, unread}
+use Rattle.gp_cli.specs.inside.Parts.{too_long, unread}
 use Rattle.gp_cli.proofs.Replies.{read_cause}
 use Rattle.gp_cli.proofs.load.read_file.Goals as goal
 

@@ -1,4 +1,4 @@
-use Rattle.gp_cli.specs.Outcomes.{gave, failed_there}
+use Rattle.gp_cli.specs.inside.Outcomes.{gave, failed_there}
 use Rattle.gp_cli.proofs.Replies.{text_from_nothing, stands}
 use Rattle.gp_cli.proofs.show.shown.Goals as goal
 

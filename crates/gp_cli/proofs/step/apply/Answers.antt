@@ -41,7 +41,7 @@ returns c =
     step c.args.rule.now c.args.graph.now.graph c.args.found.now.nodes.items c.args.found.now.edges.items c.remove_edges.new.graph.graph c.remove_nodes.new.graph.graph
     c.in_ok-images.images.items c.place_nodes.new.graph.graph c.place_edges.new.graph.graph (record {
       plain = c.requires.plain;
-      graph = c.told.ensures;
+      graph = c.recall.ensures;
       is_match = m;
       cut = rw c.deref.ensures.value at c.remove_edges.ensures;
       removed = rw (c.deref-2.ensures.value, c.deref-3.ensures.value) at c.remove_nodes.ensures;

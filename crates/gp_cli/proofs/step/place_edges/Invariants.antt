@@ -1,4 +1,4 @@
-use Rattle.gp_cli.specs.Making.{EdgesPlaced}
+use Rattle.gp_cli.specs.inside.Making.{EdgesPlaced}
 use Rattle.gp_cli.proofs.step.place_edges.Given as goal
 
 abbrev pub invariant-loop-q : goal.invariant-loop-q

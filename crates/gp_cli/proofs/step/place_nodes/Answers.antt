@@ -8,7 +8,7 @@ pub place_node-requires-clause-there : goal.place_node-requires-clause-there
 place_node-requires-clause-there c =
     let get = slice_get_read c.args.right.now _ c.loop-q.q-index c.q-item.result refl c.loop-q-test.true c.q-item.is in
     kept_at c.args.graph.now.graph c.args.right.now c.args.nodes.now c.loop-q.images.items c.loop-q.graph.graph c.q-item.result
-    (ap (slice_get c.args.right.now) c.loop-q.invariant.count ∙ get) c.told.ensures c.requires.origins c.requires.there c.requires.apart c.loop-q.invariant.placed c.q-item.result.origin refl
+    (ap (slice_get c.args.right.now) c.loop-q.invariant.count ∙ get) c.recall.ensures c.requires.origins c.requires.there c.requires.apart c.loop-q.invariant.placed c.q-item.result.origin refl
 
 pub loop-q-preserved : goal.loop-q-preserved
 loop-q-preserved c =
@@ -19,5 +19,5 @@ loop-q-preserved c =
       count = rw images (omega (arith, length-append c.loop-q.images.items (c.in_ok-n.n ∷ [])));
       placed = rw (images, c.in_ok-n.ensures.number, c.in_ok-n.ensures.placed)
           (nodes_placed_next c.args.graph.now.graph c.args.right.now c.args.nodes.now c.loop-q.images.items c.loop-q.graph.graph c.q-item.result
-          (ap (slice_get c.args.right.now) count ∙ get) c.told.ensures c.requires.origins c.requires.there c.requires.apart c.loop-q.invariant.placed);
+          (ap (slice_get c.args.right.now) count ∙ get) c.recall.ensures c.requires.origins c.requires.there c.requires.apart c.loop-q.invariant.placed);
     }

@@ -1,5 +1,5 @@
 use Rattle.std.proofs.Common.{◌≡◌, length}
-use Rattle.gp_cli.specs.Making.{NodesPlaced}
+use Rattle.gp_cli.specs.inside.Making.{NodesPlaced}
 use Rattle.gp_cli.proofs.step.place_nodes.Given as goal
 
 abbrev pub invariant-loop-q : goal.invariant-loop-q

@@ -1,5 +1,5 @@
 use Rattle.std.proofs.Common.{take}
-use Rattle.gp_cli.specs.Making.{EdgesRemoved}
+use Rattle.gp_cli.specs.inside.Making.{EdgesRemoved}
 use Rattle.gp_cli.proofs.step.remove_edges.Given as goal
 
 abbrev pub invariant-loop-e : goal.invariant-loop-e

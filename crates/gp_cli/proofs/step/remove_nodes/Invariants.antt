@@ -1,4 +1,4 @@
-use Rattle.gp_cli.specs.Making.{NodesRemoved}
+use Rattle.gp_cli.specs.inside.Making.{NodesRemoved}
 use Rattle.gp_cli.proofs.step.remove_nodes.Given as goal
 
 abbrev pub invariant-loop-i : goal.invariant-loop-i

@@ -1,12 +1,8 @@
-use Rattle.gp_cli.proofs.Replies.{delivered, silent}
-use Rattle.gp_cli.proofs.Completeness.{completes}
+use Rattle.gp_cli.proofs.Replies.{nothing_written}
 use Rattle.gp_cli.proofs.top.gp2_main.Goals as goal
 
-pub returns-in-Ok-clause-answered : goal.returns-in-Ok-clause-answered
-returns-in-Ok-clause-answered g c = delivered c.in-Ok.ensures c.deliver.ensures
+pub returns-in-Err-clause-refused : goal.returns-in-Err-clause-refused
+returns-in-Err-clause-refused g c = rw (c.in-Err.is, c.code.ensures) (nothing_written _ _)
 
 pub returns-in-Ok-clause-complete : goal.returns-in-Ok-clause-complete
-returns-in-Ok-clause-complete g c = completes (delivered c.in-Ok.ensures c.deliver.ensures).answer
-
-pub returns-in-Err-clause-answered : goal.returns-in-Err-clause-answered
-returns-in-Err-clause-answered g c = rw c.code.ensures (silent _ _)
+returns-in-Ok-clause-complete g c = rw (c.in-Ok.is, ← c.deref.ensures.value) c.answer_words.ensures.complete

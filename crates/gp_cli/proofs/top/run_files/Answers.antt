@@ -1,5 +1,5 @@
 use Rattle.std.proofs.lemmas.Result.{err_from_is_err_and}
-use Rattle.gp_cli.specs.Parts.{shown}
+use Rattle.gp_cli.specs.inside.Parts.{shown}
 use Rattle.gp_cli.proofs.Replies.{program_stops_all, host_stops_all}
 use Rattle.gp_cli.proofs.top.run_files.Goals as goal
 

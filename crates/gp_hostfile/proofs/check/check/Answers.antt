@@ -1,5 +1,5 @@
 use Rattle.std.proofs.lemmas.Result.{err_from_is_err_and}
-use Rattle.gp_hostfile.specs.Drawn.{tree_in}
+use Rattle.gp_hostfile.specs.inside.Stages.{tree_in}
 use Rattle.gp_hostfile.proofs.Faults.{number_stops, two_nodes_stop, two_edges_stop, end_stops, mark_stops, none_stops}
 use Rattle.gp_hostfile.proofs.check.check.Goals as goal
 

@@ -1,4 +1,4 @@
-use Rattle.gp_hostfile.specs.Lines.{line_keys}
+use Rattle.gp_hostfile.specs.inside.Lines.{line_keys}
 use Rattle.gp_hostfile.proofs.Lines.{edge_turn}
 use Rattle.gp_hostfile.proofs.text.edge_lines.Goals as goal
 

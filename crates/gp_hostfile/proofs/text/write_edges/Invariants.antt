@@ -1,5 +1,5 @@
 use Rattle.std.proofs.Common.{◌≡◌, ◌++◌, drop}
-use Rattle.gp_hostfile.specs.Lines.{line_keys, key_lines}
+use Rattle.gp_hostfile.specs.inside.Lines.{line_keys, key_lines}
 use Rattle.gp_hostfile.proofs.text.write_edges.Given as goal
 
 abbrev pub invariant-loop-i : goal.invariant-loop-i

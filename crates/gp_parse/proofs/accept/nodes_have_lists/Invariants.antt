@@ -1,7 +1,7 @@
 use Rattle.std.proofs.Common.{◌≡◌, map, drop, is_some}
 use Rattle.std.specs.List.{list_all}
-use Rattle.gp_grammar.specs.declared.graph.NodeTree.{NodeTree}
-use Rattle.gp_grammar.specs.Labels.{label_of}
+use Rattle.gp_parse.specs.declared.graph.NodeTree.{NodeTree}
+use Rattle.gp_parse.specs.Labels.{label_of}
 use Rattle.gp_parse.proofs.accept.nodes_have_lists.Given as goal
 
 abbrev pub invariant-loop-node : goal.invariant-loop-node

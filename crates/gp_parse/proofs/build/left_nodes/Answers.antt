@@ -1,7 +1,7 @@
 use Rattle.std.proofs.Common.{arith}
 use Rattle.std.specs.Prelude.{is_some}
-use Rattle.gp_grammar.specs.declared.graph.NodeTree.{NodeTree}
-use Rattle.gp_grammar.specs.Labels.{label_of}
+use Rattle.gp_parse.specs.declared.graph.NodeTree.{NodeTree}
+use Rattle.gp_parse.specs.Labels.{label_of}
 use Rattle.gp_parse.proofs.Builds.{passes, is_kept, keeps_on}
 use Rattle.gp_parse.proofs.build.left_nodes.Goals as goal
 use Rattle.std.proofs.Common.{◌∷◌, [], length-append}

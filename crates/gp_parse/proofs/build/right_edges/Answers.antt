@@ -1,6 +1,6 @@
 use Rattle.std.specs.Prelude.{is_some}
-use Rattle.gp_grammar.specs.declared.graph.EdgeTree.{EdgeTree}
-use Rattle.gp_grammar.specs.Labels.{label_of}
+use Rattle.gp_parse.specs.declared.graph.EdgeTree.{EdgeTree}
+use Rattle.gp_parse.specs.Labels.{label_of}
 use Rattle.gp_parse.proofs.Builds.{passes}
 use Rattle.gp_parse.proofs.build.right_edges.Goals as goal
 

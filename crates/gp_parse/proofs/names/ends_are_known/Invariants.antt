@@ -1,5 +1,5 @@
 use Rattle.std.proofs.Common.{◌≡◌, map, drop}
-use Rattle.gp_grammar.specs.declared.graph.NodeTree.{NodeTree}
+use Rattle.gp_parse.specs.declared.graph.NodeTree.{NodeTree}
 use Rattle.gp_values.specs.Names.{first_unknown}
 use Rattle.gp_parse.specs.Ends.{end_names}
 use Rattle.gp_parse.proofs.names.ends_are_known.Given as goal

@@ -13,4 +13,8 @@ returns c = record {
   edges_left = λ g e q h. get-remove_apart g.edges e q h;
   label = λ g n x. get-insert_here g.nodes n x;
   other_labels = λ g n q x h. get-insert_apart g.nodes n q x h;
+  node_put = λ g n x. get-insert_here g.nodes n x;
+  nodes_beside = λ g n q x h. get-insert_apart g.nodes n q x h;
+  edge_put = λ g e d. get-insert_here g.edges e d;
+  edges_beside = λ g e q d h. get-insert_apart g.edges e q d h;
 }

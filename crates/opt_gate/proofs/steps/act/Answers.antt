@@ -21,5 +21,5 @@ returns-clause-acts g c =
     let was = (t.learns.same k.0 k.1).system ∙ sym k.2 in
     let same = c.step-reply.ensures.start.system ∙ was in
     acted m c.args.seat.now.me.0 c.take-core.result c.step-reply.new.self c.args.event c.step-reply.result c.asks_stop-is_stop.result c.asks_stop-is_stop.ensures
-    c.take-core.new.seat.me t c.step-reply.ensures.answers c.hand_on.new.seat.me c.hand_on.ensures.me c.hand_on.ensures.tells (c.requires.event k.0 c.take-core.result k.1 (t.learns.same k.0 k.1) t.learns.further)
+    c.take-core.new.seat.me t c.step-reply.ensures.answers c.hand_on.new.seat.me c.hand_on.ensures.me c.hand_on.ensures.shows (c.requires.event k.0 c.take-core.result k.1 (t.learns.same k.0 k.1) t.learns.further)
     (rw was at c.take-core.ensures.legal) (rw same at c.step-reply.ensures.legal)

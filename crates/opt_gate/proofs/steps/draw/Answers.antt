@@ -1,5 +1,5 @@
 use Rattle.std.proofs.Common.{arith}
-use Rattle.opt_gate.specs.Cores.{entries_of, ended_of, IsOfKey, passes_of}
+use Rattle.opt_gate.specs.inside.Cores.{entries_of, ended_of, IsOfKey, passes_of}
 use Rattle.opt_gate.proofs.Draws.{draws}
 use Rattle.opt_gate.proofs.steps.draw.Goals as goal
 

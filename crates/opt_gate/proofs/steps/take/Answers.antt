@@ -1,7 +1,7 @@
 use Rattle.std.proofs.Common.{◌∙◌, sym, ap, ◌∷◌, Some}
 use Rattle.atomic_table.specs.Table.{rest}
-use Rattle.opt_gate.specs.Cores.{entries_of, ended_of, IsOfKey, passes_of}
-use Rattle.opt_gate.specs.Plays.{waiting}
+use Rattle.opt_gate.specs.inside.Cores.{entries_of, ended_of, IsOfKey, passes_of}
+use Rattle.opt_gate.specs.inside.Plays.{waiting}
 use Rattle.opt_gate.proofs.Taking.{took}
 use Rattle.opt_gate.proofs.steps.take.Goals as goal
 

@@ -1,10 +1,10 @@
 use Rattle.std.proofs.Common.{◌∙◌, refl, ap, arith}
 use mathlib.Core.Option as core
 use Rattle.atomic_table.specs.Table.{step}
-use Rattle.opt_gate.specs.Cores.{entries_of, ended_of, IsOfKey, passes_of}
-use Rattle.opt_gate.specs.Plays.{joined}
+use Rattle.opt_gate.specs.inside.Cores.{entries_of, ended_of, IsOfKey, passes_of}
+use Rattle.opt_gate.specs.inside.Plays.{joined}
 use Rattle.opt_gate.proofs.Joins.{joins_at}
-use Rattle.opt_gate.proofs.Rests.{rests_at, told_me, told_tells}
+use Rattle.opt_gate.proofs.Rests.{rests_at, shown_me, shown_all}
 use Rattle.opt_gate.proofs.steps.unite.Goals as goal
 
 pub join_seat-requires : goal.join_seat-requires
@@ -35,10 +35,10 @@ pub returns-clause-me : goal.returns-clause-me
 returns-clause-me g c =
     let j = joined c.args.seat.now.me.0 c.args.other.me.0 in
     let me = c.join_seat.ensures.2 ∙ ap (λ m. (joined c.args.seat.now.me.0 c.args.other.me.0, m.1)) c.requires.idle.0 in
-    told_me passes_of (step c.args.shared.now.table_id.slots 0 0 0 core.none) j c.join_seat.new.seat.me c.load.new.seat.me c.load.result me c.load.ensures.2
+    shown_me passes_of (step c.args.shared.now.table_id.slots 0 0 0 core.none) j c.join_seat.new.seat.me c.load.new.seat.me c.load.result me c.load.ensures.2
 
-pub returns-clause-tells : goal.returns-clause-tells
-returns-clause-tells g c =
+pub returns-clause-shows : goal.returns-clause-shows
+returns-clause-shows g c =
     let j = joined c.args.seat.now.me.0 c.args.other.me.0 in
     let me = c.join_seat.ensures.2 ∙ ap (λ m. (joined c.args.seat.now.me.0 c.args.other.me.0, m.1)) c.requires.idle.0 in
-    told_tells passes_of (step c.args.shared.now.table_id.slots 0 0 0 core.none) j c.join_seat.new.seat.me c.load.new.seat.me c.load.result me c.load.ensures.2
+    shown_all passes_of (step c.args.shared.now.table_id.slots 0 0 0 core.none) j c.join_seat.new.seat.me c.load.new.seat.me c.load.result me c.load.ensures.2

@@ -1,6 +1,6 @@
 use Rattle.std.proofs.Common.{refl, arith}
 use Rattle.gp_syntax.specs.Plain.{plain_rule}
-use Rattle.gp_cli.specs.Found.{found_of}
+use Rattle.gp_cli.specs.inside.Found.{found_of}
 use Rattle.gp_cli.specs.declared.run.PlainItem.TheVariants as items
 use Rattle.gp_cli.proofs.Outcomes.{trace_behind}
 use Rattle.gp_cli.proofs.run.Progress.call.Goals as goal

@@ -1,32 +1,56 @@
-use Rattle.std.proofs.Common.{◌≡◌, ◌<◌, refl, ap, sym, subst, ◌∙◌, length}
-use Rattle.std.specs.Prelude.{Some, None}
-use Rattle.gp_values.specs.Graph.{IsGraph, node_at, relabeled}
+use Rattle.std.proofs.Common.{◌≡◌, ℕ, List, length, sym, ap, subst, ◌∙◌, length-set}
+use Rattle.std.specs.Prelude.{IsSome}
+use Rattle.std.specs.Vec.{with_items}
+use Rattle.std.proofs.lemmas.List.{with_items_is}
+use Rattle.gp_values.specs.Graph.{Node, relabeled}
 use Rattle.gp_values.proofs.Graphs.{IsGraph-relabeled}
-use Rattle.gp_graph.specs.View.{node_of, graph_of}
-use Rattle.gp_graph.proofs.Views.{set_node}
-use Rattle.gp_graph.proofs.SlotMaps.{slot_of, entry_at}
+use Rattle.gp_values.proofs.Edits.{count-relabeled}
+use Rattle.gp_graph.specs.inside.Slots.{slot_in}
+use Rattle.gp_graph.specs.inside.Rings.{changed_at}
+use Rattle.gp_graph.specs.inside.Roots.{HasRoots, KeepsNodes, rewritten}
+use Rattle.gp_graph.specs.inside.Sound.{IsHeld}
+use Rattle.gp_graph.specs.inside.View.{graph_from}
+use Rattle.gp_graph.proofs.Calls.{node_there, held_nodes, seen_kept, seen_rewritten, rings_rewritten, label_was}
 use Rattle.gp_graph.proofs.graph.Graph.relabel.Goals as goal
 
-pub unreachable-requires : goal.unreachable-requires
-unreachable-requires c =
-    let h : node_at c.args.self.now.graph c.args.n ≡ None =
-    rw (← c.self.view_is) (entry_at node_of c.self.inside.nodes.items c.args.n None (c.put.ensures.was ∙ ap Some c.in-None.is))
-    in
-    let r = rw h at c.requires in
-    cc
+pub relabel-was-requires-clause-there : goal.relabel-was-requires-clause-there
+relabel-was-requires-clause-there c =
+    rw c.deref_mut.ensures.value (node_there c.self.inside.nodes.items c.self.inside.edges.items c.args.n (rw (← c.self.view_is) at c.requires))
+
+pub relabel-was-requires-clause-rings : goal.relabel-was-requires-clause-rings
+relabel-was-requires-clause-rings c = subst (HasRoots c.self.inside.roots) (sym c.deref_mut.ensures.value) c.self.invariant.roots
 
 pub invariant_of-self : goal.invariant_of-self
 invariant_of-self c =
-    let there : c.args.n < length c.self.inside.nodes.items = slot_of node_of c.self.inside.nodes.items c.args.n (rw (← c.self.view_is) at c.requires) in
-    rw c.put.ensures.items (subst IsGraph (sym (set_node c.self.inside.nodes.items c.self.inside.edges.items c.args.n _ there))
-    (IsGraph-relabeled _ c.args.n _ c.self.invariant (rw (← c.self.view_is) at c.requires) c.new.ensures.in_range))
+    let ns = c.self.inside.nodes.items in
+    let es = c.self.inside.edges.items in
+    let x : Node = record { label = c.args.label; mark = c.args.mark; root = c.args.root } in
+    let f = rewritten c.args.label c.args.mark c.args.root in
+    let there = rw (← c.self.view_is) at c.requires in
+    let n = with_items_is c.self.inside.nodes c.relabel-was.new.nodes (c.relabel-was.auto.nodes ∙ c.deref_mut.ensures.len) in
+    subst (λ xs. IsHeld xs es c.relabel-was.result.0 c.self.inside.node_count) (sym n)
+    (held_nodes (changed_at f ns c.args.n) c.relabel-was.new.nodes es c.relabel-was.result.0 c.self.inside.node_count (relabeled (graph_from ns es) c.args.n x)
+    (seen_rewritten ns es c.args.n c.args.label c.args.mark c.args.root (node_there ns es c.args.n there))
+    (IsGraph-relabeled (graph_from ns es) c.args.n x c.self.invariant.graph there c.relabel-was.ensures.in_range)
+    (rings_rewritten ns es c.args.n c.args.label c.args.mark c.args.root c.self.invariant.rings)
+    (subst (λ xs. KeepsNodes (changed_at f xs c.args.n) c.relabel-was.new.nodes) c.deref_mut.ensures.value c.relabel-was.ensures.keeps)
+    (c.relabel-was.auto.nodes ∙ ap (λ (xs : List _). length xs) c.deref_mut.ensures.value ∙ sym (length-set ns c.args.n _))
+    c.relabel-was.ensures.rings
+    (c.self.invariant.count ∙ sym (count-relabeled (graph_from ns es) c.args.n x there)))
 
 pub returns-clause-relabeled : goal.returns-clause-relabeled
 returns-clause-relabeled c =
-    let there : c.args.n < length c.self.inside.nodes.items = slot_of node_of c.self.inside.nodes.items c.args.n (rw (← c.self.view_is) at c.requires) in
-    rw (c.put.ensures.items, ← c.self.view_is)
-    (set_node c.self.inside.nodes.items c.self.inside.edges.items c.args.n _ there ∙ ap (λ x. relabeled (graph_of c.self.inside) c.args.n (node_of x)) c.new.ensures.value)
+    let ns = c.self.inside.nodes.items in
+    let es = c.self.inside.edges.items in
+    let f = rewritten c.args.label c.args.mark c.args.root in
+    let n = with_items_is c.self.inside.nodes c.relabel-was.new.nodes (c.relabel-was.auto.nodes ∙ c.deref_mut.ensures.len) in
+    rw (← c.self.view_is)
+    (ap (λ xs. graph_from xs es) n
+    ∙ seen_kept (changed_at f ns c.args.n) c.relabel-was.new.nodes es
+      (subst (λ xs. KeepsNodes (changed_at f xs c.args.n) c.relabel-was.new.nodes) c.deref_mut.ensures.value c.relabel-was.ensures.keeps)
+      (c.relabel-was.auto.nodes ∙ ap (λ (xs : List _). length xs) c.deref_mut.ensures.value ∙ sym (length-set ns c.args.n _))
+    ∙ seen_rewritten ns es c.args.n c.args.label c.args.mark c.args.root (node_there ns es c.args.n (rw (← c.self.view_is) at c.requires)))
 
 pub returns-clause-was : goal.returns-clause-was
 returns-clause-was c =
-    rw (← c.self.view_is, entry_at node_of c.self.inside.nodes.items c.args.n (Some c.in-Some.slot) (c.put.ensures.was ∙ ap Some c.in-Some.is)) refl
+    rw (← c.self.view_is) (label_was c.self.inside.nodes.items c.self.inside.edges.items c.args.n c.relabel-was.result.1 (rw c.deref_mut.ensures.value at c.relabel-was.ensures.was))

@@ -1,5 +1,5 @@
 use Rattle.std.proofs.Common.{◌≤◌, ◌∙◌, sym, ap, arith}
-use Rattle.opt_gate.specs.Cores.{entries_of, ended_of, IsOfKey, passes_of}
+use Rattle.opt_gate.specs.inside.Cores.{entries_of, ended_of, IsOfKey, passes_of}
 use Rattle.opt_gate.proofs.Splits.{splits}
 use Rattle.opt_gate.proofs.pass.PassOf+Core+S+S+Found+S+Reason.split.Goals as goal
 

@@ -1,0 +1,98 @@
+-- Reading many, one after the other.
+use Rattle.std.proofs.Common.{◌≡◌, ℕ, zero, suc, ◌-◌, ◌<◌, true, false, List, [], ◌∷◌, ◌++◌, length, Option, Some, None, refl, sym, ap, ◌∙◌, append_assoc, arith}
+use Rattle.std.proofs.lemmas.List.{append-nil}
+use Rattle.gp_tokens.specs.declared.token.Token.{Token}
+use Rattle.gp_grammar.specs.declared.error.ReadError.{ReadError}
+use Rattle.gp_grammar.specs.declared.error.ReadError.TheVariants as error
+use Rattle.gp_grammar.specs.declared.want.Want.{Want}
+use Rattle.gp_grammar.specs.Shape.{second_of, list_of}
+use Rattle.gp_grammar.specs.Wants.{meets}
+use Rattle.gp_grammar.specs.inside.Reading.{Reader, ◌>>=◌, Fails, begins, behind, token, ◌and◌, made, many, repeated, separated}
+
+-- what was read before, and what is still read
+abbrev pub with_front : {A : Type 0} → List A → Option (List A × List Token) → Option (List A × List Token)
+with_front front read = read >>= λ x. Some (front ++ x.0, x.1)
+
+-- The front was read before. What is read of the rest, of so many at most, completes the whole.
+pub record GoesOn {A : Type 0} (want : Want) (one : Reader A) (whole : Option (List A × List Token)) (front : List A) (most : ℕ) (rest : List Token) : Type 0 where
+  pub same : with_front front (many want one most rest) ≡ whole
+
+with_nothing : {A : Type 0} (read : Option (List A × List Token)) → with_front [] read ≡ read
+with_nothing None = refl
+with_nothing (Some x) = refl
+
+regroup : {A : Type 0} (front : List A) (x : A) (read : Option (List A × List Token)) → with_front front (read >>= λ xs. Some (x ∷ xs.0, xs.1)) ≡ with_front (front ++ x ∷ []) read
+regroup front x None = refl
+regroup front x (Some y) = ap (λ (xs : List _). Some (xs, y.1)) (simp append_assoc)
+
+module _ {A : Type 0} (want : Want) (one : Reader A) where
+  link : (n : ℕ) (ts : List Token) → begins want ts ≡ true → 0 < n → many want one n ts ≡ (one ts >>= λ x. many want one (n - 1) x.1 >>= λ xs. Some (x.0 ∷ xs.0, xs.1))
+  unfolding many
+  link zero ts b lt = absurd (omega arith)
+  link (suc n) ts b lt = let e : suc n - 1 ≡ n = omega arith in rw (b, e) refl
+
+  empty : (n : ℕ) (ts : List Token) → begins want ts ≡ false → many want one n ts ≡ Some ([], ts)
+  unfolding many
+  empty zero ts b = refl
+  empty (suc n) ts b = rw b refl
+
+  none_left : (n : ℕ) (ts : List Token) → n ≡ 0 → many want one n ts ≡ Some ([], ts)
+  unfolding many
+  none_left zero ts e = refl
+  none_left (suc n) ts e = absurd (omega arith)
+
+module _ {A : Type 0} (want : Want) (one : Reader A) (whole : Option (List A × List Token)) where
+  pub starts : (start : List Token) → GoesOn want one (repeated want one start) [] (length start) start
+  starts start = record { same = with_nothing (many want one (length start) start) }
+
+  pub goes_on : (front : List A) (n m : ℕ) (ts : List Token) (x : A) (after : List Token) → begins want ts ≡ true → one ts ≡ Some (x, after) → 0 < n → m ≡ n - 1
+      → GoesOn want one whole front n ts → GoesOn want one whole (front ++ x ∷ []) m after
+  goes_on front n m ts x after b h lt e w = record {
+    same =
+        let step : many want one n ts ≡ (many want one m after >>= λ xs. Some (x ∷ xs.0, xs.1)) = link want one n ts b lt ∙ rw (h, e) refl in
+        sym (ap (with_front front) step ∙ regroup front x (many want one m after)) ∙ w.same;
+  }
+
+  pub fails : (e : ReadError) (front : List A) (n : ℕ) (ts : List Token) → begins want ts ≡ true → Fails e (one ts) → 0 < n → GoesOn want one whole front n ts → Fails e whole
+  fails error.NoMemory front n ts b h lt w = tt
+  fails (error.Syntax k) front n ts b h lt w =
+      let step : many want one n ts ≡ None = link want one n ts b lt ∙ rw h refl in
+      sym w.same ∙ ap (with_front front) step
+
+  pub ends : (front : List A) (n : ℕ) (ts : List Token) → begins want ts ≡ false → GoesOn want one whole front n ts → whole ≡ Some (front, ts)
+  ends front n ts b w = sym w.same ∙ ap (with_front front) (empty want one n ts b) ∙ ap (λ (xs : List A). Some (xs, ts)) (append-nil front)
+
+  pub runs_out : (front : List A) (n : ℕ) (ts : List Token) → n ≡ 0 → GoesOn want one whole front n ts → whole ≡ Some (front, ts)
+  runs_out front n ts e w = sym w.same ∙ ap (with_front front) (none_left want one n ts e) ∙ ap (λ (xs : List A). Some (xs, ts)) (append-nil front)
+
+-- ---- with a sign between
+
+-- a sign, and one more
+abbrev pub next_of : {A : Type 0} → Want → Reader A → Reader A
+next_of sign one = made second_of (token sign and one)
+
+-- once the first is read
+pub starts_behind : {A : Type 0} (sign : Want) (one : Reader A) (ts : List Token) (x : A) (start : List Token) → one ts ≡ Some (x, start)
+    → GoesOn sign (next_of sign one) (separated sign one ts) (x ∷ []) (length start) start
+starts_behind {A} sign one ts x start h = record { same = rw h (joined (many sign (next_of sign one) (length start) start)) }
+  where
+    joined : (read : Option (List A × List Token)) → with_front (x ∷ []) read ≡ made list_of (λ _. ◌>>=◌ {A = List A × List Token} {B = (A × List A) × List Token} read (λ y. Some ((x, y.0), y.1))) start
+    joined None = refl
+    joined (Some y) = refl
+
+-- nothing is read where the first is not
+pub fails_first : {A : Type 0} (e : ReadError) (sign : Want) (one : Reader A) (ts : List Token) → Fails e (one ts) → Fails e (separated sign one ts)
+fails_first error.NoMemory sign one ts h = tt
+fails_first (error.Syntax k) sign one ts h = rw h refl
+
+pub next_is : {A : Type 0} (sign : Want) (one : Reader A) (ts : List Token) → begins sign ts ≡ true → next_of sign one ts ≡ one (behind sign ts)
+next_is sign one [] b = absurd cc
+next_is sign one (t ∷ ts) b = rw b (same t (one ts))
+  where
+    same : {B : Type 0} (t : Token) (read : Option (B × List Token)) → (◌>>=◌ {B = B × List Token} (◌>>=◌ {B = (Token × B) × List Token} read (λ y. Some ((t, y.0), y.1))) (λ x. Some (x.0.1, x.1))) ≡ read
+    same t None = refl
+    same t (Some y) = refl
+
+pub behind_none : (sign : Want) (ts : List Token) → begins sign ts ≡ false → behind sign ts ≡ ts
+behind_none sign [] b = refl
+behind_none sign (t ∷ ts) b = rw b refl

@@ -1,0 +1,103 @@
+//! Makes the graph of a host without faults.
+
+ghost use Rattle.std.specs.Prelude.{◌≡◌, IfOk};
+ghost use Rattle.gp_values.specs.Graph.{IsGraph};
+ghost use Rattle.gp_hostfile.specs.Host.{atom_of, atoms_of, node_names};
+ghost use Rattle.gp_hostfile.specs.inside.Stages.{Makes, AreNodes, tree_in, one_node_more, nodes_made, one_edge_more, edges_made, graph_made};
+
+use crate::check::{edge_mark, end, integer, node_mark};
+use crate::fault::HostFault;
+use crate::names::NameTable;
+use crate::tree::{AtomTree, EdgeTree, HostTree, NodeTree};
+use gp_graph::Graph;
+use gp_values::{Atom, List};
+use std::alloc::Global;
+
+/// The graph of a tree, by the names of its nodes. Where the tree has no fault, only memory can be wanting.
+pub(crate) fn build(
+    alloc: Global,
+    tree: &HostTree<'_>,
+    nodes: &NameTable,
+) -> Result<Graph, HostFault>
+    requires { nodes.now ≡ node_names (tree_in tree.now) }
+    ensures made { Makes (λ g. g.graph) result (graph_made nodes.now (tree_in tree.now)) }
+    ensures graph { IfOk result (λ g. IsGraph g.graph) }
+{
+    let mut graph = Graph::new(alloc);
+    graph.reserve(tree.nodes.len() as u64, tree.edges.len() as u64)?;
+    build_nodes(alloc, &tree.nodes, &mut graph)?;
+    build_edges(alloc, &tree.edges, nodes, &mut graph)?;
+    let _sound = graph.next_numbers();
+    Ok(graph)
+}
+
+fn build_nodes(alloc: Global, nodes: &[NodeTree<'_>], graph: &mut Graph) -> Result<(), HostFault>
+    ensures { Makes (λ _. graph.new.graph) result (nodes_made nodes.now graph.old.graph) }
+{
+    for node in nodes {
+        build_node(alloc, node, graph)?;
+    }
+    Ok(())
+}
+
+fn build_node(alloc: Global, node: &NodeTree<'_>, graph: &mut Graph) -> Result<(), HostFault>
+    ensures { Makes (λ _. graph.new.graph) result (one_node_more node.now graph.old.graph) }
+{
+    let mark = node_mark(alloc, node)?;
+    let label = label_list(alloc, node.label.as_slice())?;
+    graph.add_node(label, mark, node.root)?;
+    Ok(())
+}
+
+fn build_edges(
+    alloc: Global,
+    edges: &[EdgeTree<'_>],
+    nodes: &NameTable,
+    graph: &mut Graph,
+) -> Result<(), HostFault>
+    requires { AreNodes nodes.now graph.old.graph }
+    ensures { Makes (λ _. graph.new.graph) result (edges_made nodes.now edges.now graph.old.graph) }
+{
+    for edge in edges {
+        build_edge(alloc, edge, nodes, graph)?;
+    }
+    Ok(())
+}
+
+fn build_edge(
+    alloc: Global,
+    edge: &EdgeTree<'_>,
+    nodes: &NameTable,
+    graph: &mut Graph,
+) -> Result<(), HostFault>
+    requires { AreNodes nodes.now graph.old.graph }
+    ensures made { Makes (λ _. graph.new.graph) result (one_edge_more nodes.now edge.now graph.old.graph) }
+    ensures nodes { AreNodes nodes.now graph.new.graph }
+{
+    let source = end(alloc, &edge.source, nodes)?;
+    let target = end(alloc, &edge.target, nodes)?;
+    let mark = edge_mark(alloc, edge)?;
+    let label = label_list(alloc, edge.label.as_slice())?;
+    graph.add_edge(source, target, label, mark)?;
+    Ok(())
+}
+
+fn label_list(alloc: Global, label: &[AtomTree]) -> Result<List, HostFault>
+    ensures { Makes (λ l. l) result (atoms_of label.now) }
+{
+    let mut list = List::new(alloc);
+    for atom in label {
+        let value = atom_value(alloc, atom)?;
+        list.push(value)?;
+    }
+    Ok(list)
+}
+
+fn atom_value(alloc: Global, atom: &AtomTree) -> Result<Atom, HostFault>
+    ensures { Makes (λ a. a) result (atom_of atom.now) }
+{
+    match atom {
+        AtomTree::Number(numeral, start) => Ok(Atom::Int(integer(numeral, *start)?)),
+        AtomTree::String(characters) => Ok(Atom::Str(characters.copy(alloc)?)),
+    }
+}

@@ -1,0 +1,5 @@
+pub mod Plans
+pub mod Parts
+pub mod Orders
+pub mod Counts
+pub mod Beginnings

@@ -1,0 +1,269 @@
+//! Runs commands.
+
+ghost use Rattle.std.specs.Prelude.{◌≡◌, ℕ, length, map};
+ghost use Rattle.gp_syntax.specs.Tree.{command_of, sequence};
+ghost use Rattle.gp_syntax.specs.Scoped.{MayBreak};
+ghost use Rattle.gp_run.specs.inside.Nested.{Fits, EachFits, Nests};
+ghost use Rattle.gp_syntax.specs.Run.{If, Try, Loop};
+ghost use Rattle.gp_run.specs.inside.Stopped.{HasStopped, HasPicked, stop_of, stop_of_call};
+
+use crate::chooser::Chooser;
+use crate::engine::{Called, Engine, Repeated, Turned};
+use gp_memory::NoMemory;
+use gp_syntax::{Command, NumberKind};
+
+#[derive(Clone, Copy)]
+pub(crate) enum Stop {
+    Graph,
+    Fail,
+    Break,
+    Bound,
+    Fault(u32, NumberKind),
+    NoMemory,
+}
+
+fn stop_after_call(answer: Called) -> Stop
+    ensures { result ≡ stop_of_call answer }
+{
+    match answer {
+        Called::Stepped => Stop::Graph,
+        Called::Blocked => Stop::Fail,
+        Called::Bound => Stop::Bound,
+        Called::Fault(rule, kind) => Stop::Fault(rule, kind),
+        Called::NoMemory => Stop::NoMemory,
+    }
+}
+
+fn stop_after_loop(answer: Repeated) -> Stop
+    ensures { result ≡ stop_of answer }
+{
+    match answer {
+        Repeated::Ended => Stop::Graph,
+        Repeated::Bound => Stop::Bound,
+        Repeated::Fault(rule, kind) => Stop::Fault(rule, kind),
+        Repeated::NoMemory => Stop::NoMemory,
+    }
+}
+
+// The part that the answers choose: the last answer is for the first two parts.
+fn pick_part<'a, C: Chooser>(
+    first: &'a Command,
+    rest: &'a [Command],
+    chooser: &mut C,
+) -> &'a Command
+    ensures { HasPicked C.answer C.next first.now rest.now result.now (C.state chooser.old) (C.state chooser.new) }
+{
+    let mut count = rest.len();
+    'choices: while count > 0 {
+        count -= 1;
+        if chooser.pick() {
+            return &rest[count];
+        }
+    }
+    first
+}
+
+/// Runs a command. At most `depth` procedures nest.
+#[cycle(run)]
+pub(crate) fn run_command<R, E: Engine<R>, C: Chooser>(
+    rt: &R,
+    procedures: &[Command],
+    depth: u32,
+    command: &Command,
+    engine: &mut E,
+    chooser: &mut C,
+) -> Stop
+    requires own { map command_of procedures.now ≡ (E.view engine.old).program.procedures }
+    requires fits { Fits (E.view engine.old).program (Nests (E.view engine.old).program depth) (command_of command.now) }
+    ensures { HasStopped C.answer C.next result (command_of command.now) (E.view engine.old) (E.view engine.new) (C.state chooser.old) (C.state chooser.new) }
+{
+    match command {
+        Command::Skip => Stop::Graph,
+        Command::Fail => Stop::Fail,
+        Command::Break => Stop::Break,
+        Command::Call(call) => stop_after_call(engine.call(rt, *call)),
+        Command::Seq(first, rest) => {
+            run_sequence(
+                rt,
+                procedures,
+                depth,
+                first.get(),
+                rest.as_slice(),
+                engine,
+                chooser,
+            )
+        }
+        Command::If(condition, then, otherwise) => {
+            run_if(
+                rt,
+                procedures,
+                depth,
+                condition.get(),
+                then.get(),
+                otherwise.get(),
+                engine,
+                chooser,
+            )
+        }
+        Command::Try(condition, then, otherwise) => {
+            run_try(
+                rt,
+                procedures,
+                depth,
+                condition.get(),
+                then.get(),
+                otherwise.get(),
+                engine,
+                chooser,
+            )
+        }
+        Command::Loop(body) => run_loop(rt, procedures, depth, body.get(), engine, chooser),
+        Command::Or(first, rest) => {
+            let part = pick_part(first.get(), rest.as_slice(), chooser);
+            run_command(rt, procedures, depth, part, engine, chooser)
+        }
+        Command::Proc(procedure) => {
+            run_command(
+                rt,
+                procedures,
+                depth - 1,
+                &procedures[*procedure as usize],
+                engine,
+                chooser,
+            )
+        }
+    }
+}
+
+#[cycle(run)]
+fn run_sequence<R, E: Engine<R>, C: Chooser>(
+    rt: &R,
+    procedures: &[Command],
+    depth: u32,
+    first: &Command,
+    rest: &[Command],
+    engine: &mut E,
+    chooser: &mut C,
+) -> Stop
+    requires own { map command_of procedures.now ≡ (E.view engine.old).program.procedures }
+    requires first { Fits (E.view engine.old).program (Nests (E.view engine.old).program depth) (command_of first.now) }
+    requires rest { EachFits (E.view engine.old).program (Nests (E.view engine.old).program depth) (map command_of rest.now) }
+    ensures { HasStopped C.answer C.next result (sequence (command_of first.now) (map command_of rest.now)) (E.view engine.old) (E.view engine.new) (C.state chooser.old) (C.state chooser.new) }
+{
+    match run_command(rt, procedures, depth, first, engine, chooser) {
+        Stop::Graph => {}
+        stop => return stop,
+    }
+    'parts: for part in rest {
+        match run_command(rt, procedures, depth, part, engine, chooser) {
+            Stop::Graph => {}
+            stop => return stop,
+        }
+    }
+    Stop::Graph
+}
+
+#[cycle(run)]
+fn run_if<R, E: Engine<R>, C: Chooser>(
+    rt: &R,
+    procedures: &[Command],
+    depth: u32,
+    condition: &Command,
+    then: &Command,
+    otherwise: &Command,
+    engine: &mut E,
+    chooser: &mut C,
+) -> Stop
+    requires own { map command_of procedures.now ≡ (E.view engine.old).program.procedures }
+    requires condition { Fits (E.view engine.old).program (Nests (E.view engine.old).program depth) (command_of condition.now) }
+    requires then { Fits (E.view engine.old).program (Nests (E.view engine.old).program depth) (command_of then.now) }
+    requires otherwise { Fits (E.view engine.old).program (Nests (E.view engine.old).program depth) (command_of otherwise.now) }
+    requires no_break { MayBreak (E.view engine.old).program (command_of condition.now) → ⊥ }
+    ensures { HasStopped C.answer C.next result (If (command_of condition.now) (command_of then.now) (command_of otherwise.now)) (E.view engine.old) (E.view engine.new) (C.state chooser.old) (C.state chooser.new) }
+{
+    let before = match engine.mark(rt) {
+        Ok(before) => before,
+        Err(NoMemory) => return Stop::NoMemory,
+    };
+    match run_command(rt, procedures, depth, condition, engine, chooser) {
+        Stop::Graph => {
+            engine.back_to(rt, before);
+            run_command(rt, procedures, depth, then, engine, chooser)
+        }
+        Stop::Fail => {
+            engine.back_to(rt, before);
+            run_command(rt, procedures, depth, otherwise, engine, chooser)
+        }
+        stop => stop,
+    }
+}
+
+#[cycle(run)]
+fn run_try<R, E: Engine<R>, C: Chooser>(
+    rt: &R,
+    procedures: &[Command],
+    depth: u32,
+    condition: &Command,
+    then: &Command,
+    otherwise: &Command,
+    engine: &mut E,
+    chooser: &mut C,
+) -> Stop
+    requires own { map command_of procedures.now ≡ (E.view engine.old).program.procedures }
+    requires condition { Fits (E.view engine.old).program (Nests (E.view engine.old).program depth) (command_of condition.now) }
+    requires then { Fits (E.view engine.old).program (Nests (E.view engine.old).program depth) (command_of then.now) }
+    requires otherwise { Fits (E.view engine.old).program (Nests (E.view engine.old).program depth) (command_of otherwise.now) }
+    requires no_break { MayBreak (E.view engine.old).program (command_of condition.now) → ⊥ }
+    ensures { HasStopped C.answer C.next result (Try (command_of condition.now) (command_of then.now) (command_of otherwise.now)) (E.view engine.old) (E.view engine.new) (C.state chooser.old) (C.state chooser.new) }
+{
+    let before = match engine.mark(rt) {
+        Ok(before) => before,
+        Err(NoMemory) => return Stop::NoMemory,
+    };
+    match run_command(rt, procedures, depth, condition, engine, chooser) {
+        Stop::Graph => run_command(rt, procedures, depth, then, engine, chooser),
+        Stop::Fail => {
+            engine.back_to(rt, before);
+            run_command(rt, procedures, depth, otherwise, engine, chooser)
+        }
+        stop => stop,
+    }
+}
+
+#[cycle(run)]
+fn run_loop<R, E: Engine<R>, C: Chooser>(
+    rt: &R,
+    procedures: &[Command],
+    depth: u32,
+    body: &Command,
+    engine: &mut E,
+    chooser: &mut C,
+) -> Stop
+    requires own { map command_of procedures.now ≡ (E.view engine.old).program.procedures }
+    requires fits { Fits (E.view engine.old).program (Nests (E.view engine.old).program depth) (command_of body.now) }
+    ensures { HasStopped C.answer C.next result (Loop (command_of body.now)) (E.view engine.old) (E.view engine.new) (C.state chooser.old) (C.state chooser.new) }
+{
+    if let Command::Call(call) = body {
+        return stop_after_loop(engine.repeat(rt, *call));
+    }
+    'turns: loop {
+        match engine.turn(rt) {
+            Turned::Made => {}
+            Turned::Bound => return Stop::Bound,
+            Turned::NoMemory => return Stop::NoMemory,
+        }
+        let mark = match engine.mark(rt) {
+            Ok(mark) => mark,
+            Err(NoMemory) => return Stop::NoMemory,
+        };
+        match run_command(rt, procedures, depth, body, engine, chooser) {
+            Stop::Graph => {}
+            Stop::Fail => {
+                engine.back_to(rt, mark);
+                return Stop::Graph;
+            }
+            Stop::Break => return Stop::Graph,
+            stop => return stop,
+        }
+    }
+}

@@ -1,0 +1,4 @@
+-- Stepping stones, which bodies and proofs need.
+pub mod TextLaws
+pub mod EqualityLaws
+pub mod CompareLaws

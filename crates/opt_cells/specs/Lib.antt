@@ -1,0 +1,4 @@
+pub mod Row
+pub mod Cells
+pub mod Traps
+pub mod inside

@@ -1,0 +1,2 @@
+mod Replicas
+mod News

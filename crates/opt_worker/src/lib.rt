@@ -1,0 +1,22 @@
+//! A worker: it searches on a replica of what its pass was told, and reports what it finds, until the goal has ended.
+//!
+//! Give `work` a pass of a gate and a replica that is where the pass was told that the core is, such as a copy of the base
+//! for a pass that was told nothing. It asks for entries and a share, makes the steps of the entries on the replica,
+//! searches the share outside any turn, and sends what it found. The pass comes back knowing how the goal ended, and the
+//! replica is the base after a beginning of the entries, whose length its depth tells (`specs/Replica`). Where memory is
+//! refused to it, it stops the goal.
+//!
+//! `work` and `work_on` may wait, for turns. A `Pace` may hold workers between searches and turns, as tests do: `Free` does
+//! nothing. That each event's condition holds is proved at each turn; definitions that only bodies need are in `specs/inside`.
+#![tactic(auto)]
+
+mod pace;
+mod sharing;
+mod worker;
+
+pub use pace::{Free, Pace};
+pub use sharing::job_may_be_taken;
+pub use worker::{work, work_on};
+
+#[cfg(test)]
+mod tests;

@@ -1,0 +1,23 @@
+//! What may hold workers, and hears of what they do.
+
+use std::sync::Wait;
+
+/// What is called as workers search and report. All workers share one value, and a call may wait. It answers nothing, so
+/// no worker's answer depends on it.
+pub trait Pace {
+    /// After each search, outside any turn: the number of the worker's pass, and the number of entries that it was told.
+    fn searched(&self, rt: &impl Wait, worker: u32, told: u64);
+
+    /// After the turn of the report of that search. Whether it committed a match.
+    fn turned(&self, rt: &impl Wait, worker: u32, told: u64, committed: bool);
+}
+
+/// The pace that holds nobody.
+#[derive(Clone, Copy, Debug)]
+pub struct Free;
+
+impl Pace for Free {
+    fn searched(&self, _rt: &impl Wait, _worker: u32, _told: u64) {}
+
+    fn turned(&self, _rt: &impl Wait, _worker: u32, _told: u64, _committed: bool) {}
+}

@@ -1,0 +1,183 @@
+//! A worker's rounds.
+
+ghost use Rattle.std.specs.Prelude.{◌≡◌, ◌≤◌, ◌<◌, ℕ, true, false, take, length, OnOk, IfOk, IfSome, IfNone};
+ghost use Rattle.opt_core.specs.Core.{reached, AllApply};
+ghost use Rattle.opt_gate.specs.Pass.{IsPassOf, start_of};
+ghost use Rattle.opt_gate.specs.Turn.{MayAsk, entries_told};
+ghost use Rattle.opt_worker.specs.Replica.{IsReplica, IsLater, IsDone};
+ghost use Rattle.opt_worker.specs.inside.Reports.{IsReport};
+
+use crate::pace::Pace;
+use gp_memory::NoMemory;
+use opt_core::Reply;
+use opt_gate::{Ask, Gate, Pass};
+use opt_system::{Sought, System};
+use std::sync::Wait;
+
+// Makes the steps of the entries on the replica. Where memory is refused, those before it are made.
+fn follow<S: System>(s: &S, at: &mut S::State, entries: &[S::Found]) -> Result<(), NoMemory>
+    requires { (goal : S.Goal) × AllApply (S.means s.now) goal at.old entries.now }
+    ensures all { OnOk result (at.new ≡ reached (S.means s.now) at.old entries.now) }
+    ensures some { (n : ℕ) × (n ≤ length entries.now) × (at.new ≡ reached (S.means s.now) at.old (take n entries.now)) }
+{
+    for found in entries {
+        let Ok(()) = s.apply(at, found) else {
+            return Err(NoMemory);
+        };
+    }
+    Ok(())
+}
+
+// Asks for entries and a share, and makes the steps of the entries. The share, or none where the goal has ended.
+fn catch_up<S: System, R: Wait>(
+    rt: &R,
+    s: &S,
+    gate: &Gate<S>,
+    pass: &mut Pass<S>,
+    at: &mut S::State,
+) -> Result<Option<u32>, NoMemory>
+    requires gate { IsPassOf gate.now pass.old }
+    requires system { s.now ≡ (start_of gate.now).system }
+    requires at { at.old ≡ reached (S.means s.now) (start_of gate.now).base (entries_told pass.old) }
+    ensures later { IsLater pass.old pass.new }
+    ensures replica { IsReplica (S.means s.now) (start_of gate.now).base pass.new.knows at.new }
+    ensures share { IfOk result (λ found. IfSome found (λ task. task < (S.means s.now).shares (start_of gate.now).goal)) }
+    ensures at { IfOk result (λ found. IfSome found (λ _. at.new ≡ reached (S.means s.now) (start_of gate.now).base (entries_told pass.new))) }
+    ensures done { IfOk result (λ found. IfNone found (IsDone (S.means s.now) gate.now.key pass.new)) }
+{
+    let from = pass.number();
+    match gate.turn(rt, pass, s, Ask::Look { from }) {
+        Reply::News { entries, task } => {
+            follow(s, at, entries.as_slice())?;
+            Ok(Some(task))
+        }
+        Reply::Closed(_) => Ok(None),
+        _ => Err(NoMemory),
+    }
+}
+
+// What the search of a share reports.
+fn search<S: System>(
+    s: &S,
+    gate: &Gate<S>,
+    pass: &Pass<S>,
+    at: &S::State,
+    task: u32,
+) -> Result<Ask<S::Found>, NoMemory>
+    requires system { s.now ≡ (start_of gate.now).system }
+    requires task { task < (S.means s.now).shares (start_of gate.now).goal }
+    requires at { at.now ≡ reached (S.means s.now) (start_of gate.now).base (entries_told pass.now) }
+    ensures report { IfOk result IsReport }
+    ensures may { IfOk result (λ a. MayAsk (S.means s.now) (start_of gate.now) pass.now a) }
+{
+    match s.seek(gate.goal(), task, at) {
+        Sought::Applies(found) => Ok(Ask::Offer { found }),
+        Sought::Faulty(found, _) => Ok(Ask::Fault { found }),
+        Sought::Barren => Ok(Ask::Quiet { share: task }),
+        Sought::NoMemory => Err(NoMemory),
+    }
+}
+
+// Searches the share and reports what was found. Whether the goal has ended.
+fn report<S: System, P: Pace, R: Wait>(
+    rt: &R,
+    s: &S,
+    gate: &Gate<S>,
+    pass: &mut Pass<S>,
+    at: &S::State,
+    task: u32,
+    pace: &P,
+) -> Result<bool, NoMemory>
+    requires gate { IsPassOf gate.now pass.old }
+    requires system { s.now ≡ (start_of gate.now).system }
+    requires task { task < (S.means s.now).shares (start_of gate.now).goal }
+    requires at { at.now ≡ reached (S.means s.now) (start_of gate.now).base (entries_told pass.old) }
+    ensures later { IsLater pass.old pass.new }
+    ensures told { entries_told pass.new ≡ entries_told pass.old }
+    ensures done { IfOk result (λ ended. ended ≡ true → IsDone (S.means s.now) gate.now.key pass.new) }
+{
+    let worker = pass.number();
+    let told = pass.told();
+    let found = search(s, gate, pass, at, task);
+    pace.searched(rt, worker, told);
+    let reply = gate.turn(rt, pass, s, found?);
+    pace.turned(rt, worker, told, matches!(&reply, Reply::Committed(_)));
+    match reply {
+        Reply::Closed(_) => Ok(true),
+        Reply::NoMemory => Err(NoMemory),
+        _ => Ok(false),
+    }
+}
+
+// Catches up, searches and reports once. Whether the goal has ended.
+fn round<S: System, P: Pace, R: Wait>(
+    rt: &R,
+    s: &S,
+    gate: &Gate<S>,
+    pass: &mut Pass<S>,
+    at: &mut S::State,
+    pace: &P,
+) -> Result<bool, NoMemory>
+    requires gate { IsPassOf gate.now pass.old }
+    requires system { s.now ≡ (start_of gate.now).system }
+    requires at { at.old ≡ reached (S.means s.now) (start_of gate.now).base (entries_told pass.old) }
+    ensures later { IsLater pass.old pass.new }
+    ensures replica { IsReplica (S.means s.now) (start_of gate.now).base pass.new.knows at.new }
+    ensures at { IfOk result (λ ended. ended ≡ false → at.new ≡ reached (S.means s.now) (start_of gate.now).base (entries_told pass.new)) }
+    ensures done { IfOk result (λ ended. ended ≡ true → IsDone (S.means s.now) gate.now.key pass.new) }
+{
+    match catch_up(rt, s, gate, pass, at)? {
+        Some(task) => report(rt, s, gate, pass, at, task, pace),
+        None => Ok(true),
+    }
+}
+
+/// Works with the pass until the goal has ended, or stops it where memory is refused. Whatever the ending, the replica is
+/// then the base after a beginning of the entries that the pass knows.
+pub fn work_on<S: System, P: Pace, R: Wait>(
+    rt: &R,
+    s: &S,
+    gate: &Gate<S>,
+    pass: &mut Pass<S>,
+    state: &mut S::State,
+    pace: &P,
+)
+    requires gate { IsPassOf gate.now pass.old }
+    requires system { s.now ≡ (start_of gate.now).system }
+    requires state { state.old ≡ reached (S.means s.now) (start_of gate.now).base (entries_told pass.old) }
+    ensures later { IsLater pass.old pass.new }
+    ensures done { IsDone (S.means s.now) gate.now.key pass.new }
+    ensures replica { IsReplica (S.means s.now) (start_of gate.now).base pass.new.knows state.new }
+{
+    for _ in rt.forever() {
+        match round(rt, s, gate, pass, state, pace) {
+            Ok(false) => {}
+            Ok(true) => return,
+            Err(NoMemory) => {
+                gate.turn(rt, pass, s, Ask::Stop);
+                return;
+            }
+        }
+    }
+    unreachable!()
+}
+
+/// `work_on` with the pass by value: it comes back knowing how the goal ended.
+pub fn work<S: System, P: Pace, R: Wait>(
+    rt: &R,
+    s: &S,
+    gate: &Gate<S>,
+    mut pass: Pass<S>,
+    state: &mut S::State,
+    pace: &P,
+) -> Pass<S>
+    requires gate { IsPassOf gate.now pass }
+    requires system { s.now ≡ (start_of gate.now).system }
+    requires state { state.old ≡ reached (S.means s.now) (start_of gate.now).base (entries_told pass) }
+    ensures later { IsLater pass result }
+    ensures done { IsDone (S.means s.now) gate.now.key result }
+    ensures replica { IsReplica (S.means s.now) (start_of gate.now).base result.knows state.new }
+{
+    work_on(rt, s, gate, &mut pass, state, pace);
+    pass
+}
