@@ -1,0 +1,223 @@
+-- Chains, operand by operand, and their sizes.
+use Rattle.std.proofs.Common.{◌≡◌, ℕ, zero, suc, ◌+◌, ◌<◌, ◌≤◌, List, [], ◌∷◌, ◌++◌, length, map, drop, fold, get_or, All, refl, sym, ap, subst, ◌∙◌, arith, Result, Ok, Err, IsErrAnd, Bool, true, false, ◌==◌}
+use Rattle.std.proofs.lemmas.Bool.Decides.{Decides-eqb}
+use Rattle.gp_values.specs.declared.atom.Atom.{Atom}
+use Rattle.gp_values.specs.declared.atom.Atom.TheVariants.{Str}
+use Rattle.gp_syntax.specs.declared.expression.Expr.{Expr}
+use Rattle.gp_syntax.specs.declared.expression.Expr.TheVariants as tree
+use Rattle.gp_syntax.specs.declared.expression.Expr.TheOpen.{Expr-F}
+use Rattle.gp_syntax.specs.declared.expression.Expr.TheFolds.{fold-roll-Expr}
+use Rattle.gp_syntax.specs.declared.expression.Signed.{Signed}
+use Rattle.gp_syntax.specs.declared.expression.SumSign.{SumSign}
+use Rattle.gp_syntax.specs.declared.expression.SumSign.TheVariants as sums
+use Rattle.gp_syntax.specs.declared.expression.ProductSign.{ProductSign}
+use Rattle.gp_syntax.specs.declared.expression.ProductSign.TheVariants as products
+use Rattle.gp_syntax.specs.Expression.{Expression, Dot, Join}
+use Rattle.gp_syntax.specs.Tree.{expression_of, operands_of, sum as summed, product, dots, joins, added as plus, multiplied as times}
+use Rattle.gp_syntax.specs.Value.{Setting, Valued, Value, NoValue, ◌>>=◌, value_of, integer, characters}
+use Rattle.gp_syntax.specs.WellFormed.{IsWithin}
+use Rattle.gp_eval.specs.declared.valued.Missing.{Missing}
+use Rattle.gp_eval.specs.declared.valued.Missing.TheVariants as missing
+use Rattle.gp_eval.specs.inside.Chains.{Lacks, Gives, added, multiplied, sum_step, product_step, dot_step, join_step}
+use Rattle.gp_eval.specs.inside.Size.{total, size_step, size, sizes, operand_sizes}
+
+abbrev Values : Type 0
+Values = Valued (List Atom)
+
+module _ {X : Type 0} (val : X → Values) (f : X → List Atom → List Atom → Values) where
+  abbrev pub step : Values → X → Values
+  step v x = v >>= λ a. val x >>= λ b. f x a b
+
+  stays : (k : _) (xs : List X) → fold step (NoValue k) xs ≡ NoValue k
+  stays k [] = refl
+  stays k (x ∷ xs) = stays k xs
+
+  goes_on : (v w : Values) (i : ℕ) (x : X) (xs : List X) → i < length xs → get_or xs i x ≡ x → step v x ≡ w → (m : Values) → fold step v (drop i xs) ≡ m → fold step w (drop (suc i) xs) ≡ m
+  goes_on v w i x [] l e s m h = absurd (omega arith)
+  goes_on v w zero x (y ∷ xs) l e s m h = ap (λ z. fold step z xs) (sym s ∙ ap (step v) (sym e)) ∙ h
+  goes_on v w (suc i) x (y ∷ xs) l e s m h = goes_on v w i x xs (omega arith) e s m h
+
+  -- one operand more
+  pub chain_on : (total y w : List Atom) (i : ℕ) (x : X) (xs : List X) (m : Values) → i < length xs → get_or xs i x ≡ x → val x ≡ Value y → f x total y ≡ Value w → fold step (Value total) (drop i xs) ≡ m → fold step (Value w) (drop (i + 1) xs) ≡ m
+  chain_on total y w i x xs m l e v s h =
+      let n : suc i ≡ i + 1 = omega arith in
+      subst (λ k. fold step (Value w) (drop k xs) ≡ m) n (goes_on (Value total) (Value w) i x xs l e (ap (λ z. z >>= λ b. f x total b) v ∙ s) m h)
+
+  lacks : (e : Missing) (v : Values) (i : ℕ) (x : X) (xs : List X) (m : Values) → i < length xs → get_or xs i x ≡ x → Lacks e (step v x) → fold step v (drop i xs) ≡ m → Lacks e m
+  lacks (missing.NoValue k) v i x xs m l e s h = sym (goes_on v (NoValue k) i x xs l e s m h) ∙ stays k (drop (suc i) xs)
+  lacks missing.NoMemory v i x xs m l e s h = tt
+
+  -- an operand without a value
+  pub operand_lacks : (e : Missing) (total : List Atom) (i : ℕ) (x : X) (xs : List X) (m : Values) → i < length xs → get_or xs i x ≡ x → Lacks e (val x) → fold step (Value total) (drop i xs) ≡ m → Lacks e m
+  operand_lacks (missing.NoValue k) total i x xs m l e s h = lacks (missing.NoValue k) (Value total) i x xs m l e (ap (λ z. z >>= λ b. f x total b) s) h
+  operand_lacks missing.NoMemory total i x xs m l e s h = tt
+
+  -- and an operation without one
+  pub step_lacks : (e : Missing) (total y : List Atom) (i : ℕ) (x : X) (xs : List X) (m : Values) → i < length xs → get_or xs i x ≡ x → val x ≡ Value y → Lacks e (f x total y) → fold step (Value total) (drop i xs) ≡ m → Lacks e m
+  step_lacks (missing.NoValue k) total y i x xs m l e v s h = lacks (missing.NoValue k) (Value total) i x xs m l e (ap (λ z. z >>= λ b. f x total b) v ∙ s) h
+  step_lacks missing.NoMemory total y i x xs m l e v s h = tt
+
+  -- the first operand without a value
+  pub first_lacks : (e : Missing) (v : Values) (xs : List X) → Lacks e v → Lacks e (fold step v xs)
+  first_lacks (missing.NoValue k) v xs h = ap (λ z. fold step z xs) h ∙ stays k xs
+  first_lacks missing.NoMemory v xs h = tt
+
+-- ---- what chains mean
+
+pub sum_is : (s : Setting) (e : Expression ℕ) (ts : List (Signed SumSign (Expr ℕ))) → value_of (summed e (operands_of ts)) s ≡ fold (sum_step s) (value_of e s) ts
+sum_is s e [] = refl
+sum_is s e (t ∷ ts) = sum_is s (plus t.sign e (expression_of t.operand)) ts ∙ ap (λ v. fold (sum_step s) v ts) (by t.sign)
+  where
+    by : (sign : SumSign) → value_of (plus sign e (expression_of t.operand)) s ≡ sum_step s (value_of e s) (record { sign = sign; operand = t.operand })
+    by sums.Plus = refl
+    by sums.Minus = refl
+
+pub product_is : (s : Setting) (e : Expression ℕ) (ts : List (Signed ProductSign (Expr ℕ))) → value_of (product e (operands_of ts)) s ≡ fold (product_step s) (value_of e s) ts
+product_is s e [] = refl
+product_is s e (t ∷ ts) = product_is s (times t.sign e (expression_of t.operand)) ts ∙ ap (λ v. fold (product_step s) v ts) (by t.sign)
+  where
+    by : (sign : ProductSign) → value_of (times sign e (expression_of t.operand)) s ≡ product_step s (value_of e s) (record { sign = sign; operand = t.operand })
+    by products.Times = refl
+    by products.Over = refl
+
+pub dots_are : (s : Setting) (e : Expression ℕ) (xs : List (Expr ℕ)) → value_of (dots e (map expression_of xs)) s ≡ fold (dot_step s) (value_of e s) xs
+dots_are s e [] = refl
+dots_are s e (x ∷ xs) = dots_are s (Dot e (expression_of x)) xs
+
+pub joins_are : (s : Setting) (e : Expression ℕ) (xs : List (Expr ℕ)) → value_of (joins e (map expression_of xs)) s ≡ fold (join_step s) (value_of e s) xs
+joins_are s e [] = refl
+joins_are s e (x ∷ xs) = joins_are s (Join e (expression_of x)) xs
+
+-- ---- their parts are within
+
+pub within_sum : (v n : ℕ) (e : Expression ℕ) (ts : List (Signed SumSign (Expr ℕ))) → IsWithin v n (summed e (operands_of ts)) → IsWithin v n e × All (λ (t : Signed SumSign (Expr ℕ)). IsWithin v n (expression_of t.operand)) ts
+within_sum v n e [] h = (h, λ k d l. absurd (omega arith))
+within_sum v n e (t ∷ ts) h = by t.sign (within_sum v n (plus t.sign e (expression_of t.operand)) ts h)
+  where
+    at : IsWithin v n (expression_of t.operand) → All (λ (t : Signed SumSign (Expr ℕ)). IsWithin v n (expression_of t.operand)) ts → All (λ (t : Signed SumSign (Expr ℕ)). IsWithin v n (expression_of t.operand)) (t ∷ ts)
+    at h k zero d l = h
+    at h k (suc i) d l = k i d (omega arith)
+
+    by : (sign : SumSign) → IsWithin v n (plus sign e (expression_of t.operand)) × All (λ (t : Signed SumSign (Expr ℕ)). IsWithin v n (expression_of t.operand)) ts → IsWithin v n e × All (λ (t : Signed SumSign (Expr ℕ)). IsWithin v n (expression_of t.operand)) (t ∷ ts)
+    by sums.Plus h = (h.0.0, at h.0.1 h.1)
+    by sums.Minus h = (h.0.0, at h.0.1 h.1)
+
+pub within_product : (v n : ℕ) (e : Expression ℕ) (ts : List (Signed ProductSign (Expr ℕ))) → IsWithin v n (product e (operands_of ts)) → IsWithin v n e × All (λ (t : Signed ProductSign (Expr ℕ)). IsWithin v n (expression_of t.operand)) ts
+within_product v n e [] h = (h, λ k d l. absurd (omega arith))
+within_product v n e (t ∷ ts) h = by t.sign (within_product v n (times t.sign e (expression_of t.operand)) ts h)
+  where
+    at : IsWithin v n (expression_of t.operand) → All (λ (t : Signed ProductSign (Expr ℕ)). IsWithin v n (expression_of t.operand)) ts → All (λ (t : Signed ProductSign (Expr ℕ)). IsWithin v n (expression_of t.operand)) (t ∷ ts)
+    at h k zero d l = h
+    at h k (suc i) d l = k i d (omega arith)
+
+    by : (sign : ProductSign) → IsWithin v n (times sign e (expression_of t.operand)) × All (λ (t : Signed ProductSign (Expr ℕ)). IsWithin v n (expression_of t.operand)) ts → IsWithin v n e × All (λ (t : Signed ProductSign (Expr ℕ)). IsWithin v n (expression_of t.operand)) (t ∷ ts)
+    by products.Times h = (h.0.0, at h.0.1 h.1)
+    by products.Over h = (h.0.0, at h.0.1 h.1)
+
+all_behind : (v n : ℕ) (x : Expr ℕ) (xs : List (Expr ℕ)) → IsWithin v n (expression_of x) → All (λ (t : Expr ℕ). IsWithin v n (expression_of t)) xs → All (λ (t : Expr ℕ). IsWithin v n (expression_of t)) (x ∷ xs)
+all_behind v n x xs h k zero d l = h
+all_behind v n x xs h k (suc i) d l = k i d (omega arith)
+
+pub within_dots : (v n : ℕ) (e : Expression ℕ) (xs : List (Expr ℕ)) → IsWithin v n (dots e (map expression_of xs)) → IsWithin v n e × All (λ (t : Expr ℕ). IsWithin v n (expression_of t)) xs
+within_dots v n e [] h = (h, λ k d l. absurd (omega arith))
+within_dots v n e (x ∷ xs) h = let k = within_dots v n (Dot e (expression_of x)) xs h in (k.0.0, all_behind v n x xs k.0.1 k.1)
+
+pub within_joins : (v n : ℕ) (e : Expression ℕ) (xs : List (Expr ℕ)) → IsWithin v n (joins e (map expression_of xs)) → IsWithin v n e × All (λ (t : Expr ℕ). IsWithin v n (expression_of t)) xs
+within_joins v n e [] h = (h, λ k d l. absurd (omega arith))
+within_joins v n e (x ∷ xs) h = let k = within_joins v n (Join e (expression_of x)) xs h in (k.0.0, all_behind v n x xs k.0.1 k.1)
+
+-- ---- sizes
+
+pub size-Negated : (e : Expr ℕ) → size (tree.Negated e) ≡ 2 + size e
+unfolding size
+size-Negated e = ap size (sym (tree.rolls-Negated e)) ∙ fold-roll-Expr ℕ ℕ size_step (Expr-F.Negated e)
+
+pub size-Sum : (e : Expr ℕ) (ts : List (Signed SumSign (Expr ℕ))) → size (tree.Sum e ts) ≡ 2 + size e + operand_sizes ts
+unfolding size
+size-Sum e ts = ap size (sym (tree.rolls-Sum e ts)) ∙ fold-roll-Expr ℕ ℕ size_step (Expr-F.Sum e ts) ∙ ap (λ n. 2 + size e + total n) (twice ts)
+  where
+    twice : (ts : List (Signed SumSign (Expr ℕ))) → map (λ (t : Signed SumSign ℕ). t.operand) (map (λ (t : Signed SumSign (Expr ℕ)). record { sign = t.sign; operand = size t.operand }) ts) ≡ map (λ (t : Signed SumSign (Expr ℕ)). size t.operand) ts
+    twice [] = refl
+    twice (t ∷ ts) = λ i. size t.operand ∷ twice ts i
+
+pub size-Product : (e : Expr ℕ) (ts : List (Signed ProductSign (Expr ℕ))) → size (tree.Product e ts) ≡ 2 + size e + operand_sizes ts
+unfolding size
+size-Product e ts = ap size (sym (tree.rolls-Product e ts)) ∙ fold-roll-Expr ℕ ℕ size_step (Expr-F.Product e ts) ∙ ap (λ n. 2 + size e + total n) (twice ts)
+  where
+    twice : (ts : List (Signed ProductSign (Expr ℕ))) → map (λ (t : Signed ProductSign ℕ). t.operand) (map (λ (t : Signed ProductSign (Expr ℕ)). record { sign = t.sign; operand = size t.operand }) ts) ≡ map (λ (t : Signed ProductSign (Expr ℕ)). size t.operand) ts
+    twice [] = refl
+    twice (t ∷ ts) = λ i. size t.operand ∷ twice ts i
+
+pub size-Dot : (e : Expr ℕ) (es : List (Expr ℕ)) → size (tree.Dot e es) ≡ 2 + size e + sizes es
+unfolding size
+size-Dot e es = ap size (sym (tree.rolls-Dot e es)) ∙ fold-roll-Expr ℕ ℕ size_step (Expr-F.Dot e es)
+
+pub size-Join : (e : Expr ℕ) (es : List (Expr ℕ)) → size (tree.Join e es) ≡ 2 + size e + sizes es
+unfolding size
+size-Join e es = ap size (sym (tree.rolls-Join e es)) ∙ fold-roll-Expr ℕ ℕ size_step (Expr-F.Join e es)
+
+pub size_at : (es : List (Expr ℕ)) (i : ℕ) (d : Expr ℕ) → i < length es → size (get_or es i d) ≤ sizes es
+size_at [] i d l = absurd (omega arith)
+size_at (e ∷ es) zero d l = omega arith
+size_at (e ∷ es) (suc i) d l = omega (arith, size_at es i d (omega arith))
+
+pub operand_size_at : {Sign : Type 0} (ts : List (Signed Sign (Expr ℕ))) (i : ℕ) (d : Signed Sign (Expr ℕ)) → i < length ts → size (get_or ts i d).operand ≤ operand_sizes ts
+operand_size_at [] i d l = absurd (omega arith)
+operand_size_at (t ∷ ts) zero d l = omega arith
+operand_size_at (t ∷ ts) (suc i) d l = omega (arith, operand_size_at ts i d (omega arith))
+
+-- ---- answers that `?` hands on
+
+pub err_given : {X : Type 0} (r : Result X Missing) (e : Missing) (m : Valued X) → IsErrAnd r (λ k. k ≡ e) → Lacks e m → Gives r m
+err_given (Ok x) e m h k = absurd h
+err_given (Err d) e m h k = subst (λ z. Lacks z m) (sym h) k
+
+pub none_given : {X : Type 0} (r : Result X Missing) (m : Valued X) → IsErrAnd r (λ k. k ≡ missing.NoMemory) → Gives r m
+none_given r m h = err_given r missing.NoMemory m h tt
+
+pub memory_given : {X : Type 0} (r : Result X Missing) (e : Missing) (m : Valued X) → IsErrAnd r (λ k. k ≡ e) → e ≡ missing.NoMemory → Gives r m
+memory_given r e m h k = err_given r e m h (subst (λ z. Lacks z m) (sym k) tt)
+
+pub bind_lacks : {X Y : Type 0} (e : Missing) (v : Valued X) (f : X → Valued Y) → Lacks e v → Lacks e (v >>= f)
+bind_lacks (missing.NoValue k) v f h = ap (λ z. z >>= f) h
+bind_lacks missing.NoMemory v f h = tt
+
+-- past the last operand
+pub ended : {X : Type 0} (f : Values → X → Values) (v m : Values) (i : ℕ) (xs : List X) → length xs ≤ i → fold f v (drop i xs) ≡ m → m ≡ v
+ended f v m zero [] l h = sym h
+ended f v m (suc i) [] l h = sym h
+ended f v m zero (x ∷ xs) l h = absurd (omega arith)
+ended f v m (suc i) (x ∷ xs) l h = ended f v m i xs (omega arith) h
+
+-- ---- sums and products
+
+pub sum_on : (s : Setting) (total y w : List Atom) (i : ℕ) (x : Signed SumSign (Expr ℕ)) (xs : List (Signed SumSign (Expr ℕ))) (m : Values) → i < length xs → x ≡ get_or xs i x → value_of (expression_of x.operand) s ≡ Value y
+    → added x.sign (integer total) (integer y) ≡ Value w → fold (sum_step s) (Value total) (drop i xs) ≡ m → fold (sum_step s) (Value w) (drop (i + 1) xs) ≡ m
+sum_on s total y w i x xs m l e v h k = chain_on (λ t. value_of (expression_of t.operand) s) (λ t x y. added t.sign (integer x) (integer y)) total y w i x xs m l (sym e) v h k
+
+pub product_on : (s : Setting) (total y w : List Atom) (i : ℕ) (x : Signed ProductSign (Expr ℕ)) (xs : List (Signed ProductSign (Expr ℕ))) (m : Values) → i < length xs → x ≡ get_or xs i x → value_of (expression_of x.operand) s ≡ Value y
+    → multiplied x.sign (integer total) (integer y) ≡ Value w → fold (product_step s) (Value total) (drop i xs) ≡ m → fold (product_step s) (Value w) (drop (i + 1) xs) ≡ m
+product_on s total y w i x xs m l e v h k = chain_on (λ t. value_of (expression_of t.operand) s) (λ t x y. multiplied t.sign (integer x) (integer y)) total y w i x xs m l (sym e) v h k
+
+-- ---- strings and lists
+
+-- of the first operand a chain of strings has the characters alone
+pub dot_first : (s : Setting) (v : List Atom) (cs : List ℕ) (xs : List (Expr ℕ)) → cs ≡ characters v → (xs ≡ [] → ⊥) → fold (dot_step s) (Value (Str cs ∷ [])) xs ≡ fold (dot_step s) (Value v) xs
+dot_first s v cs [] e d = absurd (d refl)
+dot_first s v cs (x ∷ xs) e d = ap (λ z. fold (dot_step s) (value_of (expression_of x) s >>= λ y. Value (Str (z ++ characters y) ∷ [])) xs) e
+
+pub dot_on : (s : Setting) (cs ds : List ℕ) (y : List Atom) (i : ℕ) (x : Expr ℕ) (xs : List (Expr ℕ)) (m : Values) → i < length xs → x ≡ get_or xs i x → value_of (expression_of x) s ≡ Value y
+    → ds ≡ cs ++ characters y → fold (dot_step s) (Value (Str cs ∷ [])) (drop i xs) ≡ m → fold (dot_step s) (Value (Str ds ∷ [])) (drop (i + 1) xs) ≡ m
+dot_on s cs ds y i x xs m l e v h k =
+    chain_on (λ z. value_of (expression_of z) s) (λ z a b. Value (Str (characters a ++ characters b) ∷ [])) (Str cs ∷ []) y (Str ds ∷ []) i x xs m l (sym e) v (ap (λ z. Value (Str z ∷ [])) (sym h)) k
+
+pub join_on : (s : Setting) (total y w : List Atom) (i : ℕ) (x : Expr ℕ) (xs : List (Expr ℕ)) (m : Values) → i < length xs → x ≡ get_or xs i x → value_of (expression_of x) s ≡ Value y
+    → Value (total ++ y) ≡ Value w → fold (join_step s) (Value total) (drop i xs) ≡ m → fold (join_step s) (Value w) (drop (i + 1) xs) ≡ m
+join_on s total y w i x xs m l e v h k = chain_on (λ z. value_of (expression_of z) s) (λ z a b. Value (a ++ b)) total y w i x xs m l (sym e) v h k
+
+pub empty_fold : {X : Type 0} (f : Values → X → Values) (v w : Values) (xs : List X) (b : Bool) → b ≡ (length xs == 0) → b ≡ true → v ≡ w → fold f v xs ≡ w
+empty_fold f v w [] b e t h = h
+empty_fold f v w (x ∷ xs) b e t h = let l : length (x ∷ xs) ≡ 0 = (Decides-eqb (length (x ∷ xs)) 0).0 (sym e ∙ t) in absurd (omega arith)
+
+pub not_empty : {X : Type 0} (xs : List X) (b : Bool) → b ≡ (length xs == 0) → b ≡ false → xs ≡ [] → ⊥
+not_empty xs b e f s = let t : (length xs == 0) ≡ true = (Decides-eqb (length xs) 0).1 (ap length s) in absurd (let d : false ≡ true = sym f ∙ e ∙ t in cc)

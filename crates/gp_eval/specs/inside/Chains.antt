@@ -1,0 +1,45 @@
+-- Chains valued from the left, operand by operand.
+use Rattle.std.specs.Prelude.{◌≡◌, ℕ, ℤ, ◌+ℤ◌, ◌-ℤ◌, ◌*ℤ◌, List, [], ◌∷◌, ◌++◌, Result, Ok, Err}
+use Rattle.gp_memory.specs.Free.{Free}
+use Rattle.gp_values.specs.declared.atom.Atom.{Atom}
+use Rattle.gp_values.specs.declared.atom.Atom.TheVariants.{Str}
+use Rattle.gp_syntax.specs.declared.expression.Expr.{Expr}
+use Rattle.gp_syntax.specs.declared.expression.Signed.{Signed}
+use Rattle.gp_syntax.specs.declared.expression.SumSign.{SumSign}
+use Rattle.gp_syntax.specs.declared.expression.SumSign.TheVariants as sums
+use Rattle.gp_syntax.specs.declared.expression.ProductSign.{ProductSign}
+use Rattle.gp_syntax.specs.declared.expression.ProductSign.TheVariants as products
+use Rattle.gp_syntax.specs.Tree.{expression_of}
+use Rattle.gp_syntax.specs.Value.{Setting, Valued, Value, NoValue, ◌>>=◌, value_of, ranged, quotient, integer, characters}
+use Rattle.gp_eval.specs.declared.valued.Missing.{Missing}
+use Rattle.gp_eval.specs.declared.valued.Missing.TheVariants as missing
+
+-- an answer that is handed on by `?`
+abbrev pub Lacks : {X : Type 0} → Missing → Valued X → Type 0
+Lacks (missing.NoValue kind) meaning = meaning ≡ NoValue kind
+Lacks missing.NoMemory meaning = Free
+
+abbrev pub Gives : {X : Type 0} → Result X Missing → Valued X → Type 0
+Gives (Ok x) meaning = meaning ≡ Value x
+Gives (Err e) meaning = Lacks e meaning
+
+abbrev pub added : SumSign → ℤ → ℤ → Valued (List Atom)
+added sums.Plus x y = ranged (x +ℤ y)
+added sums.Minus x y = ranged (x -ℤ y)
+
+abbrev pub multiplied : ProductSign → ℤ → ℤ → Valued (List Atom)
+multiplied products.Times x y = ranged (x *ℤ y)
+multiplied products.Over x y = quotient x y
+
+-- what is valued so far, and the next operand
+abbrev pub sum_step : Setting → Valued (List Atom) → Signed SumSign (Expr ℕ) → Valued (List Atom)
+sum_step s v t = v >>= λ x. value_of (expression_of t.operand) s >>= λ y. added t.sign (integer x) (integer y)
+
+abbrev pub product_step : Setting → Valued (List Atom) → Signed ProductSign (Expr ℕ) → Valued (List Atom)
+product_step s v t = v >>= λ x. value_of (expression_of t.operand) s >>= λ y. multiplied t.sign (integer x) (integer y)
+
+abbrev pub dot_step : Setting → Valued (List Atom) → Expr ℕ → Valued (List Atom)
+dot_step s v e = v >>= λ x. value_of (expression_of e) s >>= λ y. Value (Str (characters x ++ characters y) ∷ [])
+
+abbrev pub join_step : Setting → Valued (List Atom) → Expr ℕ → Valued (List Atom)
+join_step s v e = v >>= λ x. value_of (expression_of e) s >>= λ y. Value (x ++ y)

@@ -1,0 +1,30 @@
+-- How large an expression is: what recursion over it takes less of at each call.
+use Rattle.std.specs.Prelude.{ℕ, ◌+◌, List, [], ◌∷◌, map}
+use Rattle.gp_syntax.specs.declared.expression.Signed.{Signed}
+use Rattle.gp_syntax.specs.declared.expression.Expr.{Expr}
+use Rattle.gp_syntax.specs.declared.expression.Expr.TheOpen.{Expr-F}
+use Rattle.gp_syntax.specs.declared.expression.Expr.TheFolds.{fold-Expr}
+
+abbrev pub total : List ℕ → ℕ
+total [] = 0
+total (n ∷ ns) = n + total ns
+
+abbrev pub operand_sum : {Sign : Type 0} → List (Signed Sign ℕ) → ℕ
+operand_sum {Sign} ts = total (map (λ (t : Signed Sign ℕ). t.operand) ts)
+
+abbrev pub size_step : Expr-F ℕ ℕ → ℕ
+size_step (Expr-F.Negated e) = 2 + e
+size_step (Expr-F.Sum e ts) = 2 + e + operand_sum ts
+size_step (Expr-F.Product e ts) = 2 + e + operand_sum ts
+size_step (Expr-F.Dot e xs) = 2 + e + total xs
+size_step (Expr-F.Join e xs) = 2 + e + total xs
+size_step other = 1
+
+unfoldable pub size : Expr ℕ → ℕ
+size = fold-Expr ℕ ℕ size_step
+
+abbrev pub sizes : List (Expr ℕ) → ℕ
+sizes es = total (map size es)
+
+abbrev pub operand_sizes : {Sign : Type 0} → List (Signed Sign (Expr ℕ)) → ℕ
+operand_sizes {Sign} ts = total (map (λ (t : Signed Sign (Expr ℕ)). size t.operand) ts)

@@ -1,0 +1,148 @@
+//! Integers, and lists of one atom.
+
+ghost use Rattle.std.specs.Prelude.{◌≡◌, ℤ, neg_ℤ, [], ◌∷◌, ◌++◌, IfOk};
+ghost use Rattle.std.specs.Prelude.{FitsSigned, IfErr};
+ghost use Rattle.gp_values.specs.declared.atom.Atom.TheVariants.{Str};
+ghost use Rattle.gp_eval.specs.declared.valued.Missing.TheVariants as missing;
+ghost use Rattle.std.specs.Int.{w128};
+ghost use Rattle.std.specs.Option.{SomeIff};
+ghost use Rattle.gp_values.specs.Texts.{IsText};
+ghost use Rattle.gp_syntax.specs.Value.{Value, ranged, quotient, integer, characters, number};
+ghost use Rattle.gp_eval.specs.inside.Chains.{Gives, added, multiplied};
+
+use crate::valued::Missing;
+use gp_memory::NoMemory;
+use gp_syntax::{NumberKind, ProductSign, SumSign};
+use gp_values::{Atom, Chars, List};
+use std::alloc::Global;
+
+// The list of this atom.
+fn single(alloc: Global, atom: Atom) -> Result<List, NoMemory>
+    ensures { IfOk result (λ v. v ≡ atom ∷ []) }
+{
+    let mut list = List::new(alloc);
+    list.push(atom)?;
+    Ok(list)
+}
+
+/// The list of an integer.
+pub fn number(alloc: Global, z: &i128) -> Result<List, Missing>
+    ensures { Gives result (Value (number z.now)) }
+{
+    Ok(single(alloc, Atom::Int(*z))?)
+}
+
+// A list of one integer as that integer, another as 0.
+fn integer(list: &List) -> i128
+    ensures { result ≡ integer list.now }
+{
+    match list.atoms() {
+        [Atom::Int(z)] => *z,
+        _ => 0,
+    }
+}
+
+/// A list of one string as its characters, another as none.
+pub fn characters(list: &List) -> &[u8]
+    ensures value { result.now ≡ characters list.now }
+    ensures text { IsText result.now }
+{
+    match list.atoms() {
+        [Atom::Str(text)] => text.as_bytes(),
+        _ => &[],
+    }
+}
+
+// The list of this integer, where it is one of 128 bits.
+fn in_range(alloc: Global, checked: Option<i128>) -> Result<List, Missing>
+    ensures { (z : ℤ) → SomeIff checked (FitsSigned w128 z) z → Gives result (ranged z) }
+{
+    match checked {
+        Some(z) => Ok(single(alloc, Atom::Int(z))?),
+        None => Err(Missing::NoValue(NumberKind::PastBits)),
+    }
+}
+
+/// Minus the integer of a list.
+pub fn negated(alloc: Global, x: &List) -> Result<List, Missing>
+    ensures { Gives result (ranged (neg_ℤ (integer x.now))) }
+{
+    in_range(alloc, integer(x).checked_neg())
+}
+
+/// The sum or the difference of the integers of two lists.
+pub fn added(alloc: Global, sign: SumSign, x: &List, y: &List) -> Result<List, Missing>
+    ensures { Gives result (added sign (integer x.now) (integer y.now)) }
+{
+    match sign {
+        SumSign::Plus => in_range(alloc, integer(x).checked_add(integer(y))),
+        SumSign::Minus => in_range(alloc, integer(x).checked_sub(integer(y))),
+    }
+}
+
+/// Their product or their quotient, which is truncated towards zero.
+pub fn multiplied(alloc: Global, sign: ProductSign, x: &List, y: &List) -> Result<List, Missing>
+    ensures { Gives result (multiplied sign (integer x.now) (integer y.now)) }
+{
+    match sign {
+        ProductSign::Times => in_range(alloc, integer(x).checked_mul(integer(y))),
+        ProductSign::Over => quotient(alloc, integer(x), integer(y)),
+    }
+}
+
+fn quotient(alloc: Global, x: i128, y: i128) -> Result<List, Missing>
+    ensures { Gives result (quotient x y) }
+{
+    if y == 0 {
+        return Err(Missing::NoValue(NumberKind::ZeroDivisor));
+    }
+    in_range(alloc, x.checked_div(y))
+}
+
+/// The list of a string.
+pub fn string(alloc: Global, text: &Chars) -> Result<List, Missing>
+    ensures { Gives result (Value (Str text.now ∷ [])) }
+{
+    Ok(single(alloc, Atom::Str(text.copy(alloc)?))?)
+}
+
+/// The characters of a string, to which others are added.
+pub fn begin_text(alloc: Global, list: &List) -> Result<Vec<u8>, Missing>
+    ensures codes { IfOk result (λ v. v.items ≡ characters list.now) }
+    ensures text { IfOk result (λ v. IsText v.items) }
+    ensures err { IfErr result (λ e. e ≡ missing.NoMemory) }
+{
+    Ok(characters(list).to_vec(alloc)?)
+}
+
+/// The same, with the characters of another string at the end.
+pub fn add_text(codes: Vec<u8>, list: &List) -> Result<Vec<u8>, Missing>
+    requires { IsText codes.items }
+    ensures codes { IfOk result (λ v. v.items ≡ codes.items ++ characters list.now) }
+    ensures text { IfOk result (λ v. IsText v.items) }
+    ensures err { IfErr result (λ e. e ≡ missing.NoMemory) }
+{
+    let mut codes = codes;
+    codes.extend_from_slice(characters(list))?;
+    Ok(codes)
+}
+
+/// The list of the string of these characters.
+pub fn end_text(alloc: Global, codes: Vec<u8>) -> Result<List, Missing>
+    requires { IsText codes.items }
+    ensures { Gives result (Value (Str codes.items ∷ [])) }
+{
+    match Chars::new(codes) {
+        Some(text) => Ok(single(alloc, Atom::Str(text))?),
+        None => unreachable!(),
+    }
+}
+
+/// A list with another one behind it.
+pub fn joined(list: List, more: &List) -> Result<List, Missing>
+    ensures { Gives result (Value (list ++ more.now)) }
+{
+    let mut list = list;
+    list.join(more)?;
+    Ok(list)
+}
