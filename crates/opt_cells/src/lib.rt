@@ -5,7 +5,7 @@
 //! 0 applies and every other number is faulty with itself as the reason, and after it nothing applies.
 //!
 //! Make a row with `CellRow::new` and a goal as a `CellsGoal`, then call `Cells` through `opt_system::System`. What the two
-//! mean stands in `specs/Cells` and `specs/Traps`; that they keep the laws of systems is proved at their impls.
+//! mean is in `specs/Cells` and `specs/Traps`; that they keep the laws of systems is proved at their impls.
 #![tactic(auto)]
 
 mod cell_row;

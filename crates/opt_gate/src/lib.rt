@@ -5,7 +5,7 @@
 //! Join the passes, and `Gate::close` gives the core back. Only `turn` and `close` may wait, and they take no memory.
 //!
 //! A pass tells by its contracts what it knows: a beginning of the entries, after a turn all of them, and the ending once it
-//! was met. What is seen of a pass stands in `specs/Pass`, what a turn does in `specs/Turn`, and words on lists in
+//! was met. What is seen of a pass is in `specs/Pass`, what a turn does in `specs/Turn`, and words on lists in
 //! `specs/Lists`; `specs/inside` has the rule of the table, which bodies and proofs alone need.
 #![tactic(auto)]
 

@@ -4,7 +4,7 @@
 //! its step, the state with a step taken back, the shares of a goal), and each call answers by it. `check` says what a match
 //! is, `seek` searches one share of a goal, `apply` makes a step, and `back` takes steps back without taking memory.
 //!
-//! The meaning and the laws that it keeps stand in `specs/Meaning`, and what `check` and `seek` answer in `specs/Answers`.
+//! The meaning and the laws that it keeps are in `specs/Meaning`, and what `check` and `seek` answer in `specs/Answers`.
 //! Two systems for tests are the crate `opt_cells`.
 #![tactic(auto)]
 

@@ -1,0 +1,17 @@
+-- What a worker is given and gives back.
+use Rattle.std.specs.Prelude.{◌≡◌}
+use Rattle.opt_system.specs.Meaning.{Meaning}
+use Rattle.opt_core.specs.Core.{Core, reached}
+use Rattle.opt_gate.specs.declared.key.Key.{Key}
+use Rattle.opt_gate.specs.Pass.{PassView, GateView, IsPassOf, start_of}
+use Rattle.opt_gate.specs.Turn.{entries_told}
+use Rattle.opt_worker.specs.Replica.{IsReplica, IsDone}
+
+module _ {System State Found Goal Reason : Type 0} (m : Meaning State Found Goal Reason) where
+  -- the replica is where the pass was told that the core is
+  abbrev pub IsReady : GateView (Key (Core System State Found Goal Reason)) → PassView (Key (Core System State Found Goal Reason)) Found Reason × State → Type 0
+  IsReady gate job = IsPassOf gate job.0 × (job.1 ≡ reached m (start_of gate).base (entries_told job.0))
+
+  -- the pass knows the ending, and the replica follows the entries that it knows
+  abbrev pub IsBack : GateView (Key (Core System State Found Goal Reason)) → PassView (Key (Core System State Found Goal Reason)) Found Reason × State → Type 0
+  IsBack gate job = IsPassOf gate job.0 × IsDone m gate.key job.0 × IsReplica m (start_of gate).base job.0.knows job.1
