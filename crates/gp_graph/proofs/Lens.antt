@@ -19,7 +19,7 @@ pub record IsLens (X : Type 0) (see : Option X → Link) (to_next to_prev : ℕ 
 
 pub lens_joins : (X : Type 0) (see : Option X → Link) (to_next to_prev : ℕ → X → X) (xs : List (Option X)) (from to : ℕ) → IsLens X see to_next to_prev → IsSome (slot_in xs from) → IsSome (slot_in xs to)
     → Joins (λ k. (see (slot_in xs k)).next) (λ k. (see (slot_in xs k)).prev)
-      (λ k. (see (slot_in (changed_at (to_prev from) (changed_at (to_next to) xs from) to) k)).next) (λ k. (see (slot_in (changed_at (to_prev from) (changed_at (to_next to) xs from) to) k)).prev) from to
+    (λ k. (see (slot_in (changed_at (to_prev from) (changed_at (to_next to) xs from) to) k)).next) (λ k. (see (slot_in (changed_at (to_prev from) (changed_at (to_next to) xs from) to) k)).prev) from to
 lens_joins X see to_next to_prev xs from to lens f t =
     let mid = changed_at (to_next to) xs from in
     let next_same = kept (λ o. (see o).next) (to_prev from) (lens.next_kept from) mid to in

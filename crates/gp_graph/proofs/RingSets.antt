@@ -75,13 +75,12 @@ pub rings_agree : (first count nx pv first' count' nx' pv' : ℕ → ℕ) (Holds
     → AreRings first' count' nx' pv' Holds'
 rings_agree first count nx pv first' count' nx' pv' Holds Holds' r f c n p same =
     rings_by first' count' nx' pv' Holds' (λ k.
-      let xs = follow nx (count k) (first k) in
-      (
-        xs,
-        subst (λ g. Begins g (count' k) xs) (sym (f k)) (subst (λ m. Begins (first k) m xs) (sym (c k)) (begins_follow nx (count k) (first k))),
-        round_agree nx pv nx' pv' xs (λ e h. n k e (((r.walks k).each e).0 h)) (λ e h. p k e (((r.walks k).each e).0 h)) (r.rounds k),
-        Walks-same xs (Holds k) (Holds' k) (same k) (r.walks k),
-      ))
+    let xs = follow nx (count k) (first k) in (
+      xs,
+      subst (λ g. Begins g (count' k) xs) (sym (f k)) (subst (λ m. Begins (first k) m xs) (sym (c k)) (begins_follow nx (count k) (first k))),
+      round_agree nx pv nx' pv' xs (λ e h. n k e (((r.walks k).each e).0 h)) (λ e h. p k e (((r.walks k).each e).0 h)) (r.rounds k),
+      Walks-same xs (Holds k) (Holds' k) (same k) (r.walks k),
+    ))
 
 -- ---- one more
 
@@ -108,9 +107,10 @@ pushed-at nx pv nx1 pv1 nx2 pv2 first (suc m) e f l s apart new none some j k =
     let h : (f ≡ first) × (l ≡ pv first) = some z in
     let rest = follow nx m (nx first) in
     let long = length-append (first ∷ rest) (e ∷ []) in
-    let len = length-follow nx m (nx first) in
-    ((h.0, omega (arith, long, len)),
-    push_round nx pv nx1 pv1 nx2 pv2 first rest e (subst (λ p. Joins nx pv nx1 pv1 p e) h.1 j) (subst (Joins nx1 pv1 nx2 pv2 e) h.0 k) apart new s)
+    let len = length-follow nx m (nx first) in (
+      (h.0, omega (arith, long, len)),
+      push_round nx pv nx1 pv1 nx2 pv2 first rest e (subst (λ p. Joins nx pv nx1 pv1 p e) h.1 j) (subst (Joins nx1 pv1 nx2 pv2 e) h.0 k) apart new s,
+    )
 
 -- what the first of a ring is, where it has any
 pub first_there : (nx : ℕ → ℕ) (count first : ℕ) → count ≢ 0 → Contains (follow nx count first) first
@@ -129,13 +129,16 @@ rings_push first count nx pv first' count' nx1 pv1 nx2 pv2 Holds Holds' key e l 
     let at_key = follow nx (count key) (first key) in
     let here_ = pushed-at nx pv nx1 pv1 nx2 pv2 (first key) (count key) e (first' key) l (r.rounds key) (r.walks key).once (λ h. new key (((r.walks key).each e).0 h)) none some j k in
     rings_by first' count' nx2 pv2 Holds' (λ n. elim (cases_eq n key) [
-      | inl is ↦ subst (λ i. (xs : List ℕ) × Begins (first' i) (count' i) xs × GoesRound nx2 pv2 xs × Walks xs (Holds' i)) (sym is)
-          (at_key ++ e ∷ [], subst (λ m. Begins (first' key) m (at_key ++ e ∷ [])) (sym more) here_.0, here_.1,
-          Walks-push at_key e (Holds key) (Holds' key) (r.walks key) (new key)
-          (λ m. (
-            λ h. elim ((q key m).0 h) [ inl old ↦ inl old | inr now ↦ inr now.1 ],
-            λ h. elim h [ inl old ↦ (q key m).1 (inl old) | inr now ↦ (q key m).1 (inr (refl, now)) ],
-          )))
+      | inl is ↦ subst (λ i. (xs : List ℕ) × Begins (first' i) (count' i) xs × GoesRound nx2 pv2 xs × Walks xs (Holds' i)) (sym is) (
+        at_key ++ e ∷ [],
+        subst (λ m. Begins (first' key) m (at_key ++ e ∷ [])) (sym more) here_.0,
+        here_.1,
+        Walks-push at_key e (Holds key) (Holds' key) (r.walks key) (new key)
+            (λ m. (
+              λ h. elim ((q key m).0 h) [ inl old ↦ inl old | inr now ↦ inr now.1 ],
+              λ h. elim h [ inl old ↦ (q key m).1 (inl old) | inr now ↦ (q key m).1 (inr (refl, now)) ],
+            )),
+      )
       | inr ne ↦
           let xs = follow nx (count n) (first n) in
           let out : (m : ℕ) → Contains at_key m → Contains xs m → ⊥ = λ m h i. ne (one n key m (((r.walks n).each m).0 i) (((r.walks key).each m).0 h)) in
@@ -147,8 +150,7 @@ rings_push first count nx pv first' count' nx1 pv1 nx2 pv2 Holds Holds' key e l 
           let no_f : Contains xs (first' key) → ⊥ = λ h. elim (cases_eq (count key) 0) [
             | inl z ↦ no_e (subst (Contains xs) (none z).0 h)
             | inr nz ↦ out (first key) (first_there nx (count key) (first key) nz) (subst (Contains xs) (some nz).0 h)
-          ] in
-          (
+          ] in (
             xs,
             subst (λ g. Begins g (count' n) xs) (sym (f n ne)) (subst (λ m. Begins (first n) m xs) (sym (c n ne)) (begins_follow nx (count n) (first n))),
             frame_round nx1 pv1 nx2 pv2 e (first' key) k xs no_e no_f (frame_round nx pv nx1 pv1 l e j xs no_l no_e (r.rounds n)),
@@ -196,19 +198,20 @@ rings_remove first count nx pv first' count' nx' pv' Holds Holds' key e r one th
     let at_key = follow nx (count key) (first key) in
     let in_ : Contains at_key e = ((r.walks key).each e).1 there in
     rings_by first' count' nx' pv' Holds' (λ n. elim (cases_eq n key) [
-      | inl is ↦ subst (λ i. (xs : List ℕ) × Begins (first' i) (count' i) xs × GoesRound nx' pv' xs × Walks xs (Holds' i)) (sym is)
-          (without e at_key, subst (λ m. Begins (first' key) m (without e at_key)) (sym less) (begins_without nx pv (first key) (count key) e at_key (first' key) (begins_follow nx (count key) (first key)) (r.rounds key) in_ on off),
-          remove_round nx pv nx' pv' at_key e j (r.walks key).once in_ (r.rounds key),
-          Walks-without at_key e (Holds key) (Holds' key) (r.walks key) (q key))
+      | inl is ↦ subst (λ i. (xs : List ℕ) × Begins (first' i) (count' i) xs × GoesRound nx' pv' xs × Walks xs (Holds' i)) (sym is) (
+        without e at_key,
+        subst (λ m. Begins (first' key) m (without e at_key)) (sym less) (begins_without nx pv (first key) (count key) e at_key (first' key) (begins_follow nx (count key) (first key)) (r.rounds key) in_ on off),
+        remove_round nx pv nx' pv' at_key e j (r.walks key).once in_ (r.rounds key),
+        Walks-without at_key e (Holds key) (Holds' key) (r.walks key) (q key),
+      )
       | inr ne ↦
           let xs = follow nx (count n) (first n) in
-          let out : (m : ℕ) → Contains at_key m → Contains xs m → ⊥ = λ m h i. ne (one n key m (((r.walks n).each m).0 i) (((r.walks key).each m).0 h)) in
-          (
+          let out : (m : ℕ) → Contains at_key m → Contains xs m → ⊥ = λ m h i. ne (one n key m (((r.walks n).each m).0 i) (((r.walks key).each m).0 h)) in (
             xs,
             subst (λ g. Begins g (count' n) xs) (sym (f n ne)) (subst (λ m. Begins (first n) m xs) (sym (c n ne)) (begins_follow nx (count n) (first n))),
             frame_round nx pv nx' pv' (pv e) (nx e) j xs (out (pv e) (prev_round nx pv at_key e in_ (r.rounds key))) (out (nx e) (next_round nx pv at_key e in_ (r.rounds key))) (r.rounds n),
             Walks-same xs (Holds n) (Holds' n)
-            (λ m. (λ h. (q n m).1 (h, λ is. ne (one n key e (subst (Holds n) is h) there)), λ h. ((q n m).0 h).0)) (r.walks n),
+                (λ m. (λ h. (q n m).1 (h, λ is. ne (one n key e (subst (Holds n) is h) there)), λ h. ((q n m).0 h).0)) (r.walks n),
           )
     ])
 

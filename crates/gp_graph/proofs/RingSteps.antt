@@ -73,10 +73,10 @@ may_enter side ns es n e m r =
     let xs = follow (next_of side es) (count_of side ns n) (first_of side ns n) in
     let same : length xs ≡ count_of side ns n = length-follow (next_of side es) (count_of side ns n) (first_of side ns n) in
     let long : length (e ∷ xs) ≤ length es = few (e ∷ xs) (length es) (apart_more e xs (λ h. (((r.walks n).each e).0 h).1 refl) (r.walks n).once)
-      (λ k h. elim (first_or_later e xs k h) [
-        | inl is ↦ subst (λ i. i < length es) is (slot_within es e (is_there side es n e m))
-        | inr there ↦ slot_within es k (is_there side es n k (((r.walks n).each k).0 there).0)
-      ]) in
+    (λ k h. elim (first_or_later e xs k h) [
+      | inl is ↦ subst (λ i. i < length es) is (slot_within es e (is_there side es n e m))
+      | inr there ↦ slot_within es k (is_there side es n k (((r.walks n).each k).0 there).0)
+    ]) in
     omega arith
 
 pub entered : (side : Side) (ns : List (Option NodeSlot)) (es es1 es2 : List (Option EdgeSlot)) (n e f l : ℕ) (r : Ring) → IsSome (slot_in ns n) → Meets side es n e → HasRingsBut side ns es e → r ≡ ring_in side (slot_in ns n)

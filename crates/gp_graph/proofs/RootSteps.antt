@@ -247,10 +247,10 @@ may_enter_roots ns r n root rings =
     let xs = follow (next_root ns) r.count r.first in
     let same : length xs ≡ r.count = length-follow (next_root ns) r.count r.first in
     let long : length (n ∷ xs) ≤ length ns = few (n ∷ xs) (length ns) (apart_more n xs (λ h. (((rings.walks 0).each n).0 h).2 refl) (rings.walks 0).once)
-      (λ k h. elim (first_or_later n xs k h) [
-        | inl is ↦ subst (λ i. i < length ns) is (slot_within ns n (root_there ns n root))
-        | inr in_ ↦ slot_within ns k (root_there ns k (((rings.walks 0).each k).0 in_).1)
-      ]) in
+    (λ k h. elim (first_or_later n xs k h) [
+      | inl is ↦ subst (λ i. i < length ns) is (slot_within ns n (root_there ns n root))
+      | inr in_ ↦ slot_within ns k (root_there ns k (((rings.walks 0).each k).0 in_).1)
+    ]) in
     omega arith
 
 pub in_roots : (ns : List (Option NodeSlot)) (r : Ring) (n : ℕ) → IsRootAt ns n → HasRoots r ns → Contains (follow (next_root ns) r.count r.first) n

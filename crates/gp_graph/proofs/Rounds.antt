@@ -71,11 +71,10 @@ push_round nx pv nx1 pv1 nx2 pv2 x xs e j k apart new s =
 skip : (nx pv nx' pv' : ℕ → ℕ) (a x : ℕ) (ys : List ℕ) (b : ℕ) → Joins nx pv nx' pv' a (nx x) → AreApart (a ∷ ys) → (Contains ys b → ⊥) → Goes nx pv x ys b → Goes nx' pv' a ys b
 skip nx pv nx' pv' a x [] b j apart nb s = (j.next_at ∙ s.0, ap pv' (sym s.0) ∙ j.prev_at)
 skip nx pv nx' pv' a x (z ∷ zs) b j apart nb s =
-    let to_z : Joins nx pv nx' pv' a z = subst (Joins nx pv nx' pv' a) s.0.0 j in
-    (
+    let to_z : Joins nx pv nx' pv' a z = subst (Joins nx pv nx' pv' a) s.0.0 j in (
       (to_z.next_at, to_z.prev_at),
       frame nx pv nx' pv' a z to_z z zs b (λ e. first_new a (z ∷ zs) apart (here z zs a e)) (λ h. first_new a (z ∷ zs) apart (later z zs a h))
-      (first_new z zs (others_apart a (z ∷ zs) apart)) (λ e. nb (here z zs b (sym e))) s.1,
+          (first_new z zs (others_apart a (z ∷ zs) apart)) (λ e. nb (here z zs b (sym e))) s.1,
     )
 
 -- the second number of a list may go

@@ -111,13 +111,19 @@ gone_node side ns es n l none r =
     let here_ : slot_in ns' n ≡ None = slot_here ns n None l in
     let empty : follow (next_of side es) (count_of side ns n) (first_of side ns n) ≡ [] = empty_walk (follow (next_of side es) (count_of side ns n) (first_of side ns n)) (Meets side es n) (r.walks n) none in
     rings_by (first_of side ns') (count_of side ns') (next_of side es) (prev_of side es) (Meets side es) (λ k. elim (cases_eq k n) [
-      | inl e ↦ ([], ap (λ i. count_of side ns' i) e ∙ ap (λ o. (ring_in side o).count) here_, tt,
-          subst (λ i. Walks [] (Meets side es i)) (sym e) (subst (λ xs. Walks xs (Meets side es n)) empty (r.walks n)))
+      | inl e ↦ (
+        [],
+        ap (λ i. count_of side ns' i) e ∙ ap (λ o. (ring_in side o).count) here_,
+        tt,
+        subst (λ i. Walks [] (Meets side es i)) (sym e) (subst (λ xs. Walks xs (Meets side es n)) empty (r.walks n)),
+      )
       | inr ne ↦
-          let same : ring_in side (slot_in ns' k) ≡ ring_in side (slot_in ns k) = ap (ring_in side) (slot_other ns n None k ne) in
-          (follow (next_of side es) (count_of side ns k) (first_of side ns k),
-          subst (λ q. Begins q.first q.count (follow (next_of side es) (count_of side ns k) (first_of side ns k))) (sym same) (begins_follow (next_of side es) (count_of side ns k) (first_of side ns k)),
-          r.rounds k, r.walks k)
+          let same : ring_in side (slot_in ns' k) ≡ ring_in side (slot_in ns k) = ap (ring_in side) (slot_other ns n None k ne) in (
+            follow (next_of side es) (count_of side ns k) (first_of side ns k),
+            subst (λ q. Begins q.first q.count (follow (next_of side es) (count_of side ns k) (first_of side ns k))) (sym same) (begins_follow (next_of side es) (count_of side ns k) (first_of side ns k)),
+            r.rounds k,
+            r.walks k,
+          )
     ])
 
 pub no_rings : (side : Side) → HasRings side [] []

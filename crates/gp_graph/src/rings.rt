@@ -121,13 +121,7 @@ fn ends(
 }
 
 /// Puts an edge at the back of the ring of its node.
-fn enter(
-    nodes: &mut [Option<NodeSlot>],
-    edges: &mut [Option<EdgeSlot>],
-    side: Side,
-    n: u64,
-    e: u64,
-)
+fn enter(nodes: &mut [Option<NodeSlot>], edges: &mut [Option<EdgeSlot>], side: Side, n: u64, e: u64)
     requires node { IsSome (slot_in nodes.old n) }
     requires edge { Meets side edges.old n e }
     requires rings { HasRingsBut side nodes.old edges.old e }
@@ -158,13 +152,7 @@ pub(crate) fn first_without(first: u64, next: u64, leaving: u64) -> u64
 }
 
 /// Takes an edge out of the ring of its node.
-fn leave(
-    nodes: &mut [Option<NodeSlot>],
-    edges: &mut [Option<EdgeSlot>],
-    side: Side,
-    n: u64,
-    e: u64,
-)
+fn leave(nodes: &mut [Option<NodeSlot>], edges: &mut [Option<EdgeSlot>], side: Side, n: u64, e: u64)
     requires node { IsSome (slot_in nodes.old n) }
     requires edge { Meets side edges.old n e }
     requires rings { HasRings side nodes.old edges.old }

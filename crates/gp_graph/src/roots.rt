@@ -144,11 +144,7 @@ pub(crate) fn fill(nodes: &mut [Option<NodeSlot>], roots: Ring, n: u64, slot: No
 }
 
 /// Takes a node out of its place, and hands it back.
-pub(crate) fn clear(
-    nodes: &mut [Option<NodeSlot>],
-    roots: Ring,
-    n: u64,
-) -> (Ring, Option<NodeSlot>)
+pub(crate) fn clear(nodes: &mut [Option<NodeSlot>], roots: Ring, n: u64) -> (Ring, Option<NodeSlot>)
     requires within { n < length nodes.old }
     requires rings { HasRoots roots nodes.old }
     ensures rings { HasRoots result.0 nodes.new }
@@ -161,13 +157,7 @@ pub(crate) fn clear(
 }
 
 // Gives a node another label, mark and root, and hands back the old label.
-fn rewrite(
-    nodes: &mut [Option<NodeSlot>],
-    n: u64,
-    label: List,
-    mark: NodeMark,
-    root: bool,
-) -> List
+fn rewrite(nodes: &mut [Option<NodeSlot>], n: u64, label: List, mark: NodeMark, root: bool) -> List
     requires { IsSome (slot_in nodes.old n) }
     ensures in_range { AreAtoms label }
     ensures items { nodes.new ≡ changed_at (rewritten label mark root) nodes.old n }

@@ -1,8 +1,12 @@
 //! Graphs by hand.
 
-ghost use Rattle.std.specs.Prelude.{◌↔◌, ℕ, IsTrue, IsSome};
+ghost use Rattle.std.specs.Prelude.{◌≡◌, ◌↔◌, ◌<◌, ◌-◌, ℕ, IsTrue, IsSome, None};
 ghost use Rattle.gp_values.specs.Graph.{HasNoEdges, node_at, edge_at};
 ghost use Rattle.gp_graph.specs.Walks.{BeginsAt, EndsAt};
+
+mod beside;
+mod hub;
+mod taking_back;
 
 use crate::graph::Graph;
 use crate::walk::Walk;
@@ -44,6 +48,60 @@ fn has_edge(graph: &Graph, e: u64) -> bool
     ensures { IsTrue result ↔ IsSome (edge_at graph.now.graph e) }
 {
     graph.edge(e).is_some()
+}
+
+// Whether a node can be put at a number.
+fn is_vacant_node(graph: &Graph, n: u64) -> bool
+    ensures below { IsTrue result → n < graph.now.graph.next_node }
+    ensures vacant { IsTrue result → node_at graph.now.graph n ≡ None }
+{
+    let (next_node, _) = graph.next_numbers();
+    match graph.node(n) {
+        Some(_) => false,
+        None => n < next_node,
+    }
+}
+
+// Whether an edge can be put at a number.
+fn is_vacant_edge(graph: &Graph, e: u64) -> bool
+    ensures below { IsTrue result → e < graph.now.graph.next_edge }
+    ensures vacant { IsTrue result → edge_at graph.now.graph e ≡ None }
+{
+    let (_, next_edge) = graph.next_numbers();
+    match graph.edge(e) {
+        Some(_) => false,
+        None => e < next_edge,
+    }
+}
+
+// Whether the next number of a node can be lowered.
+fn ends_with_no_node(graph: &Graph) -> bool
+    ensures some { IsTrue result → 0 < graph.now.graph.next_node }
+    ensures vacant { IsTrue result → node_at graph.now.graph (graph.now.graph.next_node - 1) ≡ None }
+{
+    let (next_node, _) = graph.next_numbers();
+    if next_node == 0 {
+        return false;
+    }
+    match graph.node(next_node - 1) {
+        Some(_) => false,
+        None => true,
+    }
+}
+
+// Whether the next number of an edge can be lowered.
+fn ends_with_no_edge(graph: &Graph) -> bool
+    ensures some { IsTrue result → 0 < graph.now.graph.next_edge }
+    ensures vacant { IsTrue result → edge_at graph.now.graph (graph.now.graph.next_edge - 1) ≡ None }
+{
+    let (_, next_edge) = graph.next_numbers();
+    if next_edge == 0 {
+        return false;
+    }
+    match graph.edge(next_edge - 1) {
+        Some(_) => false,
+        None => true,
+    }
 }
 
 fn is_free(graph: &Graph, n: u64) -> bool
@@ -196,7 +254,7 @@ fn walks_give_the_edges_at_a_node(rt: HostRuntime) -> Result<(), Fail> {
 }
 
 #[test]
-fn walks_give_the_edges_between_nodes_and_the_roots(rt: HostRuntime) -> Result<(), Fail> {
+fn walks_give_the_edges_between_nodes_the_roots_and_the_nodes(rt: HostRuntime) -> Result<(), Fail> {
     let graph = small_graph(rt.alloc())?;
     let rows: [(u64, u64, &[u64]); 5] = [
         (0, 1, &[1, 2]),
@@ -216,6 +274,9 @@ fn walks_give_the_edges_between_nodes_and_the_roots(rt: HostRuntime) -> Result<(
     }
     let roots: &[u64] = &[0, 3];
     assert_eq!(rt; sorted(graph.roots(), rt.alloc())?.as_slice(), roots);
+    let nodes: &[u64] = &[0, 1, 3];
+    assert_eq!(rt; sorted(graph.nodes(), rt.alloc())?.as_slice(), nodes);
+    assert_eq!(rt; (graph.node_count(), graph.root_count()), (3, 2));
     Ok(())
 }
 

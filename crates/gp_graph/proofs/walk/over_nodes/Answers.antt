@@ -9,5 +9,8 @@ use Rattle.gp_graph.proofs.walk.over_nodes.Goals as goal
 
 pub returns-clause-fits : goal.returns-clause-fits
 returns-clause-fits c =
-    omega (arith, length-follow after (length c.args.nodes.now) 0,
-    length-those (λ k. is_some (slot_in c.args.nodes.now k)) (follow after (length c.args.nodes.now) 0))
+    omega (
+      arith,
+      length-follow after (length c.args.nodes.now) 0,
+      length-those (λ k. is_some (slot_in c.args.nodes.now k)) (follow after (length c.args.nodes.now) 0),
+    )

@@ -33,13 +33,13 @@ invariant_of-self-2 c =
     let es = c.self.inside.edges.items in
     let x = c.new.result in
     let seen : graph_from c.deref_mut.result.now c.deref_mut-2.result.now ≡ with_edge (graph_from ns es) (edge_of x) =
-      ap (λ xs. graph_from xs c.deref_mut-2.result.now) c.deref_mut.ensures.value ∙ ap (graph_from ns) (c.deref_mut-2.ensures.value ∙ c.in_ok-append.ensures.ok) ∙ pushed_edge ns es x in
+    ap (λ xs. graph_from xs c.deref_mut-2.result.now) c.deref_mut.ensures.value ∙ ap (graph_from ns) (c.deref_mut-2.ensures.value ∙ c.in_ok-append.ensures.ok) ∙ pushed_edge ns es x in
     let n = with_items_is c.self.inside.nodes c.enter_both.new.nodes (c.enter_both.auto.nodes ∙ c.deref_mut.ensures.len) in
     let e = with_items_is c.append.new.slots c.enter_both.new.edges (c.enter_both.auto.edges ∙ c.deref_mut-2.ensures.len) in
     let graph : IsGraph (with_edge (graph_from ns es) (edge_of x)) = IsGraph-with_edge (graph_from ns es) (edge_of x) c.self.invariant.graph
-      (subst (λ (s : EdgeSlot). IsSome (node_at (graph_from ns es) s.source)) (sym c.new.ensures.value) (rw (← c.self.view_is) at c.requires.source))
-      (subst (λ (s : EdgeSlot). IsSome (node_at (graph_from ns es) s.target)) (sym c.new.ensures.value) (rw (← c.self.view_is) at c.requires.target))
-      c.new.ensures.in_range in
+    (subst (λ (s : EdgeSlot). IsSome (node_at (graph_from ns es) s.source)) (sym c.new.ensures.value) (rw (← c.self.view_is) at c.requires.source))
+    (subst (λ (s : EdgeSlot). IsSome (node_at (graph_from ns es) s.target)) (sym c.new.ensures.value) (rw (← c.self.view_is) at c.requires.target))
+    c.new.ensures.in_range in
     subst (λ xs. IsHeld xs (with_items c.append.new.slots c.enter_both.new.edges).items c.self.inside.roots c.self.inside.node_count) (sym n)
     (subst (λ xs. IsHeld c.enter_both.new.nodes xs c.self.inside.roots c.self.inside.node_count) (sym e)
     (held_same c.deref_mut.result.now c.deref_mut-2.result.now c.enter_both.new.nodes c.enter_both.new.edges c.self.inside.roots c.self.inside.node_count (with_edge (graph_from ns es) (edge_of x))

@@ -4,5 +4,12 @@ use Rattle.gp_graph.proofs.graph.Graph.degrees.Goals as goal
 
 pub returns : goal.returns
 returns c =
-    rw (← c.self.view_is, ← counts_in c.self.inside.nodes.items c.self.inside.edges.items c.args.n (c.self.invariant.rings Ending), ← counts_out c.self.inside.nodes.items c.self.inside.edges.items c.args.n (c.self.invariant.rings Beginning),
-      c.ring_at-ending.ensures, c.ring_at-beginning.ensures, c.deref.ensures.value, c.deref-2.ensures.value)
+    rw (
+      ← c.self.view_is,
+      ← counts_in c.self.inside.nodes.items c.self.inside.edges.items c.args.n (c.self.invariant.rings Ending),
+      ← counts_out c.self.inside.nodes.items c.self.inside.edges.items c.args.n (c.self.invariant.rings Beginning),
+      c.ring_at-ending.ensures,
+      c.ring_at-beginning.ensures,
+      c.deref.ensures.value,
+      c.deref-2.ensures.value,
+    )

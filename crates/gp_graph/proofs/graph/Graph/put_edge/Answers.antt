@@ -43,13 +43,13 @@ invariant_of-self c =
     let first = with_items_is c.self.inside.edges c.put-vacant.new.slots (c.put-vacant.auto.slots ∙ c.deref_mut.ensures.len) in
     let now = c.deref_mut-3.ensures.value ∙ first ∙ c.put-vacant.ensures.items ∙ ap (λ xs. slice_set xs c.args.e (Some x)) c.deref_mut.ensures.value in
     let seen : graph_from c.deref_mut-2.result.now c.deref_mut-3.result.now ≡ with_edge_at (graph_from ns es) c.args.e (edge_of x) =
-      ap (λ xs. graph_from xs c.deref_mut-3.result.now) c.deref_mut-2.ensures.value ∙ ap (graph_from ns) now ∙ set_edge ns es c.args.e x l in
+    ap (λ xs. graph_from xs c.deref_mut-3.result.now) c.deref_mut-2.ensures.value ∙ ap (graph_from ns) now ∙ set_edge ns es c.args.e x l in
     let n = with_items_is c.self.inside.nodes c.enter_both.new.nodes (c.enter_both.auto.nodes ∙ c.deref_mut-2.ensures.len) in
     let e = with_items_is (with_items c.self.inside.edges c.put-vacant.new.slots) c.enter_both.new.edges (c.enter_both.auto.edges ∙ c.deref_mut-3.ensures.len) in
     let graph : IsGraph (with_edge_at (graph_from ns es) c.args.e (edge_of x)) = IsGraph-with_edge_at (graph_from ns es) c.args.e (edge_of x) c.self.invariant.graph l
-      (subst (λ (s : EdgeSlot). IsSome (node_at (graph_from ns es) s.source)) (sym c.new-slot.ensures.value) (rw (← c.self.view_is) at c.requires.source))
-      (subst (λ (s : EdgeSlot). IsSome (node_at (graph_from ns es) s.target)) (sym c.new-slot.ensures.value) (rw (← c.self.view_is) at c.requires.target))
-      c.new-slot.ensures.in_range in
+    (subst (λ (s : EdgeSlot). IsSome (node_at (graph_from ns es) s.source)) (sym c.new-slot.ensures.value) (rw (← c.self.view_is) at c.requires.source))
+    (subst (λ (s : EdgeSlot). IsSome (node_at (graph_from ns es) s.target)) (sym c.new-slot.ensures.value) (rw (← c.self.view_is) at c.requires.target))
+    c.new-slot.ensures.in_range in
     subst (λ xs. IsHeld xs (with_items (with_items c.self.inside.edges c.put-vacant.new.slots) c.enter_both.new.edges).items c.self.inside.roots c.self.inside.node_count) (sym n)
     (subst (λ xs. IsHeld c.enter_both.new.nodes xs c.self.inside.roots c.self.inside.node_count) (sym e)
     (held_same c.deref_mut-2.result.now c.deref_mut-3.result.now c.enter_both.new.nodes c.enter_both.new.edges c.self.inside.roots c.self.inside.node_count (with_edge_at (graph_from ns es) c.args.e (edge_of x))

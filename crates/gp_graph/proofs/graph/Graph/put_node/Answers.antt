@@ -54,6 +54,6 @@ returns-clause-put c =
     rw (← c.self.view_is)
     (ap (λ xs. graph_from xs es) n
     ∙ seen_kept (slice_set ns c.args.n (Some x)) c.fill-roots.new.nodes es
-      (subst (λ xs. KeepsNodes (slice_set xs c.args.n (Some x)) c.fill-roots.new.nodes) c.deref_mut.ensures.value c.fill-roots.ensures.keeps)
-      (c.fill-roots.auto.nodes ∙ ap (λ (xs : List _). length xs) c.deref_mut.ensures.value ∙ sym (length-set ns c.args.n _))
+    (subst (λ xs. KeepsNodes (slice_set xs c.args.n (Some x)) c.fill-roots.new.nodes) c.deref_mut.ensures.value c.fill-roots.ensures.keeps)
+    (c.fill-roots.auto.nodes ∙ ap (λ (xs : List _). length xs) c.deref_mut.ensures.value ∙ sym (length-set ns c.args.n _))
     ∙ set_node ns es c.args.n x l ∙ ap (λ s. with_node_at (graph_from ns es) c.args.n (node_of s)) c.new-slot.ensures.value)

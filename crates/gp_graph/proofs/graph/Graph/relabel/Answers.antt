@@ -47,8 +47,8 @@ returns-clause-relabeled c =
     rw (← c.self.view_is)
     (ap (λ xs. graph_from xs es) n
     ∙ seen_kept (changed_at f ns c.args.n) c.relabel-was.new.nodes es
-      (subst (λ xs. KeepsNodes (changed_at f xs c.args.n) c.relabel-was.new.nodes) c.deref_mut.ensures.value c.relabel-was.ensures.keeps)
-      (c.relabel-was.auto.nodes ∙ ap (λ (xs : List _). length xs) c.deref_mut.ensures.value ∙ sym (length-set ns c.args.n _))
+    (subst (λ xs. KeepsNodes (changed_at f xs c.args.n) c.relabel-was.new.nodes) c.deref_mut.ensures.value c.relabel-was.ensures.keeps)
+    (c.relabel-was.auto.nodes ∙ ap (λ (xs : List _). length xs) c.deref_mut.ensures.value ∙ sym (length-set ns c.args.n _))
     ∙ seen_rewritten ns es c.args.n c.args.label c.args.mark c.args.root (node_there ns es c.args.n (rw (← c.self.view_is) at c.requires)))
 
 pub returns-clause-was : goal.returns-clause-was

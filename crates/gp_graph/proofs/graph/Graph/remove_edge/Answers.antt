@@ -59,5 +59,5 @@ returns-clause-was c =
     let same : ShowsSame ns es c.leave_both.new.nodes c.leave_both.new.edges = rw (c.deref_mut.ensures.value, c.deref_mut-2.ensures.value) at c.leave_both.ensures.same in
     rw (← c.self.view_is)
     (ap (λ g. edge_at g c.args.e) (sym (same_seen ns es c.leave_both.new.nodes c.leave_both.new.edges same
-      (c.leave_both.auto.nodes ∙ ap (λ (xs : List _). length xs) c.deref_mut.ensures.value) (c.leave_both.auto.edges ∙ ap (λ (xs : List _). length xs) c.deref_mut-2.ensures.value)))
+    (c.leave_both.auto.nodes ∙ ap (λ (xs : List _). length xs) c.deref_mut.ensures.value) (c.leave_both.auto.edges ∙ ap (λ (xs : List _). length xs) c.deref_mut-2.ensures.value)))
     ∙ entry_at edge_of c.leave_both.new.edges c.args.e (Some c.in-Some.slot) (ap (λ xs. slice_get xs c.args.e) (sym (c.deref_mut-3.ensures.value ∙ first)) ∙ c.put.ensures.was ∙ ap Some c.in-Some.is))

@@ -27,8 +27,8 @@ overflow_sub-self c =
 pub unreachable-requires : goal.unreachable-requires
 unreachable-requires c =
     let h : node_at c.args.self.now.graph c.args.n ≡ None =
-      rw (← c.self.view_is) (seen_at node_of c.self.inside.nodes.items c.args.n
-        ∙ ap (λ xs. option_map node_of (slot_in xs c.args.n)) (sym c.deref_mut.ensures.value) ∙ sym c.clear-was.ensures.was ∙ ap (option_map node_of) c.in-None.is) in
+    rw (← c.self.view_is) (seen_at node_of c.self.inside.nodes.items c.args.n
+    ∙ ap (λ xs. option_map node_of (slot_in xs c.args.n)) (sym c.deref_mut.ensures.value) ∙ sym c.clear-was.ensures.was ∙ ap (option_map node_of) c.in-None.is) in
     let r = rw h at c.requires.there in
     cc
 
@@ -59,8 +59,8 @@ returns-clause-removed c =
     rw (← c.self.view_is)
     (ap (λ xs. graph_from xs es) n
     ∙ seen_kept (slice_set ns c.args.n None) c.clear-was.new.nodes es
-      (subst (λ xs. KeepsNodes (slice_set xs c.args.n None) c.clear-was.new.nodes) c.deref_mut.ensures.value c.clear-was.ensures.keeps)
-      (c.clear-was.auto.nodes ∙ ap (λ (xs : List _). length xs) c.deref_mut.ensures.value ∙ sym (length-set ns c.args.n _))
+    (subst (λ xs. KeepsNodes (slice_set xs c.args.n None) c.clear-was.new.nodes) c.deref_mut.ensures.value c.clear-was.ensures.keeps)
+    (c.clear-was.auto.nodes ∙ ap (λ (xs : List _). length xs) c.deref_mut.ensures.value ∙ sym (length-set ns c.args.n _))
     ∙ cleared_node ns es c.args.n l)
 
 pub returns-clause-was : goal.returns-clause-was
