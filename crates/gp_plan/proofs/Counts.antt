@@ -1,17 +1,17 @@
 -- What an order chooses, it chooses once.
-use Rattle.std.proofs.Common.{inl, inr, ◌≡◌, ℕ, zero, suc, ◌+◌, ◌<◌, ◌≤◌, List, [], ◌∷◌, length, length-set, refl, sym, ap, subst, ◌∙◌, arith, zero-add, true, false, Bool, cond, if◌then◌else◌}
-use Rattle.std.specs.Prelude.{◌⊎◌, ◌==◌, count_by, Option, Some, None, slice_set, slice_index_or, replicate}
+use Rattle.std.proofs.Common.{inl, inr, ◌≡◌, ℕ, zero, suc, ◌+◌, ◌<◌, ◌≤◌, List, [], ◌∷◌, length, length-set, refl, sym, ap, ◌∙◌, arith, zero-add, true, false, Bool, cond}
+use Rattle.std.specs.Prelude.{◌==◌, count_by, slice_set, replicate}
 use Rattle.std.proofs.lemmas.List.{length-replicate}
 use Rattle.std.proofs.Math.Dec.{eqb-suc-zero, eqb-zero-suc, eqb-suc-suc}
 use Rattle.std.proofs.lemmas.List.Sums.{sum_by-cons}
 use Rattle.gp_syntax.specs.Rule.{Rule}
 use Rattle.gp_plan.specs.declared.operation.Operation.{Operation}
 use Rattle.gp_plan.specs.declared.operation.Operation.TheVariants.{Root, Node, Outward, Inward, Either, Between}
-use Rattle.gp_plan.specs.Plan.{source_of, target_of, is_bidirectional, is_chosen, ends_after, nodes_after, edges_after, plan_of, none_of}
-use Rattle.gp_plan.specs.Order.{LeadsOut, LeadsIn, IsReady, AreChosen, IsOrder, edges_of, nodes_of, node_of, far_end, with_one}
+use Rattle.gp_plan.specs.Plan.{source_of, target_of, is_chosen, ends_after, plan_of, none_of}
+use Rattle.gp_plan.specs.Order.{LeadsOut, LeadsIn, AreChosen, IsOrder, edges_of, nodes_of, far_end}
 use Rattle.gp_plan.specs.Laws.{StandOnce, ChoosesOnce}
 use Rattle.gp_plan.specs.inside.Places.{HasEnds}
-use Rattle.gp_plan.proofs.Orders.{one_if_not, places, length_nodes, length_edges, order_of}
+use Rattle.gp_plan.proofs.Orders.{one_if_not, places, length_nodes, order_of}
 
 -- 1 at a place that is there and not chosen, 0 elsewhere
 abbrev pub missing : List Bool → ℕ → ℕ

@@ -1,0 +1,6 @@
+pub mod Bytes
+pub mod Items
+pub mod Told
+pub mod Writes
+pub mod WordFacts
+pub mod LineFacts

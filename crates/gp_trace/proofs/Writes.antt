@@ -1,0 +1,80 @@
+-- What is written for items.
+use Rattle.std.proofs.Common.{◌≡◌, ℕ, suc, zero, ◌+◌, ◌<◌, ◌≤◌, get_or, arith, Bool, List, [], ◌∷◌, ◌++◌, map, take, length, refl, sym, ap, ◌∙◌, decimal, append_assoc, append-nil}
+use Rattle.std.specs.Prelude.{codes, flat_map, Result, Ok, Err, OnOk}
+use Rattle.std.specs.List.{join_with_byte}
+use Rattle.gp_syntax.specs.declared.found.EdgeImage.{EdgeImage}
+use Rattle.gp_syntax.specs.Rule.{Found}
+use Rattle.gp_trace.specs.TraceText.{image_word, images_of, found_words, found_line}
+use Rattle.gp_trace.specs.inside.Lines.{spaced}
+
+pub joined_spaced : (w : List ℕ) (ws : List (List ℕ)) → join_with_byte 32 (w ∷ ws) ≡ w ++ spaced ws
+joined_spaced w [] = sym (append-nil w)
+joined_spaced w (v ∷ ws) = ap (λ l. w ++ (32 ∷ l)) (joined_spaced v ws)
+
+pub spaced_append : (vs ws : List (List ℕ)) → spaced (vs ++ ws) ≡ spaced vs ++ spaced ws
+spaced_append [] ws = refl
+spaced_append (v ∷ vs) ws = ap (λ l. (32 ∷ v) ++ l) (spaced_append vs ws) ∙ sym (append_assoc (32 ∷ v) (spaced vs) (spaced ws))
+
+pub images_back : (is : List EdgeImage) → images_of (map (λ (i : EdgeImage). i.number) is) (map (λ (i : EdgeImage). i.reversed) is) ≡ is
+images_back [] = refl
+images_back (i ∷ is) = ap (λ l. i ∷ l) (images_back is)
+
+-- the line of a match, piece by piece
+pub found_pieces : (m : Found) → found_line m ≡ codes "step " ++ (decimal m.rule ++ (codes " nodes" ++ (spaced (map decimal m.nodes) ++ (codes " edges" ++ (spaced (map image_word (images_of m.edges m.reversed)) ++ codes "\n")))))
+found_pieces m =
+    let images = map image_word (images_of m.edges m.reversed) in
+    let nodes = map decimal m.nodes in
+    let tail = codes "nodes" ∷ (nodes ++ (codes "edges" ∷ images)) in
+    ap (λ l. l ++ codes "\n") (joined_spaced (codes "step") (decimal m.rule ∷ tail))
+    ∙ ap (λ l. codes "step " ++ l)
+    (append_assoc (decimal m.rule) (spaced tail) (codes "\n")
+    ∙ ap (λ l. decimal m.rule ++ (codes " nodes" ++ l))
+    (ap (λ l. l ++ codes "\n") (spaced_append nodes (codes "edges" ∷ images))
+    ∙ append_assoc (spaced nodes) (spaced (codes "edges" ∷ images)) (codes "\n")))
+
+-- one more element, written behind those before it
+more_at : {A B : Type 0} (f : B → List ℕ) (g : A → B) (xs : List A) (k : ℕ) (d : A) → k < length xs
+    → flat_map f (map g (take (suc k) xs)) ≡ flat_map f (map g (take k xs)) ++ f (g (get_or xs k d))
+more_at f g [] k d b = absurd (omega arith)
+more_at f g (x ∷ xs) zero d b = append-nil (f (g x))
+more_at f g (x ∷ xs) (suc k) d b =
+    ap (λ l. f (g x) ++ l) (more_at f g xs k d (omega arith)) ∙ sym (append_assoc (f (g x)) (flat_map f (map g (take k xs))) (f (g (get_or xs k d))))
+
+pub one_more : {A B : Type 0} (f : B → List ℕ) (g : A → B) (xs : List A) (k : ℕ) (d : A) (t0 t t' : List ℕ) → k < length xs
+    → t ≡ t0 ++ flat_map f (map g (take k xs)) → t' ≡ t ++ f (g (get_or xs k d)) → t' ≡ t0 ++ flat_map f (map g (take (k + 1) xs))
+one_more f g xs k d t0 t t' b was now =
+    let e : suc k ≡ k + 1 = omega arith in
+    now ∙ ap (λ l. l ++ f (g (get_or xs k d))) was ∙ append_assoc t0 _ _ ∙ ap (λ l. t0 ++ l) (sym (more_at f g xs k d b)) ∙ ap (λ j. t0 ++ flat_map f (map g (take j xs))) e
+
+take_all : {A : Type 0} (xs : List A) (k : ℕ) → length xs ≤ k → take k xs ≡ xs
+take_all [] zero b = refl
+take_all [] (suc k) b = refl
+take_all (x ∷ xs) zero b = absurd (omega arith)
+take_all (x ∷ xs) (suc k) b = ap (λ l. x ∷ l) (take_all xs k (omega arith))
+
+pub all_written : {A B : Type 0} (f : B → List ℕ) (g : A → B) (xs : List A) (k : ℕ) (t0 t : List ℕ) → length xs ≤ k
+    → t ≡ t0 ++ flat_map f (map g (take k xs)) → t ≡ t0 ++ flat_map f (map g xs)
+all_written f g xs k t0 t b h = h ∙ ap (λ l. t0 ++ flat_map f (map g l)) (take_all xs k b)
+
+behind : (t s u p q : List ℕ) → t ≡ s ++ p → s ≡ u ++ q → t ≡ u ++ (q ++ p)
+behind t s u p q h k = h ∙ ap (λ l. l ++ p) k ∙ append_assoc u q p
+
+on_ok : {T E P Q : Type 0} (r : Result T E) → OnOk r P → (P → Q) → OnOk r Q
+on_ok (Ok x) h f = f h
+on_ok (Err e) h f = tt
+
+line_of_pieces : (m : Found) (images : List EdgeImage) (rule : ℕ) (nodes : List ℕ) → map (λ (i : EdgeImage). i.number) images ≡ m.edges → map (λ (i : EdgeImage). i.reversed) images ≡ m.reversed → rule ≡ m.rule → nodes ≡ m.nodes
+    → codes "step " ++ (decimal rule ++ (codes " nodes" ++ (spaced (map decimal nodes) ++ (codes " edges" ++ (spaced (map image_word images) ++ codes "\n"))))) ≡ found_line m
+line_of_pieces m images rule nodes he hr h hn =
+    let is : images ≡ images_of m.edges m.reversed = sym (images_back images) ∙ ap (λ es. images_of es (map (λ (i : EdgeImage). i.reversed) images)) he ∙ ap (λ rs. images_of m.edges rs) hr in
+    ap (λ is. codes "step " ++ (decimal rule ++ (codes " nodes" ++ (spaced (map decimal nodes) ++ (codes " edges" ++ (spaced (map image_word is) ++ codes "\n")))))) is
+    ∙ ap (λ n. codes "step " ++ (decimal n ++ (codes " nodes" ++ (spaced (map decimal nodes) ++ (codes " edges" ++ (spaced (map image_word (images_of m.edges m.reversed)) ++ codes "\n")))))) h
+    ∙ ap (λ ns. codes "step " ++ (decimal m.rule ++ (codes " nodes" ++ (spaced (map decimal ns) ++ (codes " edges" ++ (spaced (map image_word (images_of m.edges m.reversed)) ++ codes "\n")))))) hn
+    ∙ sym (found_pieces m)
+
+pub step_written : {T E : Type 0} (r : Result T E) (m : Found) (images : List EdgeImage) (rule : ℕ) (nodes t0 t1 t2 t3 t4 t5 t6 t7 : List ℕ) → map (λ (i : EdgeImage). i.number) images ≡ m.edges → map (λ (i : EdgeImage). i.reversed) images ≡ m.reversed
+    → rule ≡ m.rule → nodes ≡ m.nodes → t1 ≡ t0 ++ codes "step " → t2 ≡ t1 ++ decimal rule → t3 ≡ t2 ++ codes " nodes" → t4 ≡ t3 ++ spaced (map decimal nodes) → t5 ≡ t4 ++ codes " edges"
+    → t6 ≡ t5 ++ spaced (map image_word images) → OnOk r (t7 ≡ t6 ++ codes "\n") → OnOk r (t7 ≡ t0 ++ found_line m)
+step_written r m images rule nodes t0 t1 t2 t3 t4 t5 t6 t7 he hr h hn e1 e2 e3 e4 e5 e6 e7 =
+    on_ok r e7 (λ e. behind t7 t1 t0 _ _ (behind t7 t2 t1 _ _ (behind t7 t3 t2 _ _ (behind t7 t4 t3 _ _ (behind t7 t5 t4 _ _ (behind t7 t6 t5 _ _ e e6) e5) e4) e3) e2) e1
+    ∙ ap (λ l. t0 ++ l) (line_of_pieces m images rule nodes he hr h hn))

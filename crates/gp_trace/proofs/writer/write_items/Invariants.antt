@@ -1,0 +1,7 @@
+use Rattle.std.proofs.Common.{◌≡◌, ◌++◌, map, take}
+use Rattle.gp_syntax.specs.Tree.{item_of}
+use Rattle.gp_trace.specs.inside.Lines.{item_lines}
+use Rattle.gp_trace.proofs.writer.write_items.Given as goal
+
+abbrev pub invariant-loop-item : goal.invariant-loop-item
+invariant-loop-item l = l.text.items ≡ l.initial.text.items ++ item_lines (map item_of (take l.item-index l.items))

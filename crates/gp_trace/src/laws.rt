@@ -1,0 +1,13 @@
+//! What holds of the texts of traces. Each function does nothing: its contract is the law.
+
+ghost use Rattle.gp_trace.specs.Laws.{TracesAreTold, TextsBreakOnce};
+
+/// No two lists of items have one text.
+pub fn traces_are_told()
+    ensures { TracesAreTold }
+{}
+
+/// A text breaks at one line at most, and the text of a list of items at none.
+pub fn texts_break_once()
+    ensures { TextsBreakOnce }
+{}

@@ -1,0 +1,19 @@
+//! Traces as texts: what a run leaves a record of, one line an item.
+//!
+//! Call `write_trace` to put the text of a list of items behind what a buffer holds, and `read_trace` to get the items
+//! of a text. The text is the function `trace_text` of `specs/TraceText`. The reader takes exactly these texts; of any
+//! other it tells the first line that is not of the form of its place (`specs/Reading`). The laws say that no two lists
+//! of items have one text, that each text breaks at one line at most, and the text of a list of items at none.
+#![tactic(auto)]
+
+mod fault;
+pub mod laws;
+mod line;
+mod reader;
+#[cfg(test)]
+mod tests;
+mod writer;
+
+pub use fault::TraceFault;
+pub use reader::read_trace;
+pub use writer::write_trace;
