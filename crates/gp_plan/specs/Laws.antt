@@ -1,7 +1,7 @@
 -- What holds of the plan of each checked rule.
 use Rattle.std.specs.Prelude.{◌≡◌, ℕ, ◌<◌, ◌≤◌, ◌==◌, List, length, count_by}
 use Rattle.gp_syntax.specs.Rule.{Rule}
-use Rattle.gp_syntax.specs.Checked.{IsChecked}
+use Rattle.gp_syntax.specs.WellFormed.{IsWellFormed}
 use Rattle.gp_syntax.specs.Share.{first_node}
 use Rattle.gp_plan.specs.Plan.{plan_of, none_of}
 use Rattle.gp_plan.specs.Order.{IsOrder, edges_of, nodes_of, first_place}
@@ -17,11 +17,11 @@ pub record ChoosesOnce (r : Rule) : Type 0 where
   pub nodes : StandOnce (length r.left_nodes) (nodes_of r (none_of r.left_nodes) (plan_of r))
 
 abbrev pub PlansChooseOnce : Type 0
-PlansChooseOnce = (r : Rule) → IsChecked r → ChoosesOnce r
+PlansChooseOnce = (r : Rule) → IsWellFormed r → ChoosesOnce r
 
 -- Each operation finds what it needs.
 abbrev pub PlansAreOrders : Type 0
-PlansAreOrders = (r : Rule) → IsChecked r → IsOrder r (none_of r.left_nodes) (none_of r.left_edges) (plan_of r)
+PlansAreOrders = (r : Rule) → IsWellFormed r → IsOrder r (none_of r.left_nodes) (none_of r.left_edges) (plan_of r)
 
 -- A plan begins at the node by which matches are dealt out to shares, so the share of a match is that of the first
 -- node that a search chooses.
