@@ -7,7 +7,7 @@ use Rattle.std.proofs.lemmas.Bool.{cases_eq}
 use Rattle.gp_values.specs.declared.atom.Atom.{Atom}
 use Rattle.gp_values.specs.declared.atom.Atom.TheVariants.{Int, Str}
 use Rattle.gp_values.specs.Atoms.{same_list}
-use Rattle.gp_values.specs.EqualityLaws.{same_list-Decides}
+use Rattle.gp_values.specs.inside.EqualityLaws.{same_list-Decides}
 use Rattle.gp_syntax.specs.declared.kinds.NumberKind.TheVariants.{PastBits}
 use Rattle.gp_syntax.specs.declared.kinds.VariableType.{VariableType}
 use Rattle.gp_syntax.specs.declared.kinds.VariableType.TheVariants as types
