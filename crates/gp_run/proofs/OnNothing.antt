@@ -1,5 +1,5 @@
 -- The engine of the empty graph: what its rules do there, and what its record leads to.
-use Rattle.std.proofs.Common.{◌≡◌, ◌⊎◌, inl, inr, ℕ, zero, suc, ◌+◌, ◌-◌, ◌<◌, ◌≤◌, Bool, true, false, List, [], ◌∷◌, ◌++◌, map, take, length, Option, Some, None, slice_get, Contains, refl, sym, ap, subst, ◌∙◌, arith, append-nil, length-take-le}
+use Rattle.std.proofs.Common.{◌≡◌, inl, ℕ, zero, suc, ◌+◌, ◌-◌, ◌<◌, ◌≤◌, Bool, true, false, List, [], ◌∷◌, ◌++◌, map, take, length, Option, Some, None, slice_get, Contains, refl, sym, ap, subst, ◌∙◌, arith, append-nil, length-take-le}
 use Rattle.std.specs.Prelude.{nat_le, if◌then◌else◌, slice_index_or, Result, Ok, Err, OnOk, OnErr}
 use Rattle.std.proofs.lemmas.Bool.{leb-true, le-leb}
 use Rattle.std.proofs.lemmas.List.{map-append, length_push}
@@ -28,19 +28,18 @@ use Rattle.gp_syntax.specs.Fault.{fault_of}
 use Rattle.gp_syntax.specs.Checked.{IsChecked}
 use Rattle.gp_syntax.specs.Rule.{Rule, Found}
 use Rattle.gp_syntax.specs.Match.{MatchBy}
-use Rattle.gp_syntax.specs.Step.{Step, StepBy, AppliesBy, IsFaulty, HasApplying, CallsTo, Blocked}
-use Rattle.gp_syntax.specs.Run.{Item, Stepped, Turned, Back, live_from, live, Call, Loop, Run, Gives, Fails, At, AtTurn, counted, call_steps, call_fails, call_stands}
-use Rattle.gp_syntax.specs.Replay.{StepsTo, BacksFit, Replays}
+use Rattle.gp_syntax.specs.Step.{Step, IsFaulty, CallsTo, Blocked}
+use Rattle.gp_syntax.specs.Run.{Item, Stepped, Back, live_from, live, Call, Gives, Fails, At, counted, call_steps, call_fails, call_stands}
+use Rattle.gp_syntax.specs.Replay.{StepsTo, BacksFit}
 use Rattle.gp_syntax.proofs.Declarations.{from_map}
 use Rattle.gp_syntax.proofs.Small.{at_none, nothing_contains, blocked_nothing}
 use Rattle.gp_syntax.proofs.Unique.{one_graph_of_any}
 use Rattle.gp_run.specs.Engine.{View, IsReplay, Adds, MakesCall, IsSpent, HasFaulty, TurnMade, HasMarked, TakesBack}
-use Rattle.gp_run.specs.inside.EmptyHost.{of_nothing, sample_rule, faulty_test, found, item_of, sample_program, empty_view, HasOffer, if_steps, depth_after}
+use Rattle.gp_run.specs.inside.EmptyHost.{of_nothing, sample_rule, faulty_test, found, item_of, empty_view, if_steps, depth_after}
 use Rattle.gp_run.specs.declared.sample_rule.SampleRule.{SampleRule}
 use Rattle.gp_run.specs.declared.sample_rule.SampleRule.TheVariants as sample
 use Rattle.gp_run.specs.declared.empty_host.Event.{Event}
 use Rattle.gp_run.specs.declared.empty_host.Event.TheVariants as event
-use Rattle.gp_run.specs.declared.empty_host.Offer.TheVariants as offer
 
 -- ---- rules on nothing
 

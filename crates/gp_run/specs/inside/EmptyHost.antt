@@ -1,5 +1,5 @@
 -- What the engine for tests tells of itself.
-use Rattle.std.specs.Prelude.{◌≡◌, ℕ, ◌+◌, ◌-◌, pos, nat_le, if◌then◌else◌, List, [], ◌∷◌, map, length, Option, Some, None, slice_get, Contains}
+use Rattle.std.specs.Prelude.{◌≡◌, ℕ, ◌+◌, ◌-◌, pos, nat_le, if◌then◌else◌, List, [], ◌∷◌, map, Option, Some, None, slice_get, Contains}
 use Rattle.gp_values.specs.declared.marks.EdgeMark.{EdgeMark}
 use Rattle.gp_values.specs.Graph.{empty_graph}
 use Rattle.gp_syntax.specs.declared.kinds.Comparison.TheVariants as comparisons

@@ -1,6 +1,4 @@
-use Rattle.std.proofs.Common.{rules, ◌≡◌, map, take, refl, sym, ap, ◌∙◌}
-use Rattle.gp_syntax.specs.declared.command.Command.TheVariants as form
-use Rattle.gp_syntax.specs.Tree.{command_of}
+use Rattle.std.proofs.Common.{refl}
 use Rattle.gp_syntax.proofs.Trees.{command_of-Call, command_of-Seq, command_of-If, command_of-Try, command_of-Loop, command_of-Or, command_of-Skip, command_of-Fail, command_of-Break, command_of-Proc}
 use Rattle.gp_run.proofs.PlainPrograms.{plain_sequence, plain_choice}
 use Rattle.gp_run.proofs.sample.+plain.Goals as goal

@@ -1,4 +1,4 @@
-use Rattle.std.proofs.Common.{ℕ, ◌<◌, take, All}
+use Rattle.std.proofs.Common.{◌<◌, take, All}
 use Rattle.gp_run.proofs.sample.are_below.Given as goal
 
 abbrev pub invariant-loop-rule : goal.invariant-loop-rule

@@ -1,4 +1,4 @@
-use Rattle.std.proofs.Common.{◌≡◌, ◌+◌, ◌<◌, ◌≤◌, ℕ, true, false, length, slice_get, Some, All, List, arith, rules}
+use Rattle.std.proofs.Common.{◌≡◌, ◌+◌, ◌<◌, ◌≤◌, ℕ, true, false, length, slice_get, Some, All, List, arith}
 use Rattle.gp_syntax.specs.Tree.{command_of}
 use Rattle.gp_syntax.specs.declared.command.Command as code
 use Rattle.gp_run.specs.inside.Plain.{is_plain}

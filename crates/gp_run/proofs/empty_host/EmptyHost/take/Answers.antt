@@ -1,4 +1,4 @@
-use Rattle.std.proofs.Common.{◌<◌, List, arith, subst}
+use Rattle.std.proofs.Common.{List, arith, subst}
 use Rattle.gp_run.specs.inside.EmptyHost.{HasOffer}
 use Rattle.gp_run.specs.declared.sample_rule.SampleRule.{SampleRule}
 use Rattle.gp_run.specs.declared.empty_host.Offer.TheVariants as offer

@@ -1,4 +1,4 @@
-use Rattle.std.proofs.Common.{◌≡◌, ◌∙◌, ◌<◌, ℕ, length, arith, refl, sym, ap, subst}
+use Rattle.std.proofs.Common.{◌∙◌, ◌<◌, length, refl, sym, subst}
 use Rattle.gp_syntax.specs.Run.{Program}
 use Rattle.gp_run.proofs.Turns.{turns_none, turns_more, turns_bound, turns_spent, turns_faulty, turns_end, turns_less}
 use Rattle.gp_run.proofs.empty_host.EmptyHostEngine.repeat.Goals as goal
