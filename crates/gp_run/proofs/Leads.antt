@@ -26,7 +26,7 @@ counted-append t u = sum_by-append (λ (i : Item). cond (is_counted i) 1 0) t u
 pub adds-nothing : (v : View) → Adds v v []
 adds-nothing v = record { program = refl; first = refl; items = sym (append-nil v.items); left = omega arith }
 
-adds-append : (v w z : View) (t u : List Item) → Adds v w t → Adds w z u → Adds v z (t ++ u)
+pub adds-append : (v w z : View) (t u : List Item) → Adds v w t → Adds w z u → Adds v z (t ++ u)
 adds-append v w z t u a b = record {
   program = b.program ∙ a.program;
   first = b.first ∙ a.first;

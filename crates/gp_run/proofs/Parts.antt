@@ -168,10 +168,10 @@ positive_depth program d k whole e h = go d (subst (λ (c : Command). Fits progr
 -- ---- whole programs
 
 -- what a command keeps, with what holds of each procedure that it calls
-record Keeps (program : Program) (ok : ℕ → Type 0) (p : Command) : Type 0 where
-  calls : (c : ℕ) → Contains (calls_in p) c → c < length program.sets
-  procedures : (k : ℕ) → Contains (procedures_in p) k → ok k
-  conditions : (k : Command) → Contains (conditions_in p) k → MayBreak program k → ⊥
+pub record Keeps (program : Program) (ok : ℕ → Type 0) (p : Command) : Type 0 where
+  pub calls : (c : ℕ) → Contains (calls_in p) c → c < length program.sets
+  pub procedures : (k : ℕ) → Contains (procedures_in p) k → ok k
+  pub conditions : (k : Command) → Contains (conditions_in p) k → MayBreak program k → ⊥
 
 at_head : {X : Type 0} (x : X) (xs : List X) → Contains (x ∷ xs) x
 at_head x xs = (0, (let l : 0 < suc (length xs) = omega arith in l), refl)
