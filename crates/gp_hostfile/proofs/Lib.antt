@@ -1,4 +1,3 @@
-pub mod Tables
 pub mod Faults
 pub mod Making
 pub mod Built

@@ -7,9 +7,9 @@ ghost use Rattle.gp_hostfile.specs.inside.Stages.{Makes, AreNodes, tree_in, one_
 
 use crate::check::{edge_mark, end, integer, node_mark};
 use crate::fault::HostFault;
-use crate::names::NameTable;
 use crate::tree::{AtomTree, EdgeTree, HostTree, NodeTree};
 use gp_graph::Graph;
+use gp_names::NameTable;
 use gp_values::{Atom, List};
 use std::alloc::Global;
 

@@ -11,9 +11,9 @@ ghost use Rattle.gp_hostfile.specs.declared.tree.NodeTree.{NodeTree};
 ghost use Rattle.gp_hostfile.specs.declared.tree.EdgeTree.{EdgeTree};
 
 use crate::fault::HostFault;
-use crate::names::NameTable;
 use crate::tree::{AtomTree, EdgeTree, HostTree, NodeTree};
 use gp_grammar::Numeral;
+use gp_names::NameTable;
 use gp_tokens::Slice;
 use gp_values::{EdgeMark, NodeMark};
 use std::alloc::Global;
@@ -131,7 +131,7 @@ pub(crate) fn end(alloc: Global, name: &Slice<'_>, nodes: &NameTable) -> Result<
     ensures { Finds result (place_of nodes.now name.now) (faults.NoSuchEnd name.now) }
 {
     match nodes.place(name.as_bytes()) {
-        Some(place) => Ok(place),
+        Some(place) => Ok(place as u64),
         None => Err(HostFault::NoSuchEnd(name.copy(alloc)?)),
     }
 }

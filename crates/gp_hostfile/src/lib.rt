@@ -12,7 +12,6 @@ mod check;
 mod fault;
 mod grammar;
 pub mod laws;
-mod names;
 mod read;
 #[cfg(test)]
 mod tests;

@@ -20,4 +20,3 @@ pub mod Told
 pub mod CheckedLabels
 pub mod CheckedNames
 pub mod CheckedRules
-pub mod NameTables

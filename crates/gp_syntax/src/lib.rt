@@ -16,7 +16,6 @@ mod kinds;
 mod label;
 pub mod laws;
 mod name;
-mod names;
 mod plain;
 mod rule;
 #[cfg(test)]
@@ -27,10 +26,10 @@ pub use assignment::Assignment;
 pub use command::{Command, Program, ProgramParts};
 pub use expression::{Cond, Expr, ProductSign, Signed, SumSign};
 pub use found::{EdgeImage, Found, INLINE_EDGES, INLINE_NODES, Item};
+pub use gp_names::NameTable;
 pub use kinds::{Comparison, NumberKind, VariableType};
 pub use label::SimpleLabel;
 pub use name::Name;
-pub use names::NameTable;
 pub use plain::{
     PlainLeftEdge, PlainLeftNode, PlainMain, PlainProgram, PlainRightEdge, PlainRightNode,
     PlainRule,

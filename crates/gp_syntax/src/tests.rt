@@ -1,6 +1,6 @@
 use crate::{
-    Assignment, Command, EdgeImage, Found, Item, Items, Name, NameTable, Program, ProgramParts,
-    Rule, RuleParts, VariableType,
+    Assignment, Command, EdgeImage, Found, Item, Items, Name, Program, ProgramParts, Rule,
+    RuleParts, VariableType,
 };
 use gp_values::{Atom, List};
 use std::alloc::Global;
@@ -18,17 +18,6 @@ fn names_are_their_bytes(rt: HostRuntime) -> Result<(), Fail> {
         format!(in rt.alloc(); "{other}")?.as_str(),
         "a_name_of_more_than_sixteen_bytes"
     );
-    Ok(())
-}
-
-#[test]
-fn tables_have_each_name_once(rt: HostRuntime) -> Result<(), Fail> {
-    let mut table = NameTable::new(rt.alloc());
-    assert!(rt; table.add(rt.alloc(), b"x")?);
-    assert!(rt; table.add(rt.alloc(), b"y")?);
-    assert!(rt; !table.add(rt.alloc(), b"x")?);
-    assert_eq!(rt; table.place(b"y"), Some(1));
-    assert!(rt; !table.has(b"z"));
     Ok(())
 }
 
