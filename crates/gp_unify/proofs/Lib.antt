@@ -1,2 +1,3 @@
 pub mod Unifies
 pub mod Candidates
+pub mod Trails

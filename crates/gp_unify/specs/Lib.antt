@@ -1,3 +1,4 @@
 pub mod Known
+pub mod Extension
 pub mod inside
 pub mod Laws

@@ -1,0 +1,75 @@
+-- What reading answers, and the labels of a chain one by one.
+use Rattle.std.specs.Prelude.{◌≡◌, ℕ, ◌+◌, ◌-◌, ◌<◌, List, [], ◌∷◌, map, Option, Some, None, Result, Ok, Err}
+use Rattle.std.specs.Borrow.{Bor}
+use Rattle.gp_memory.specs.Free.{Free}
+use Rattle.gp_values.specs.declared.atom.Atom.{Atom}
+use Rattle.gp_syntax.specs.declared.kinds.VariableType.{VariableType}
+use Rattle.gp_syntax.specs.declared.label.SimpleLabel.{SimpleLabel}
+use Rattle.gp_syntax.specs.declared.label.SimpleLabel.TheOpen.{SimpleLabel-F}
+use Rattle.gp_syntax.specs.declared.label.SimpleLabel.TheFolds.{fold-SimpleLabel}
+use Rattle.gp_syntax.specs.Assigned.{PartialAssignment}
+use Rattle.gp_syntax.specs.Expression.{Expression}
+use Rattle.gp_syntax.specs.Simple.{StandsIn}
+use Rattle.gp_syntax.specs.Tree.{label_of}
+use Rattle.gp_unify.specs.Known.{Known}
+use Rattle.gp_unify.specs.Extension.{known_of}
+use Rattle.gp_unify.specs.declared.mismatch.Mismatch.{Mismatch}
+use Rattle.gp_unify.specs.declared.mismatch.Mismatch.TheVariants as mismatch
+use Rattle.gp_unify.specs.declared.unify.Unified.{Unified}
+use Rattle.gp_unify.specs.declared.unify.Unified.TheVariants as unified
+use Rattle.gp_unify.specs.inside.Unify.{Rest, rest, behind, characters_in, atoms_in, read_text, read}
+
+-- ---- answers
+
+abbrev pub Refuses : {X : Type 0} → Mismatch → Option X → Type 0
+Refuses mismatch.Differs o = o ≡ None
+Refuses mismatch.NoMemory o = Free
+
+-- what is left, and what the assignment has now
+abbrev pub Reads : {X : Type 0} → Result (Bor (List X)) Mismatch → Option (Rest X) → PartialAssignment → Type 0
+Reads (Ok r) o b = o ≡ Some (rest r.now (known_of b))
+Reads (Err e) o b = Refuses e o
+
+abbrev pub Tells : {X : Type 0} → Result X Mismatch → Option Known → PartialAssignment → Type 0
+Tells (Ok x) o b = o ≡ Some (known_of b)
+Tells (Err e) o b = Refuses e o
+
+abbrev pub Told : Unified → Option Known → PartialAssignment → Type 0
+Told unified.Yes o b = o ≡ Some (known_of b)
+Told unified.No o b = o ≡ None
+Told unified.NoMemory o b = Free
+
+-- ---- chains
+
+-- the variables of a label are places of the list of types
+abbrev pub AreKnown : ℕ → Expression ℕ → Type 0
+AreKnown variables e = (x : ℕ) → StandsIn x e → x < variables
+
+abbrev pub text_step : (ℕ → VariableType) → ℕ → Option (Rest ℕ) → SimpleLabel → Option (Rest ℕ)
+text_step ts n o l = behind o (λ s p. read_text ts n (label_of l) s p)
+
+abbrev pub join_step : (ℕ → VariableType) → ℕ → Option (Rest Atom) → SimpleLabel → Option (Rest Atom)
+join_step ts n o l = behind o (λ v p. read ts n (label_of l) v p)
+
+abbrev pub total : List ℕ → ℕ
+total [] = 0
+total (n ∷ ns) = n + total ns
+
+abbrev pub all_characters : (ℕ → VariableType) → List SimpleLabel → ℕ
+all_characters ts ls = total (map (λ l. characters_in ts (label_of l)) ls)
+
+abbrev pub all_atoms : (ℕ → VariableType) → List SimpleLabel → ℕ
+all_atoms ts ls = total (map (λ l. atoms_in ts (label_of l)) ls)
+
+-- ---- sizes, of which recursion takes less at each call
+
+abbrev pub size_step : SimpleLabel-F ℕ → ℕ
+size_step (SimpleLabel-F.Dot l ls) = 2 + l + total ls
+size_step (SimpleLabel-F.Join l ls) = 2 + l + total ls
+size_step other = 1
+
+unfoldable pub size : SimpleLabel → ℕ
+size = fold-SimpleLabel ℕ size_step
+
+abbrev pub sizes : List SimpleLabel → ℕ
+sizes ls = total (map size ls)
