@@ -1,3 +1,4 @@
 pub mod Unifies
 pub mod Candidates
 pub mod Trails
+pub mod Chains

@@ -9,6 +9,7 @@
 pub mod laws;
 mod mismatch;
 mod pieces;
+mod text;
 mod trail;
 mod unify;
 

@@ -1,11 +1,14 @@
 //! Lists and strings in pieces.
 
-ghost use Rattle.std.specs.Prelude.{◌≡◌, ◌<◌, ◌∷◌, [], take, drop, length, true, false, nat_eq, IfOk, MatchOption};
+ghost use Rattle.std.specs.Prelude.{◌≡◌, ◌<◌, ◌-◌, ◌∷◌, [], take, drop, length, true, false, nat_eq, IfOk, MatchOption};
 ghost use Rattle.std.specs.Cmp.Lexicographic.{pointwise};
 ghost use Rattle.gp_values.specs.declared.atom.Atom.TheVariants.{Int, Str};
 ghost use Rattle.gp_values.specs.Atoms.{same_list};
 ghost use Rattle.gp_values.specs.Texts.{IsText};
+ghost use Rattle.gp_syntax.specs.Simple.{strings_of, lists_of};
+ghost use Rattle.gp_syntax.specs.Typing.{type_in};
 ghost use Rattle.gp_syntax.specs.Value.{is_of};
+ghost use Rattle.gp_unify.specs.inside.Unify.{span};
 
 use gp_memory::NoMemory;
 use gp_syntax::VariableType;
@@ -28,6 +31,54 @@ pub(crate) fn split_codes(codes: &[u8], count: usize) -> (&[u8], &[u8])
 {
     let count = count.min(codes.len());
     (&codes[..count], &codes[count..])
+}
+
+/// The declared type of a variable.
+pub(crate) fn type_at(types: &[VariableType], x: u32) -> VariableType
+    requires { x < length types.now }
+    ensures { result ≡ type_in types.now x }
+{
+    types[x as usize]
+}
+
+/// How many characters a variable of a chain of strings has, if that is fixed, and else none.
+pub(crate) fn fixed_characters(declared: VariableType) -> usize
+    ensures { result ≡ 1 - strings_of declared }
+{
+    match declared {
+        VariableType::String => 0,
+        _ => 1,
+    }
+}
+
+/// How many characters it takes, where so many are to spare.
+pub(crate) fn characters_for(declared: VariableType, spare: usize) -> usize
+    ensures { result ≡ span spare (strings_of declared) }
+{
+    match declared {
+        VariableType::String => spare,
+        _ => 1,
+    }
+}
+
+/// How many atoms a variable has, if that is fixed, and else none.
+pub(crate) fn fixed_atoms(declared: VariableType) -> usize
+    ensures { result ≡ 1 - lists_of declared }
+{
+    match declared {
+        VariableType::List => 0,
+        _ => 1,
+    }
+}
+
+/// How many atoms it takes, where so many are to spare.
+pub(crate) fn atoms_for(declared: VariableType, spare: usize) -> usize
+    ensures { result ≡ span spare (lists_of declared) }
+{
+    match declared {
+        VariableType::List => spare,
+        _ => 1,
+    }
 }
 
 /// What is left behind an integer, where the list begins with it.

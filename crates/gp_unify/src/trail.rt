@@ -12,7 +12,7 @@ ghost use Rattle.gp_unify.specs.inside.Trail.{cleared, Grown};
 ghost use Rattle.gp_unify.specs.inside.Unify.{tell, with_value};
 
 use crate::mismatch::Mismatch;
-use crate::pieces::{is_of, is_text, list_of, takes_text, text_of};
+use crate::pieces::{is_of, is_text, list_of, takes_text, text_of, type_at};
 use gp_memory::NoMemory;
 use gp_syntax::Assignment;
 use gp_values::{Atom, List};
@@ -65,7 +65,7 @@ pub(crate) fn tell(
     ensures told { Tells result (tell (type_in assignment.old.types) x atoms.now (known_of assignment.old)) assignment.new }
     ensures grown { Grown assignment.old assignment.new trail.old.items trail.new.items }
 {
-    if !is_of(assignment.types()[x as usize], atoms) {
+    if !is_of(type_at(assignment.types(), x), atoms) {
         return Err(Mismatch::Differs);
     }
     match assignment.value(x as usize) {
@@ -97,7 +97,7 @@ pub(crate) fn tell_text(
     ensures told { Tells result (tell (type_in assignment.old.types) x (Str codes.now ∷ []) (known_of assignment.old)) assignment.new }
     ensures grown { Grown assignment.old assignment.new trail.old.items trail.new.items }
 {
-    if !takes_text(assignment.types()[x as usize], codes) {
+    if !takes_text(type_at(assignment.types(), x), codes) {
         return Err(Mismatch::Differs);
     }
     match assignment.value(x as usize) {
