@@ -1,5 +1,5 @@
 -- Labels of a chain, one by one: their sizes, their variables, and what is read behind them.
-use Rattle.std.proofs.Common.{◌≡◌, ◌⊎◌, inl, inr, ℕ, ℤ, zero, suc, ◌+◌, ◌-◌, ◌<◌, ◌≤◌, List, [], ◌∷◌, length, map, drop, fold, get_or, All, Option, Some, None, Result, Ok, Err, IsErrAnd, refl, sym, ap, subst, ◌∙◌, arith}
+use Rattle.std.proofs.Common.{◌≡◌, ◌⊎◌, inl, inr, ℕ, ℤ, Bool, true, false, zero, suc, ◌+◌, ◌-◌, ◌<◌, ◌≤◌, List, [], ◌∷◌, length, map, take, drop, fold, get_or, All, Option, Some, None, Result, Ok, Err, IsErrAnd, refl, sym, ap, subst, ◌∙◌, arith}
 use Rattle.std.specs.Borrow.{Bor}
 use Rattle.gp_values.specs.declared.atom.Atom.{Atom}
 use Rattle.gp_syntax.specs.declared.kinds.VariableType.{VariableType}
@@ -9,14 +9,18 @@ use Rattle.gp_syntax.specs.declared.label.SimpleLabel.TheOpen.{SimpleLabel-F}
 use Rattle.gp_syntax.specs.declared.label.SimpleLabel.TheFolds.{fold-roll-SimpleLabel}
 use Rattle.gp_syntax.specs.Assigned.{PartialAssignment}
 use Rattle.gp_syntax.specs.Expression.{Expression, Number, Negated, Empty, Dot, Join}
-use Rattle.gp_syntax.proofs.Trees.{label_of-Number, label_of-NegatedNumber, label_of-Empty, label_of-Dot, label_of-Join}
+use Rattle.gp_syntax.proofs.Trees.{label_of-Number, label_of-NegatedNumber, label_of-Text, label_of-Empty, label_of-Dot, label_of-Join}
 use Rattle.gp_syntax.specs.Simple.{StandsIn}
 use Rattle.gp_syntax.specs.Tree.{label_of, dots, joins}
+use Rattle.gp_syntax.specs.Value.{Valued, Value, NoValue}
+use Rattle.std.proofs.lemmas.Option.{none-some}
+use Rattle.gp_values.specs.Atoms.{same_list}
+use Rattle.gp_unify.specs.Extension.{AreKnown, known_of}
 use Rattle.gp_unify.specs.Known.{Known}
 use Rattle.gp_unify.specs.declared.mismatch.Mismatch.{Mismatch}
 use Rattle.gp_unify.specs.declared.mismatch.Mismatch.TheVariants as mismatch
-use Rattle.gp_unify.specs.inside.Unify.{Rest, rest, behind, characters_in, atoms_in, read_text, read}
-use Rattle.gp_unify.specs.inside.Reading.{Refuses, Reads, Tells, AreKnown, text_step, join_step, total, all_characters, all_atoms, size_step, size, sizes}
+use Rattle.gp_unify.specs.inside.Unify.{Rest, rest, behind, characters_in, atoms_in, keep_rest, keep_value, told_rest, on_text, read_text, unify_text, read}
+use Rattle.gp_unify.specs.inside.Reading.{Refuses, Begins, BeginsValue, Hands, Reads, Tells, text_step, join_step, total, all_characters, all_atoms, size_step, size, sizes}
 
 -- ---- sizes
 
@@ -120,6 +124,20 @@ no_text f x a b c p h =
         ]
     ]
 
+-- numerals and strings, as one arm of a match has them
+abbrev pub OneAtom : SimpleLabel → Type 0
+OneAtom p = ((z : ℤ) × (p ≡ label.Number z)) ⊎ (((z : ℤ) × (p ≡ label.NegatedNumber z)) ⊎ ((t : List ℕ) × (p ≡ label.Text t)))
+
+pub one_atom : (ts : ℕ → VariableType) (p : SimpleLabel) → OneAtom p → atoms_in ts (label_of p) ≡ 1
+one_atom ts p h =
+    elim h [
+      | inl n ↦ ap (λ z. atoms_in ts (label_of z)) n.1 ∙ ap (atoms_in ts) (label_of-Number n.0)
+      | inr r ↦ elim r [
+          | inl n ↦ ap (λ z. atoms_in ts (label_of z)) n.1 ∙ ap (atoms_in ts) (label_of-NegatedNumber n.0)
+          | inr n ↦ ap (λ z. atoms_in ts (label_of z)) n.1 ∙ ap (atoms_in ts) (label_of-Text n.0)
+        ]
+    ]
+
 -- ---- reading on
 
 pub read_dots_is : (ts : ℕ → VariableType) (n : ℕ) (e : Expression ℕ) (ls : List SimpleLabel) (s : List ℕ) (p : Known) → read_text ts n (dots e (map label_of ls)) s p ≡ fold (text_step ts n) (read_text ts n e s p) ls
@@ -129,6 +147,15 @@ read_dots_is ts n e (l ∷ ls) s p = read_dots_is ts n (Dot e (label_of l)) ls s
 pub read_joins_is : (ts : ℕ → VariableType) (n : ℕ) (e : Expression ℕ) (ls : List SimpleLabel) (v : List Atom) (p : Known) → read ts n (joins e (map label_of ls)) v p ≡ fold (join_step ts n) (read ts n e v p) ls
 read_joins_is ts n e [] v p = refl
 read_joins_is ts n e (l ∷ ls) v p = read_joins_is ts n (Join e (label_of l)) ls v p
+
+-- two or more strings are read as one atom
+chain_reads : (ts : ℕ → VariableType) (n : ℕ) (v : List Atom) (q : Known) (d e : Expression ℕ) (es : List (Expression ℕ)) → read ts n (dots (Dot d e) es) v q ≡ told_rest (on_text (take 1 v) (λ s. unify_text ts (dots (Dot d e) es) s q)) (drop 1 v)
+chain_reads ts n v q d e [] = refl
+chain_reads ts n v q d e (f ∷ es) = chain_reads ts n v q (Dot d e) f es
+
+pub chain_read : (ts : ℕ → VariableType) (n : ℕ) (v : List Atom) (q : Known) (p l : SimpleLabel) (ls : List SimpleLabel) → p ≡ label.Dot l ls → (ls ≡ [] → ⊥) → read ts n (label_of p) v q ≡ told_rest (on_text (take 1 v) (λ s. unify_text ts (dots (label_of l) (map label_of ls)) s q)) (drop 1 v)
+chain_read ts n v q p l [] e d = absurd (d refl)
+chain_read ts n v q p l (k ∷ ls) e d = ap (λ z. read ts n (label_of z) v q) e ∙ ap (λ z. read ts n z v q) (label_of-Dot l (k ∷ ls)) ∙ chain_reads ts n v q (label_of l) (label_of k) (map label_of ls)
 
 module _ {X : Type 0} (read_part : SimpleLabel → List X → Known → Option (Rest X)) where
   abbrev pub step : Option (Rest X) → SimpleLabel → Option (Rest X)
@@ -165,6 +192,28 @@ module _ {X : Type 0} (read_part : SimpleLabel → List X → Known → Option (
   parts_read o m (suc i) [] l h = sym h
   parts_read o m zero (x ∷ ls) l h = absurd (omega arith)
   parts_read o m (suc i) (x ∷ ls) l h = parts_read o m i ls (omega arith) h
+
+pub kept_to : {X : Type 0} (b : Bool) (v left : List X) (p : Known) → b ≡ true → left ≡ v → keep_rest b v p ≡ Some (rest left p)
+kept_to true v left p e f = ap (λ z. Some (rest z p)) (sym f)
+kept_to false v left p e f = absurd cc
+
+pub kept_not : {X : Type 0} (b : Bool) (v : List X) (p : Known) → b ≡ false → keep_rest b v p ≡ None
+kept_not true v p e = absurd cc
+kept_not false v p e = refl
+
+-- ---- what tells no variable
+
+refused_whole : {X : Type 0} (e : Mismatch) (o : Option X) → e ≡ mismatch.Differs → o ≡ None → Refuses e o
+refused_whole e o h k = subst (λ z. Refuses z o) (sym h) k
+
+pub begins_read : (r : Result (Bor (List Atom)) Mismatch) (o : Option (Bor (List Atom))) (b : Bool) (v : List Atom) (a : PartialAssignment) → Hands r o → Begins o b v → Reads r (keep_rest b v (known_of a)) a
+begins_read (Ok x) o b v a h k = let g : Begins (Some x) b v = subst (λ z. Begins z b v) h k in kept_to b v x.now (known_of a) g.0 g.1
+begins_read (Err e) o b v a h k = let g : Begins None b v = subst (λ z. Begins z b v) h.0 k in refused_whole e (keep_rest b v (known_of a)) h.1 (kept_not b v (known_of a) g)
+
+pub value_read : (r : Result (Bor (List Atom)) Mismatch) (o : Option (Bor (List Atom))) (w : Valued (List Atom)) (v : List Atom) (a : PartialAssignment) → Hands r o → BeginsValue o w v → Reads r (keep_value w (take 1 v) (drop 1 v) (known_of a)) a
+value_read r o (Value w) v a h k = begins_read r o (same_list w (take 1 v)) (drop 1 v) a h k
+value_read (Ok x) o (NoValue n) v a h k = absurd (none-some x (sym k ∙ h))
+value_read (Err e) o (NoValue n) v a h k = refused_whole e None h.1 refl
 
 -- ---- answers that `?` hands on
 

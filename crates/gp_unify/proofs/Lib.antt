@@ -2,3 +2,4 @@ pub mod Unifies
 pub mod Candidates
 pub mod Trails
 pub mod Chains
+pub mod Answers

@@ -47,7 +47,7 @@ keeps false p e = absurd cc
 
 -- ---- what is known
 
-abbrev Grows : Known → Known → Type 0
+abbrev pub Grows : Known → Known → Type 0
 Grows p q = (x : ℕ) (w : List Atom) → p x ≡ Some w → q x ≡ Some w
 
 grows_same : (p q : Known) → p ≡ q → Grows p q
@@ -513,7 +513,7 @@ read_covers ts n other v p r x h i = absurd i
 
 -- ---- whole labels
 
-grows : (ts : ℕ → VariableType) (e : Expression ℕ) (v : List Atom) (p q : Known) → unify ts e v p ≡ Some q → Grows p q
+pub grows : (ts : ℕ → VariableType) (e : Expression ℕ) (v : List Atom) (p q : Known) → unify ts e v p ≡ Some q → Grows p q
 grows ts e v p q h =
     let n = length v - atoms_in ts e in
     let m = behind_is (read ts n e v p) (λ w q. ended w q) q h in
@@ -534,7 +534,7 @@ complete s e v p c k h a =
     let r = read_complete s (length v - atoms_in ts e) e v [] p c k h (spare s e v c k h) a in
     ends_unified (read ts (length v - atoms_in ts e) e v p) s.assigned (subst (λ z. ReadTo (read ts (length v - atoms_in ts e) e z p) [] s.assigned) (append-nil v) r)
 
-covers : (ts : ℕ → VariableType) (e : Expression ℕ) (v : List Atom) (p q : Known) (x : ℕ) → unify ts e v p ≡ Some q → StandsIn x e → IsSome (q x)
+pub covers : (ts : ℕ → VariableType) (e : Expression ℕ) (v : List Atom) (p q : Known) (x : ℕ) → unify ts e v p ≡ Some q → StandsIn x e → IsSome (q x)
 covers ts e v p q x h i =
     let n = length v - atoms_in ts e in
     let m = behind_is (read ts n e v p) (λ w q. ended w q) q h in

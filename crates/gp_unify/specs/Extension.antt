@@ -1,14 +1,18 @@
 -- What unification answers: an extension of an assignment by which a label has a value, the least one (Plump 2012,
 -- section 3: the values of the variables follow from the labels at a match).
-use Rattle.std.specs.Prelude.{◌≡◌, ℕ, List, Option, Some, IsSome, option_and_then, slice_get}
+use Rattle.std.specs.Prelude.{◌≡◌, ℕ, ◌<◌, List, Option, Some, IsSome, option_and_then, slice_get}
 use Rattle.gp_values.specs.declared.atom.Atom.{Atom}
 use Rattle.gp_syntax.specs.Assigned.{PartialAssignment}
 use Rattle.gp_syntax.specs.Expression.{Expression}
 use Rattle.gp_syntax.specs.Simple.{StandsIn}
 use Rattle.gp_syntax.specs.Value.{Setting, Value, value_of}
 use Rattle.gp_unify.specs.Known.{Known, Extends, InTypes}
-use Rattle.gp_unify.specs.declared.unify.Unified.{Unified}
-use Rattle.gp_unify.specs.declared.unify.Unified.TheVariants as unified
+use Rattle.gp_unify.specs.declared.unifier.Unified.{Unified}
+use Rattle.gp_unify.specs.declared.unifier.Unified.TheVariants as unified
+
+-- the variables of a label are places of a list of so many types
+abbrev pub AreKnown : ℕ → Expression ℕ → Type 0
+AreKnown variables e = (x : ℕ) → StandsIn x e → x < variables
 
 -- the values that the variables have so far
 abbrev pub known_of : PartialAssignment → Known

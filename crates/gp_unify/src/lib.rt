@@ -7,12 +7,13 @@
 #![tactic(auto)]
 
 pub mod laws;
+mod label;
 mod mismatch;
 mod pieces;
 mod text;
 mod trail;
-mod unify;
+mod unifier;
 
 pub use pieces::is_of;
 pub use trail::take_back;
-pub use unify::Unified;
+pub use unifier::{Unified, unify, unify_on};

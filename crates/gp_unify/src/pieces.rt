@@ -8,6 +8,7 @@ ghost use Rattle.gp_values.specs.Texts.{IsText};
 ghost use Rattle.gp_syntax.specs.Simple.{strings_of, lists_of};
 ghost use Rattle.gp_syntax.specs.Typing.{type_in};
 ghost use Rattle.gp_syntax.specs.Value.{is_of};
+ghost use Rattle.gp_unify.specs.inside.Reading.{Begins};
 ghost use Rattle.gp_unify.specs.inside.Unify.{span};
 
 use gp_memory::NoMemory;
@@ -82,22 +83,18 @@ pub(crate) fn atoms_for(declared: VariableType, spare: usize) -> usize
 }
 
 /// What is left behind an integer, where the list begins with it.
-pub(crate) fn behind_integer(z: i128, atoms: &[Atom]) -> Option<&[Atom]>
-    ensures { MatchOption result
-        (same_list (Int z ∷ []) (take 1 atoms.now) ≡ false)
-        (λ r. (same_list (Int z ∷ []) (take 1 atoms.now) ≡ true) × (r.now ≡ drop 1 atoms.now)) }
+pub(crate) fn behind_integer<'v>(z: &i128, atoms: &'v [Atom]) -> Option<&'v [Atom]>
+    ensures { Begins result (same_list (Int z.now ∷ []) (take 1 atoms.now)) (drop 1 atoms.now) }
 {
     match atoms {
-        [Atom::Int(n), left @ ..] if *n == z => Some(left),
+        [Atom::Int(n), left @ ..] if *n == *z => Some(left),
         _ => None,
     }
 }
 
 /// What is left behind a string, where the list begins with it.
 pub(crate) fn behind_string<'v>(text: &[u8], atoms: &'v [Atom]) -> Option<&'v [Atom]>
-    ensures { MatchOption result
-        (same_list (Str text.now ∷ []) (take 1 atoms.now) ≡ false)
-        (λ r. (same_list (Str text.now ∷ []) (take 1 atoms.now) ≡ true) × (r.now ≡ drop 1 atoms.now)) }
+    ensures { Begins result (same_list (Str text.now ∷ []) (take 1 atoms.now)) (drop 1 atoms.now) }
 {
     match atoms {
         [Atom::Str(found), left @ ..] if text == found.as_bytes() => Some(left),

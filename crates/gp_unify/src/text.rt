@@ -1,11 +1,12 @@
 //! Chains of strings, read along a string.
 
-ghost use Rattle.std.specs.Prelude.{◌≡◌, ◌-◌, length, map, All, IfOk};
+ghost use Rattle.std.specs.Prelude.{◌≡◌, ◌-◌, ◌<◌, length, map, All, IfOk};
 ghost use Rattle.gp_values.specs.Texts.{IsText};
+ghost use Rattle.gp_syntax.specs.Expression.{Variable};
 ghost use Rattle.gp_syntax.specs.Tree.{label_of, dots};
 ghost use Rattle.gp_syntax.specs.Typing.{type_in};
-ghost use Rattle.gp_unify.specs.Extension.{known_of};
-ghost use Rattle.gp_unify.specs.inside.Reading.{Reads, Tells, AreKnown};
+ghost use Rattle.gp_unify.specs.Extension.{AreKnown, known_of};
+ghost use Rattle.gp_unify.specs.inside.Reading.{Reads, Tells};
 ghost use Rattle.gp_unify.specs.inside.Trail.{Grown};
 ghost use Rattle.gp_unify.specs.inside.Unify.{characters_in, read_text, unify_text};
 
@@ -56,6 +57,27 @@ fn spare_in_dots(
     left
 }
 
+// What is left of a string behind the value of a variable.
+fn read_variable<'v>(
+    alloc: Global,
+    spare: usize,
+    x: u32,
+    codes: &'v [u8],
+    assignment: &mut Assignment,
+    trail: &mut Vec<u32>,
+) -> Result<&'v [u8], Mismatch>
+    requires known { x < length assignment.old.types }
+    requires text { IsText codes.now }
+    ensures reads { Reads result (read_text (type_in assignment.old.types) spare (Variable x) codes.now (known_of assignment.old)) assignment.new }
+    ensures grown { Grown assignment.old assignment.new trail.old.items trail.new.items }
+    ensures text { IfOk result (λ left. IsText left.now) }
+{
+    let count = characters_for(type_at(assignment.types(), x), spare);
+    let (front, left) = split_codes(codes, count);
+    tell_text(alloc, x, front, assignment, trail)?;
+    Ok(left)
+}
+
 // What is left of a string behind a part of a chain.
 #[cycle(text)]
 fn read_text<'v>(
@@ -77,12 +99,7 @@ fn read_text<'v>(
             Some(left) => Ok(left),
             None => Err(Mismatch::Differs),
         },
-        SimpleLabel::Variable(x) => {
-            let count = characters_for(type_at(assignment.types(), *x), spare);
-            let (front, left) = split_codes(codes, count);
-            tell_text(alloc, *x, front, assignment, trail)?;
-            Ok(left)
-        }
+        SimpleLabel::Variable(x) => read_variable(alloc, spare, *x, codes, assignment, trail),
         SimpleLabel::Dot(first, rest) => {
             read_dots(
                 alloc,

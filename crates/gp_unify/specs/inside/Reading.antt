@@ -1,8 +1,9 @@
 -- What reading answers, and the labels of a chain one by one.
-use Rattle.std.specs.Prelude.{◌≡◌, ℕ, ◌+◌, ◌-◌, ◌<◌, List, [], ◌∷◌, map, Option, Some, None, Result, Ok, Err}
+use Rattle.std.specs.Prelude.{◌≡◌, ℕ, ◌+◌, ◌-◌, ◌<◌, Bool, true, false, List, [], ◌∷◌, map, take, drop, Option, Some, None, Result, Ok, Err}
 use Rattle.std.specs.Borrow.{Bor}
 use Rattle.gp_memory.specs.Free.{Free}
 use Rattle.gp_values.specs.declared.atom.Atom.{Atom}
+use Rattle.gp_values.specs.Atoms.{same_list}
 use Rattle.gp_syntax.specs.declared.kinds.VariableType.{VariableType}
 use Rattle.gp_syntax.specs.declared.label.SimpleLabel.{SimpleLabel}
 use Rattle.gp_syntax.specs.declared.label.SimpleLabel.TheOpen.{SimpleLabel-F}
@@ -11,12 +12,13 @@ use Rattle.gp_syntax.specs.Assigned.{PartialAssignment}
 use Rattle.gp_syntax.specs.Expression.{Expression}
 use Rattle.gp_syntax.specs.Simple.{StandsIn}
 use Rattle.gp_syntax.specs.Tree.{label_of}
+use Rattle.gp_syntax.specs.Value.{Valued, Value, NoValue}
 use Rattle.gp_unify.specs.Known.{Known}
 use Rattle.gp_unify.specs.Extension.{known_of}
 use Rattle.gp_unify.specs.declared.mismatch.Mismatch.{Mismatch}
 use Rattle.gp_unify.specs.declared.mismatch.Mismatch.TheVariants as mismatch
-use Rattle.gp_unify.specs.declared.unify.Unified.{Unified}
-use Rattle.gp_unify.specs.declared.unify.Unified.TheVariants as unified
+use Rattle.gp_unify.specs.declared.unifier.Unified.{Unified}
+use Rattle.gp_unify.specs.declared.unifier.Unified.TheVariants as unified
 use Rattle.gp_unify.specs.inside.Unify.{Rest, rest, behind, characters_in, atoms_in, read_text, read}
 
 -- ---- answers
@@ -30,6 +32,20 @@ abbrev pub Reads : {X : Type 0} → Result (Bor (List X)) Mismatch → Option (R
 Reads (Ok r) o b = o ≡ Some (rest r.now (known_of b))
 Reads (Err e) o b = Refuses e o
 
+-- reading of what tells no variable: where the list begins so it is left what is behind
+abbrev pub Begins : Option (Bor (List Atom)) → Bool → List Atom → Type 0
+Begins None b v = b ≡ false
+Begins (Some r) b v = (b ≡ true) × (r.now ≡ v)
+
+abbrev pub BeginsValue : Option (Bor (List Atom)) → Valued (List Atom) → List Atom → Type 0
+BeginsValue o (Value w) v = Begins o (same_list w (take 1 v)) (drop 1 v)
+BeginsValue o (NoValue k) v = o ≡ None
+
+-- an answer of one as an answer of the other, whatever is known
+abbrev pub Hands : Result (Bor (List Atom)) Mismatch → Option (Bor (List Atom)) → Type 0
+Hands (Ok r) o = o ≡ Some r
+Hands (Err e) o = (o ≡ None) × (e ≡ mismatch.Differs)
+
 abbrev pub Tells : {X : Type 0} → Result X Mismatch → Option Known → PartialAssignment → Type 0
 Tells (Ok x) o b = o ≡ Some (known_of b)
 Tells (Err e) o b = Refuses e o
@@ -39,11 +55,12 @@ Told unified.Yes o b = o ≡ Some (known_of b)
 Told unified.No o b = o ≡ None
 Told unified.NoMemory o b = Free
 
--- ---- chains
+-- a trail that is longer behind what was told alone
+abbrev pub KeepsTrail : Unified → List ℕ → List ℕ → Type 0
+KeepsTrail unified.Yes before after = Unit {0}
+KeepsTrail other before after = after ≡ before
 
--- the variables of a label are places of the list of types
-abbrev pub AreKnown : ℕ → Expression ℕ → Type 0
-AreKnown variables e = (x : ℕ) → StandsIn x e → x < variables
+-- ---- chains
 
 abbrev pub text_step : (ℕ → VariableType) → ℕ → Option (Rest ℕ) → SimpleLabel → Option (Rest ℕ)
 text_step ts n o l = behind o (λ s p. read_text ts n (label_of l) s p)
