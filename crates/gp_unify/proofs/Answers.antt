@@ -1,5 +1,5 @@
 -- What unification answers is the least extension, or that there is none.
-use Rattle.std.proofs.Common.{◌≡◌, ℕ, List, Option, Some, None, sym, subst, ◌∙◌}
+use Rattle.std.proofs.Common.{◌≡◌, ℕ, List, Some, None, sym, subst, ◌∙◌}
 use Rattle.std.proofs.lemmas.Option.{none-some}
 use Rattle.gp_values.specs.declared.atom.Atom.{Atom}
 use Rattle.gp_syntax.specs.declared.kinds.VariableType.{VariableType}
@@ -7,7 +7,7 @@ use Rattle.gp_syntax.specs.Assigned.{PartialAssignment}
 use Rattle.gp_syntax.specs.Expression.{Expression}
 use Rattle.gp_syntax.specs.Simple.{IsSimple}
 use Rattle.gp_syntax.specs.Typing.{type_in}
-use Rattle.gp_syntax.specs.Value.{Setting, Value, value_of}
+use Rattle.gp_syntax.specs.Value.{Setting}
 use Rattle.gp_unify.specs.Known.{Known, Extends}
 use Rattle.gp_unify.specs.Extension.{known_of, Extension, IsLeast}
 use Rattle.gp_unify.specs.inside.Unify.{unify}

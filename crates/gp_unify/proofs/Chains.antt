@@ -1,5 +1,5 @@
 -- Labels of a chain, one by one: their sizes, their variables, and what is read behind them.
-use Rattle.std.proofs.Common.{◌≡◌, ◌⊎◌, inl, inr, ℕ, ℤ, Bool, true, false, zero, suc, ◌+◌, ◌-◌, ◌<◌, ◌≤◌, List, [], ◌∷◌, length, map, take, drop, fold, get_or, All, Option, Some, None, Result, Ok, Err, IsErrAnd, refl, sym, ap, subst, ◌∙◌, arith}
+use Rattle.std.proofs.Common.{◌≡◌, ◌⊎◌, inl, inr, ℕ, ℤ, Bool, true, false, zero, suc, ◌+◌, ◌<◌, ◌≤◌, List, [], ◌∷◌, length, map, take, drop, fold, get_or, All, Option, Some, None, Result, Ok, Err, IsErrAnd, refl, sym, ap, subst, ◌∙◌, arith}
 use Rattle.std.specs.Borrow.{Bor}
 use Rattle.gp_values.specs.declared.atom.Atom.{Atom}
 use Rattle.gp_syntax.specs.declared.kinds.VariableType.{VariableType}
@@ -10,7 +10,6 @@ use Rattle.gp_syntax.specs.declared.label.SimpleLabel.TheFolds.{fold-roll-Simple
 use Rattle.gp_syntax.specs.Assigned.{PartialAssignment}
 use Rattle.gp_syntax.specs.Expression.{Expression, Number, Negated, Empty, Dot, Join}
 use Rattle.gp_syntax.proofs.Trees.{label_of-Number, label_of-NegatedNumber, label_of-Text, label_of-Empty, label_of-Dot, label_of-Join}
-use Rattle.gp_syntax.specs.Simple.{StandsIn}
 use Rattle.gp_syntax.specs.Tree.{label_of, dots, joins}
 use Rattle.gp_syntax.specs.Value.{Valued, Value, NoValue}
 use Rattle.std.proofs.lemmas.Option.{none-some}
@@ -119,9 +118,9 @@ no_text f x a b c p h =
     elim h [
       | inl n ↦ ap (λ z. f (label_of z)) n.1 ∙ ap f (label_of-Number n.0) ∙ a n.0
       | inr r ↦ elim r [
-          | inl n ↦ ap (λ z. f (label_of z)) n.1 ∙ ap f (label_of-NegatedNumber n.0) ∙ b n.0
-          | inr n ↦ ap (λ z. f (label_of z)) n ∙ ap f label_of-Empty ∙ c
-        ]
+        | inl n ↦ ap (λ z. f (label_of z)) n.1 ∙ ap f (label_of-NegatedNumber n.0) ∙ b n.0
+        | inr n ↦ ap (λ z. f (label_of z)) n ∙ ap f label_of-Empty ∙ c
+      ]
     ]
 
 -- numerals and strings, as one arm of a match has them
@@ -133,9 +132,9 @@ one_atom ts p h =
     elim h [
       | inl n ↦ ap (λ z. atoms_in ts (label_of z)) n.1 ∙ ap (atoms_in ts) (label_of-Number n.0)
       | inr r ↦ elim r [
-          | inl n ↦ ap (λ z. atoms_in ts (label_of z)) n.1 ∙ ap (atoms_in ts) (label_of-NegatedNumber n.0)
-          | inr n ↦ ap (λ z. atoms_in ts (label_of z)) n.1 ∙ ap (atoms_in ts) (label_of-Text n.0)
-        ]
+        | inl n ↦ ap (λ z. atoms_in ts (label_of z)) n.1 ∙ ap (atoms_in ts) (label_of-NegatedNumber n.0)
+        | inr n ↦ ap (λ z. atoms_in ts (label_of z)) n.1 ∙ ap (atoms_in ts) (label_of-Text n.0)
+      ]
     ]
 
 -- ---- reading on

@@ -1,13 +1,11 @@
 -- What is told is taken back.
-use Rattle.std.proofs.Common.{◌≡◌, inl, inr, ℕ, zero, suc, ◌+◌, ◌-◌, ◌<◌, ◌≤◌, ◌==◌, min, Bool, true, false, List, [], ◌∷◌, ◌++◌, length, take, drop, Option, Some, None, slice_get, slice_set, refl, sym, ap, subst, ◌∙◌, arith, append-nil, append_assoc, length-append, All}
+use Rattle.std.proofs.Common.{◌≡◌, inl, inr, ℕ, zero, suc, ◌+◌, ◌<◌, ◌≤◌, min, List, [], ◌∷◌, ◌++◌, length, take, drop, Option, Some, None, slice_get, slice_set, refl, sym, ap, subst, ◌∙◌, arith, append-nil, append_assoc, length-append, All}
 use Rattle.std.proofs.lemmas.Option.{none-some, same_Some}
 use Rattle.std.proofs.lemmas.Bool.{cases_eq, cases_lt}
-use Rattle.std.proofs.lemmas.Bool.Decides.{Decides-eqb}
 use Rattle.std.proofs.lemmas.List.{drop-append-le, drop_all, take-append-le, take_all}
-use Rattle.std.proofs.lemmas.List.Elements.{All-append, All-drop, All-nil, All-cons, All-push}
+use Rattle.std.proofs.lemmas.List.Elements.{All-append, All-nil, All-cons}
 use Rattle.gp_values.specs.declared.atom.Atom.{Atom}
 use Rattle.gp_syntax.specs.Assigned.{PartialAssignment}
-use Rattle.gp_unify.specs.Known.{Known}
 use Rattle.gp_unify.specs.Extension.{known_of}
 use Rattle.gp_unify.specs.inside.Trail.{cleared, Grown}
 use Rattle.gp_unify.specs.inside.Unify.{with_value}
@@ -43,10 +41,10 @@ known_at a x o e = rw e refl
 pub known_set : (a : PartialAssignment) (x : ℕ) (v : List Atom) → slice_get a.values x ≡ Some None → known_of (with_set a x (Some v)) ≡ with_value (known_of a) x v
 known_set a x v e =
     let same : (y : ℕ) → known_of (with_set a x (Some v)) y ≡ with_value (known_of a) x v y = λ y.
-        elim (cases_eq y x) [
-          | inl s ↦ rw s (known_at (with_set a x (Some v)) x (Some v) (set_here a.values x (Some v) None e) ∙ sym (with_here (known_of a) x v))
-          | inr d ↦ (let g : slice_get (slice_set a.values x (Some v)) y ≡ slice_get a.values y = set_apart a.values x y (Some v) d in rw g (sym (with_apart (known_of a) x y v d)))
-        ] in
+    elim (cases_eq y x) [
+      | inl s ↦ rw s (known_at (with_set a x (Some v)) x (Some v) (set_here a.values x (Some v) None e) ∙ sym (with_here (known_of a) x v))
+      | inr d ↦ (let g : slice_get (slice_set a.values x (Some v)) y ≡ slice_get a.values y = set_apart a.values x y (Some v) d in rw g (sym (with_apart (known_of a) x y v d)))
+    ] in
     λ i y. same y i
 
 -- ---- trails
@@ -152,8 +150,10 @@ module _ (count : ℕ) (from : List ℕ) (a : PartialAssignment) where
 
   pub takes_end : (trail : List ℕ) (b : PartialAssignment) → Takes count from a trail b → length trail ≤ count → (b ≡ cleared (drop count from) a) × (trail ≡ take count from)
   takes_end trail b h l =
-      let e : drop count trail ≡ [] = drop_all count trail l in
-      (ap (λ z. cleared z b) (sym e) ∙ h.same, h.front ∙ (elim (cases_lt count (length from)) [
-        | inl k ↦ (let n : length trail ≡ count = omega (arith, h.enough) in ap (λ z. take z from) n)
-        | inr k ↦ (take_all (length trail) from (omega (arith, h.enough)) ∙ sym (take_all count from k))
-      ]))
+      let e : drop count trail ≡ [] = drop_all count trail l in (
+        ap (λ z. cleared z b) (sym e) ∙ h.same,
+        h.front ∙ (elim (cases_lt count (length from)) [
+          | inl k ↦ (let n : length trail ≡ count = omega (arith, h.enough) in ap (λ z. take z from) n)
+          | inr k ↦ (take_all (length trail) from (omega (arith, h.enough)) ∙ sym (take_all count from k))
+        ]),
+      )

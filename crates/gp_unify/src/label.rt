@@ -11,9 +11,7 @@ ghost use Rattle.gp_unify.specs.inside.Trail.{Grown};
 ghost use Rattle.gp_unify.specs.inside.Unify.{atoms_in, read, unify, unify_text, told_rest, on_text};
 
 use crate::mismatch::Mismatch;
-use crate::pieces::{
-    atoms_for, behind_integer, behind_string, fixed_atoms, split_atoms, type_at,
-};
+use crate::pieces::{atoms_for, behind_integer, behind_string, fixed_atoms, split_atoms, type_at};
 use crate::text::unify_dots;
 use crate::trail::tell;
 use gp_syntax::{Assignment, SimpleLabel, VariableType};

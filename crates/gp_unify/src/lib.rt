@@ -6,8 +6,8 @@
 //! that labels tell their variables and that a match of a checked rule has one assignment at most.
 #![tactic(auto)]
 
-pub mod laws;
 mod label;
+pub mod laws;
 mod mismatch;
 mod pieces;
 mod text;

@@ -24,9 +24,7 @@ fn spare_in_text(types: &[VariableType], part: &SimpleLabel, count: usize) -> us
 {
     match part {
         SimpleLabel::Text(text) => count.saturating_sub(text.as_bytes().len()),
-        SimpleLabel::Variable(x) => {
-            count.saturating_sub(fixed_characters(type_at(types, *x)))
-        }
+        SimpleLabel::Variable(x) => { count.saturating_sub(fixed_characters(type_at(types, *x))) }
         SimpleLabel::Dot(first, rest) => spare_in_dots(types, first.get(), rest.as_slice(), count),
         SimpleLabel::Join(first, rest) => {
             if rest.is_empty() {

@@ -41,7 +41,12 @@ fn note(trail: &mut Vec<u32>, x: u32) -> Result<(), NoMemory>
 }
 
 // Gives a variable that has none its value.
-fn bind(x: u32, value: List, assignment: &mut Assignment, trail: &mut Vec<u32>) -> Result<(), NoMemory>
+fn bind(
+    x: u32,
+    value: List,
+    assignment: &mut Assignment,
+    trail: &mut Vec<u32>,
+) -> Result<(), NoMemory>
     requires known { x < length assignment.old.types }
     requires in_type { is_of (declared_type assignment.old x) value ≡ true }
     requires vacant { slice_get assignment.old.values x ≡ Some None }

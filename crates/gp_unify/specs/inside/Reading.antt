@@ -1,5 +1,5 @@
 -- What reading answers, and the labels of a chain one by one.
-use Rattle.std.specs.Prelude.{◌≡◌, ℕ, ◌+◌, ◌-◌, ◌<◌, Bool, true, false, List, [], ◌∷◌, map, take, drop, Option, Some, None, Result, Ok, Err}
+use Rattle.std.specs.Prelude.{◌≡◌, ℕ, ◌+◌, Bool, true, false, List, [], ◌∷◌, map, take, drop, Option, Some, None, Result, Ok, Err}
 use Rattle.std.specs.Borrow.{Bor}
 use Rattle.gp_memory.specs.Free.{Free}
 use Rattle.gp_values.specs.declared.atom.Atom.{Atom}
@@ -9,8 +9,6 @@ use Rattle.gp_syntax.specs.declared.label.SimpleLabel.{SimpleLabel}
 use Rattle.gp_syntax.specs.declared.label.SimpleLabel.TheOpen.{SimpleLabel-F}
 use Rattle.gp_syntax.specs.declared.label.SimpleLabel.TheFolds.{fold-SimpleLabel}
 use Rattle.gp_syntax.specs.Assigned.{PartialAssignment}
-use Rattle.gp_syntax.specs.Expression.{Expression}
-use Rattle.gp_syntax.specs.Simple.{StandsIn}
 use Rattle.gp_syntax.specs.Tree.{label_of}
 use Rattle.gp_syntax.specs.Value.{Valued, Value, NoValue}
 use Rattle.gp_unify.specs.Known.{Known}

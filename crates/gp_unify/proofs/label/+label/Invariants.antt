@@ -1,4 +1,4 @@
-use Rattle.std.proofs.Common.{◌≡◌, ◌+◌, drop, fold, map, Some}
+use Rattle.std.proofs.Common.{◌≡◌, ◌+◌, drop, fold, Some}
 use Rattle.gp_syntax.specs.Tree.{label_of}
 use Rattle.gp_syntax.specs.Typing.{type_in}
 use Rattle.gp_unify.specs.Extension.{known_of}

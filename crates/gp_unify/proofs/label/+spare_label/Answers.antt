@@ -1,12 +1,12 @@
-use Rattle.std.proofs.Common.{rules, refl, ◌≡◌, ◌-◌, length, map, ℕ, ◌+◌, ◌<◌, ◌≤◌, [], sym, ap, subst, ◌∙◌, arith}
+use Rattle.std.proofs.Common.{rules, refl, ◌≡◌, ◌-◌, length, ◌+◌, ◌≤◌, [], sym, ap, subst, ◌∙◌, arith}
 use Rattle.gp_syntax.specs.Simple.{StandsIn}
-use Rattle.gp_syntax.specs.Tree.{label_of, joins}
+use Rattle.gp_syntax.specs.Tree.{label_of}
 use Rattle.gp_syntax.specs.Typing.{type_in}
-use Rattle.gp_syntax.proofs.Trees.{label_of-Number, label_of-NegatedNumber, label_of-Text, label_of-Variable, label_of-Empty, label_of-Join, label_of-Dot}
+use Rattle.gp_syntax.proofs.Trees.{label_of-Variable, label_of-Empty, label_of-Join}
 use Rattle.gp_unify.specs.inside.Unify.{atoms_in}
 use Rattle.gp_unify.specs.Extension.{AreKnown}
-use Rattle.gp_unify.specs.inside.Reading.{all_atoms, size, sizes}
-use Rattle.gp_unify.proofs.Chains.{one_dotted, more_dotted, one_atom, size-Join, size-Dot, size_at, known_joins, atoms_of_joins, total_on, total_past}
+use Rattle.gp_unify.specs.inside.Reading.{size, sizes}
+use Rattle.gp_unify.proofs.Chains.{one_dotted, more_dotted, one_atom, size-Join, size-Dot, size_at, known_joins, atoms_of_joins}
 use Rattle.gp_unify.proofs.label.+spare_label.Goals as goal
 
 pub spare_in_joins-parts-init : goal.spare_in_joins-parts-init

@@ -1,12 +1,12 @@
-use Rattle.std.proofs.Common.{rules, refl, ◌≡◌, ◌-◌, length, map, ℕ, ◌+◌, ◌<◌, ◌≤◌, [], sym, ap, subst, ◌∙◌, arith}
+use Rattle.std.proofs.Common.{rules, refl, ◌≡◌, ◌-◌, length, ◌+◌, ◌≤◌, [], sym, ap, subst, ◌∙◌, arith}
 use Rattle.gp_syntax.specs.Simple.{StandsIn}
-use Rattle.gp_syntax.specs.Tree.{label_of, dots}
+use Rattle.gp_syntax.specs.Tree.{label_of}
 use Rattle.gp_syntax.specs.Typing.{type_in}
-use Rattle.gp_syntax.proofs.Trees.{label_of-Number, label_of-NegatedNumber, label_of-Text, label_of-Variable, label_of-Empty, label_of-Dot, label_of-Join}
+use Rattle.gp_syntax.proofs.Trees.{label_of-Text, label_of-Variable, label_of-Dot}
 use Rattle.gp_unify.specs.inside.Unify.{characters_in}
 use Rattle.gp_unify.specs.Extension.{AreKnown}
-use Rattle.gp_unify.specs.inside.Reading.{all_characters, size, sizes}
-use Rattle.gp_unify.proofs.Chains.{one_joined, more_joined, no_text, size-Dot, size-Join, size_at, known_dots, characters_of_dots, total_on, total_past}
+use Rattle.gp_unify.specs.inside.Reading.{size, sizes}
+use Rattle.gp_unify.proofs.Chains.{one_joined, more_joined, no_text, size-Dot, size-Join, size_at, known_dots, characters_of_dots}
 use Rattle.gp_unify.proofs.text.+spare_text.Goals as goal
 
 pub spare_in_dots-parts-init : goal.spare_in_dots-parts-init

@@ -1,16 +1,13 @@
-use Rattle.std.proofs.Common.{rules, ◌≡◌, length, map, ℕ, ◌+◌, ◌<◌, ◌≤◌, [], List, Some, None, refl, sym, ap, subst, ◌∙◌, arith, drop, take, nat_eq, fold}
-use Rattle.std.specs.Cmp.Lexicographic.{pointwise}
-use Rattle.gp_values.specs.Texts.{IsText}
+use Rattle.std.proofs.Common.{rules, ◌≡◌, length, ◌+◌, ◌≤◌, [], List, Some, None, refl, sym, ap, subst, ◌∙◌}
 use Rattle.gp_syntax.specs.declared.kinds.VariableType.{VariableType}
 use Rattle.gp_syntax.specs.Simple.{StandsIn}
-use Rattle.gp_syntax.specs.Tree.{label_of, dots}
+use Rattle.gp_syntax.specs.Tree.{label_of}
 use Rattle.gp_syntax.specs.Typing.{type_in}
 use Rattle.gp_syntax.proofs.Trees.{label_of-Text, label_of-Variable, label_of-Dot}
 use Rattle.gp_unify.specs.Extension.{AreKnown, known_of}
-use Rattle.gp_unify.specs.inside.Trail.{Grown}
-use Rattle.gp_unify.specs.inside.Unify.{rest, read_text, keep_rest}
-use Rattle.gp_unify.specs.inside.Reading.{Refuses, Reads, text_step, size, sizes}
-use Rattle.gp_unify.proofs.Trails.{grown_on, grown_same}
+use Rattle.gp_unify.specs.inside.Unify.{rest, read_text}
+use Rattle.gp_unify.specs.inside.Reading.{Refuses, size, sizes}
+use Rattle.gp_unify.proofs.Trails.{grown_on}
 use Rattle.gp_unify.proofs.Chains.{kept_to, kept_not, one_joined, more_joined, no_text, size-Dot, size-Join, size_at, known_dots, read_dots_is, part_read, part_refused, first_refused, parts_read, refused}
 use Rattle.gp_unify.proofs.text.+text.Goals as goal
 

@@ -1,9 +1,4 @@
-use Rattle.std.proofs.Common.{◌≡◌, sym, subst, rules}
-use Rattle.gp_syntax.specs.Assigned.{PartialAssignment}
-use Rattle.gp_unify.specs.Extension.{known_of}
-use Rattle.gp_unify.specs.inside.Unify.{with_value}
-use Rattle.gp_unify.specs.inside.Trail.{Grown}
-use Rattle.gp_unify.proofs.Trails.{grown_same, grown_with, known_set}
+use Rattle.gp_unify.proofs.Trails.{grown_with, known_set}
 use Rattle.gp_unify.proofs.trail.bind.Goals as goal
 
 pub returns-clause-grown : goal.returns-clause-grown

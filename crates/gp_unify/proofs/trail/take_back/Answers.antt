@@ -1,5 +1,5 @@
-use Rattle.std.proofs.Common.{◌≡◌, ◌<◌, ◌≤◌, length, sym, subst, rules, arith}
-use Rattle.gp_unify.proofs.Trails.{takes_first, takes_place, takes_on, takes_end, with_set}
+use Rattle.std.proofs.Common.{◌<◌, ◌≤◌, length, arith}
+use Rattle.gp_unify.proofs.Trails.{takes_first, takes_place, takes_on, takes_end}
 use Rattle.gp_unify.proofs.trail.take_back.Goals as goal
 
 pub told-init : goal.told-init
