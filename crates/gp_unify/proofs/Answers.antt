@@ -1,5 +1,5 @@
 -- What unification answers is the least extension, or that there is none.
-use Rattle.std.proofs.Common.{◌≡◌, ℕ, List, Some, None, sym, subst, ◌∙◌}
+use Rattle.std.proofs.Common.{◌≡◌, ℕ, List, length, Some, None, sym, subst, ◌∙◌}
 use Rattle.std.proofs.lemmas.Option.{none-some}
 use Rattle.gp_values.specs.declared.atom.Atom.{Atom}
 use Rattle.gp_syntax.specs.declared.kinds.VariableType.{VariableType}
@@ -22,9 +22,10 @@ module _ (a : PartialAssignment) (e : Expression ℕ) (v : List Atom) where
   same_known : (q r : Known) → Some q ≡ Some r → q ≡ r
   same_known q r h = cc
 
-  pub is_least : (b : PartialAssignment) → IsSimple (type_in a.types) e → b.types ≡ a.types → unify (type_in a.types) e v (known_of a) ≡ Some (known_of b) → IsLeast a b e v
-  is_least b c t h = record {
+  pub is_least : (b : PartialAssignment) → IsSimple (type_in a.types) e → b.types ≡ a.types → length b.values ≡ length a.values → unify (type_in a.types) e v (known_of a) ≡ Some (known_of b) → IsLeast a b e v
+  is_least b c t n h = record {
     types = t;
+    count = n;
     keeps = grows (type_in a.types) e v (known_of a) (known_of b) h;
     knows = λ x i. covers (type_in a.types) e v (known_of a) (known_of b) x h i;
     gives = λ s k x. sound s e v (known_of a) (known_of b) (subst (λ (ts : List VariableType). unify (type_in ts) e v (known_of a) ≡ Some (known_of b)) (sym k) h) x;

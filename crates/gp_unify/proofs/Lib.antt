@@ -3,3 +3,4 @@ pub mod Candidates
 pub mod Trails
 pub mod Chains
 pub mod Answers
+pub mod Matches

@@ -2,7 +2,7 @@
 use Rattle.std.proofs.Common.{◌≡◌, inl, inr, ℕ, zero, suc, ◌+◌, ◌<◌, ◌≤◌, min, List, [], ◌∷◌, ◌++◌, length, take, drop, Option, Some, None, slice_get, slice_set, refl, sym, ap, subst, ◌∙◌, arith, append-nil, append_assoc, length-append, All}
 use Rattle.std.proofs.lemmas.Option.{none-some, same_Some}
 use Rattle.std.proofs.lemmas.Bool.{cases_eq, cases_lt}
-use Rattle.std.proofs.lemmas.List.{drop-append-le, drop_all, take-append-le, take_all}
+use Rattle.std.proofs.lemmas.List.{length-set, drop-append-le, drop_all, take-append-le, take_all}
 use Rattle.std.proofs.lemmas.List.Elements.{All-append, All-nil, All-cons}
 use Rattle.gp_values.specs.declared.atom.Atom.{Atom}
 use Rattle.gp_syntax.specs.Assigned.{PartialAssignment}
@@ -57,7 +57,14 @@ cleared_both : (xs ys : List ℕ) (a : PartialAssignment) → cleared (xs ++ ys)
 cleared_both [] ys a = refl
 cleared_both (x ∷ xs) ys a = ap (λ (b : PartialAssignment). with_set b x None) (cleared_both xs ys a)
 
+cleared_count : (xs : List ℕ) (a : PartialAssignment) → length (cleared xs a).values ≡ length a.values
+cleared_count [] a = refl
+cleared_count (x ∷ xs) a = length-set (cleared xs a).values x None ∙ cleared_count xs a
+
 module _ (a : PartialAssignment) where
+  pub grown_count : (b : PartialAssignment) (s t : List ℕ) → Grown a b s t → length b.values ≡ length a.values
+  grown_count b s t g = sym (cleared_count g.added b) ∙ ap (λ (z : PartialAssignment). length z.values) g.back
+
   pub grown_same : (b : PartialAssignment) (s t : List ℕ) → b ≡ a → t ≡ s → Grown a b s t
   grown_same b s t e f = record {
     types = ap (λ (z : PartialAssignment). z.types) e;

@@ -1,7 +1,8 @@
 -- What unification finds is what every assignment in types has.
-use Rattle.std.proofs.Common.{◌≡◌, ◌⊎◌, inl, inr, ℕ, zero, suc, ◌+◌, ◌-◌, ◌≤◌, ◌<◌, ◌==◌, Bool, true, false, List, [], ◌∷◌, ◌++◌, length, take, drop, Option, Some, None, IsSome, option_and_then, slice_index_or, refl, sym, ap, subst, ◌∙◌, arith, length-append, append_assoc, append-nil, take-append-drop, ℤ, pos, negsuc, ◌^◌, int_le, int_lt, ◌&&◌, if◌then◌else◌, neg_ℤ, nat_eq, All, Any}
+use Rattle.std.proofs.Common.{◌≡◌, ◌⊎◌, inl, inr, ℕ, zero, suc, ◌+◌, ◌-◌, ◌≤◌, ◌<◌, ◌==◌, Bool, true, false, List, [], ◌∷◌, ◌++◌, length, take, drop, Option, Some, None, IsSome, option_and_then, slice_index_or, slice_get, refl, sym, ap, subst, ◌∙◌, arith, length-append, append_assoc, append-nil, take-append-drop, ℤ, pos, negsuc, ◌^◌, int_le, int_lt, ◌&&◌, if◌then◌else◌, neg_ℤ, nat_eq, All, Any}
 use Rattle.std.specs.Cmp.Lexicographic.{pointwise, bytes_decides}
 use Rattle.std.proofs.lemmas.Option.{none-some}
+use Rattle.std.proofs.lemmas.List.{drop_all}
 use Rattle.std.proofs.lemmas.Bool.Decides.{Decides-eqb}
 use Rattle.std.proofs.lemmas.Bool.{cases_eq}
 use Rattle.gp_values.specs.declared.atom.Atom.{Atom}
@@ -598,3 +599,120 @@ all_cover ts (e ∷ es) (Some v ∷ vs) p q x h i =
     ]
 all_cover ts [] vs p q x h i = absurd i
 all_cover ts es vs p q x h i = absurd (none-some q h)
+
+-- ---- values are of the variables' types
+
+abbrev pub Typed : (ℕ → VariableType) → Known → Type 0
+Typed ts p = (x : ℕ) (w : List Atom) → p x ≡ Some w → is_of (ts x) w ≡ true
+
+typed_same : (ts : ℕ → VariableType) (p q : Known) → p ≡ q → Typed ts p → Typed ts q
+typed_same ts p q e h = subst (λ (z : Known). Typed ts z) e h
+
+with_typed : (ts : ℕ → VariableType) (x : ℕ) (v : List Atom) (p : Known) → is_of (ts x) v ≡ true → Typed ts p → Typed ts (with_value p x v)
+with_typed ts x v p k h y w e =
+    elim (cases_eq y x) [
+      | inl s ↦ (let t : with_value p x v y ≡ Some v = rw s (with_here p x v) in
+          let r : v ≡ w = some_same (sym t ∙ e) in
+          subst (λ z. is_of (ts y) z ≡ true) r (subst (λ n. is_of (ts n) v ≡ true) (sym s) k))
+      | inr d ↦ h y w (sym (with_apart p x y v d) ∙ e)
+    ]
+
+tell_typed : (ts : ℕ → VariableType) (x : ℕ) (v : List Atom) (p q : Known) → tell ts x v p ≡ Some q → Typed ts p → Typed ts q
+tell_typed ts x v p q h t = by (is_of (ts x) v) refl
+  where
+    known : (o : Option (List Atom)) → is_of (ts x) v ≡ true → tell_known o x v p ≡ Some q → Typed ts q
+    known None k e = typed_same ts (with_value p x v) q (some_same e) (with_typed ts x v p k t)
+    known (Some w) k e = typed_same ts p q (kept (same_list w v) p q e).1 t
+
+    by : (b : Bool) → is_of (ts x) v ≡ b → Typed ts q
+    by true e = known (p x) e (rw e at h)
+    by false e = absurd (none-some q (rw e at h))
+
+text_typed : (ts : ℕ → VariableType) (n : ℕ) (e : Expression ℕ) (t : List ℕ) (p : Known) (r : Rest ℕ) → read_text ts n e t p ≡ Some r → Typed ts p → Typed ts r.known
+text_typed ts n (Text u) t p r h k = typed_same ts p r.known (ap (λ (z : Rest ℕ). z.known) (sym (kept_rest (pointwise nat_eq u (take (length u) t)) (drop (length u) t) p r h).1)) k
+text_typed ts n (Variable x) t p r h k =
+    let j = span n (strings_of (ts x)) in
+    tell_typed ts x (Str (take j t) ∷ []) p r.known (told_rests (tell ts x (Str (take j t) ∷ []) p) (drop j t) r h).0 k
+text_typed ts n (Dot d e) t p r h k =
+    let m = behind_is (read_text ts n d t p) (λ u q. read_text ts n e u q) r h in
+    text_typed ts n e m.0.left m.0.known r m.2 (text_typed ts n d t p m.0 m.1 k)
+text_typed ts n other t p r h k = absurd (none-some r h)
+
+whole_text_typed : (ts : ℕ → VariableType) (e : Expression ℕ) (t : List ℕ) (p q : Known) → unify_text ts e t p ≡ Some q → Typed ts p → Typed ts q
+whole_text_typed ts e t p q h k =
+    let n = length t - characters_in ts e in
+    let m = behind_is (read_text ts n e t p) (λ u q. ended u q) q h in
+    let f = ended_is m.0.left m.0.known q m.2 in
+    typed_same ts m.0.known q f.1 (text_typed ts n e t p m.0 m.1 k)
+
+read_typed : (ts : ℕ → VariableType) (n : ℕ) (e : Expression ℕ) (v : List Atom) (p : Known) (r : Rest Atom) → read ts n e v p ≡ Some r → Typed ts p → Typed ts r.known
+read_typed ts n (Number z) v p r h k = typed_same ts p r.known (ap (λ (z : Rest Atom). z.known) (sym (kept_rest (same_list (number z) (take 1 v)) (drop 1 v) p r h).1)) k
+read_typed ts n (Text t) v p r h k = typed_same ts p r.known (ap (λ (z : Rest Atom). z.known) (sym (kept_rest (same_list (Str t ∷ []) (take 1 v)) (drop 1 v) p r h).1)) k
+read_typed ts n (Variable x) v p r h k =
+    let j = span n (lists_of (ts x)) in
+    tell_typed ts x (take j v) p r.known (told_rests (tell ts x (take j v) p) (drop j v) r h).0 k
+read_typed ts n (Negated (Number z)) v p r h k = typed_same ts p r.known (ap (λ (z : Rest Atom). z.known) (sym (kept_value (ranged (neg_ℤ z)) (take 1 v) (drop 1 v) p r h).1)) k
+read_typed ts n (Dot d e) v p r h k =
+    let o = told_rests (on_text (take 1 v) (λ s. unify_text ts (Dot d e) s p)) (drop 1 v) r h in
+    let t = on_text_is (take 1 v) (λ s. unify_text ts (Dot d e) s p) r.known o.0 in
+    whole_text_typed ts (Dot d e) t.0 p r.known t.2 k
+read_typed ts n Empty v p r h k = typed_same ts p r.known (ap (λ (z : Rest Atom). z.known) (some_same h)) k
+read_typed ts n (Join d e) v p r h k =
+    let m = behind_is (read ts n d v p) (λ w q. read ts n e w q) r h in
+    read_typed ts n e m.0.left m.0.known r m.2 (read_typed ts n d v p m.0 m.1 k)
+read_typed ts n other v p r h k = absurd (none-some r h)
+
+typed : (ts : ℕ → VariableType) (e : Expression ℕ) (v : List Atom) (p q : Known) → unify ts e v p ≡ Some q → Typed ts p → Typed ts q
+typed ts e v p q h k =
+    let n = length v - atoms_in ts e in
+    let m = behind_is (read ts n e v p) (λ w q. ended w q) q h in
+    let f = ended_is m.0.left m.0.known q m.2 in
+    typed_same ts m.0.known q f.1 (read_typed ts n e v p m.0 m.1 k)
+
+pub all_typed : (ts : ℕ → VariableType) (es : List (Expression ℕ)) (vs : List (Option (List Atom))) (p q : Known) → unify_all ts es vs p ≡ Some q → Typed ts p → Typed ts q
+all_typed ts [] [] p q h k = typed_same ts p q (some_same h) k
+all_typed ts (e ∷ es) (Some v ∷ vs) p q h k =
+    let r = and_then (unify_all ts es vs) (unify ts e v p) q h in
+    all_typed ts es vs r.0 q r.2 (typed ts e v p r.0 r.1 k)
+all_typed ts es vs p q h k = absurd (none-some q h)
+
+-- ---- some labels behind others
+
+some_behind : (ts : ℕ → VariableType) (es fs : List (Expression ℕ)) (vs ws : List (Option (List Atom))) (o : Option Known) → ((q : Known) → unify_all ts (es ++ fs) (vs ++ ws) q ≡ option_and_then (λ q. unify_all ts fs ws q) (unify_all ts es vs q)) → option_and_then (λ q. unify_all ts (es ++ fs) (vs ++ ws) q) o ≡ option_and_then (λ q. unify_all ts fs ws q) (option_and_then (λ q. unify_all ts es vs q) o)
+some_behind ts es fs vs ws None h = refl
+some_behind ts es fs vs ws (Some q) h = h q
+
+pub unify_both : (ts : ℕ → VariableType) (es fs : List (Expression ℕ)) (vs ws : List (Option (List Atom))) (p : Known) → length es ≡ length vs → unify_all ts (es ++ fs) (vs ++ ws) p ≡ option_and_then (λ q. unify_all ts fs ws q) (unify_all ts es vs p)
+unify_both ts [] fs [] ws p l = refl
+unify_both ts (e ∷ es) fs (Some v ∷ vs) ws p l = some_behind ts es fs vs ws (unify ts e v p) (λ q. unify_both ts es fs vs ws q (omega arith))
+unify_both ts (e ∷ es) fs (None ∷ vs) ws p l = refl
+unify_both ts [] fs (v ∷ vs) ws p l = absurd (omega arith)
+unify_both ts (e ∷ es) fs [] ws p l = absurd (omega arith)
+
+one_behind : (ts : ℕ → VariableType) (es : List (Expression ℕ)) (vs : List (Option (List Atom))) (o : Option Known) → option_and_then (λ q. unify_all ts es vs q) o ≡ option_and_then (λ q. unify_all ts es vs q) (option_and_then (λ q. unify_all ts [] [] q) o)
+one_behind ts es vs None = refl
+one_behind ts es vs (Some q) = refl
+
+-- one label, and the others
+unify_one : (ts : ℕ → VariableType) (e : Expression ℕ) (es : List (Expression ℕ)) (o : Option (List Atom)) (vs : List (Option (List Atom))) (p : Known) → unify_all ts (e ∷ es) (o ∷ vs) p ≡ option_and_then (λ q. unify_all ts es vs q) (unify_all ts (e ∷ []) (o ∷ []) p)
+unify_one ts e es None vs p = refl
+unify_one ts e es (Some v) vs p = one_behind ts es vs (unify ts e v p)
+
+one_more : (ts : ℕ → VariableType) (es : List (Expression ℕ)) (vs : List (Option (List Atom))) (i : ℕ) (e : Expression ℕ) (o : Option (List Atom)) (p : Known) (m : Option Known) → slice_get es i ≡ Some e → slice_get vs i ≡ Some o → unify_all ts (drop i es) (drop i vs) p ≡ m → option_and_then (λ q. unify_all ts (drop (suc i) es) (drop (suc i) vs) q) (unify_all ts (e ∷ []) (o ∷ []) p) ≡ m
+one_more ts [] vs i e o p m g h k = absurd (none-some e g)
+one_more ts (d ∷ es) [] i e o p m g h k = absurd (none-some o h)
+one_more ts (d ∷ es) (n ∷ vs) zero e o p m g h k =
+    ap (λ z. option_and_then (λ q. unify_all ts es vs q) (unify_all ts (z ∷ []) (o ∷ []) p)) (sym (some_same g)) ∙ ap (λ z. option_and_then (λ q. unify_all ts es vs q) (unify_all ts (d ∷ []) (z ∷ []) p)) (sym (some_same h)) ∙ sym (unify_one ts d es n vs p) ∙ k
+one_more ts (d ∷ es) (n ∷ vs) (suc i) e o p m g h k = one_more ts es vs i e o p m g h k
+
+-- a loop over labels, from the front
+pub unify_on : (ts : ℕ → VariableType) (es : List (Expression ℕ)) (vs : List (Option (List Atom))) (i : ℕ) (e : Expression ℕ) (o : Option (List Atom)) (p q : Known) (m : Option Known) → slice_get es i ≡ Some e → slice_get vs i ≡ Some o → unify_all ts (drop i es) (drop i vs) p ≡ m → unify_all ts (e ∷ []) (o ∷ []) p ≡ Some q → unify_all ts (drop (i + 1) es) (drop (i + 1) vs) q ≡ m
+unify_on ts es vs i e o p q m g h k f =
+    let n : suc i ≡ i + 1 = omega arith in
+    subst (λ j. unify_all ts (drop j es) (drop j vs) q ≡ m) n (ap (λ z. option_and_then (λ q. unify_all ts (drop (suc i) es) (drop (suc i) vs) q) z) (sym f) ∙ one_more ts es vs i e o p m g h k)
+
+pub unify_stops : (ts : ℕ → VariableType) (es : List (Expression ℕ)) (vs : List (Option (List Atom))) (i : ℕ) (e : Expression ℕ) (o : Option (List Atom)) (p : Known) (m : Option Known) → slice_get es i ≡ Some e → slice_get vs i ≡ Some o → unify_all ts (drop i es) (drop i vs) p ≡ m → unify_all ts (e ∷ []) (o ∷ []) p ≡ None → m ≡ None
+unify_stops ts es vs i e o p m g h k f = sym (one_more ts es vs i e o p m g h k) ∙ ap (λ z. option_and_then (λ q. unify_all ts (drop (suc i) es) (drop (suc i) vs) q) z) f
+
+pub unify_ends : (ts : ℕ → VariableType) (es : List (Expression ℕ)) (vs : List (Option (List Atom))) (i : ℕ) (p : Known) (m : Option Known) → length es ≤ i → length vs ≤ i → unify_all ts (drop i es) (drop i vs) p ≡ m → m ≡ Some p
+unify_ends ts es vs i p m l n k = sym k ∙ ap (λ z. unify_all ts z (drop i vs) p) (drop_all i es l) ∙ ap (λ z. unify_all ts [] z p) (drop_all i vs n)

@@ -1,6 +1,6 @@
 -- What unification answers: an extension of an assignment by which a label has a value, the least one (Plump 2012,
 -- section 3: the values of the variables follow from the labels at a match).
-use Rattle.std.specs.Prelude.{◌≡◌, ℕ, ◌<◌, List, Option, Some, IsSome, option_and_then, slice_get}
+use Rattle.std.specs.Prelude.{◌≡◌, ℕ, ◌<◌, List, length, Option, Some, IsSome, option_and_then, slice_get}
 use Rattle.gp_values.specs.declared.atom.Atom.{Atom}
 use Rattle.gp_syntax.specs.Assigned.{PartialAssignment}
 use Rattle.gp_syntax.specs.Expression.{Expression}
@@ -29,6 +29,7 @@ pub record Extension (a : PartialAssignment) (e : Expression ℕ) (v : List Atom
 -- extension of a by which it has that value has what b knows
 pub record IsLeast (a b : PartialAssignment) (e : Expression ℕ) (v : List Atom) : Type 0 where
   pub types : b.types ≡ a.types
+  pub count : length b.values ≡ length a.values
   pub keeps : (x : ℕ) (w : List Atom) → known_of a x ≡ Some w → known_of b x ≡ Some w
   pub knows : (x : ℕ) → StandsIn x e → IsSome (known_of b x)
   pub gives : (s : Setting) → s.types ≡ a.types → Extends (known_of b) s.assigned → value_of e s ≡ Value v

@@ -8,12 +8,14 @@
 
 mod label;
 pub mod laws;
+mod matched;
 mod mismatch;
 mod pieces;
 mod text;
 mod trail;
 mod unifier;
 
+pub use matched::{assignment_by, assignment_of};
 pub use pieces::is_of;
 pub use trail::take_back;
 pub use unifier::{Unified, unify, unify_on};

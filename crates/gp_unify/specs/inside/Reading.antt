@@ -1,7 +1,8 @@
 -- What reading answers, and the labels of a chain one by one.
-use Rattle.std.specs.Prelude.{◌≡◌, ℕ, ◌+◌, Bool, true, false, List, [], ◌∷◌, map, take, drop, Option, Some, None, Result, Ok, Err}
+use Rattle.std.specs.Prelude.{◌≡◌, ℕ, ◌+◌, Bool, true, false, List, [], ◌∷◌, map, take, drop, length, Option, Some, None, Result, Ok, Err}
 use Rattle.std.specs.Borrow.{Bor}
 use Rattle.gp_memory.specs.Free.{Free}
+use Rattle.gp_memory.specs.declared.refusal.NoMemory.{NoMemory}
 use Rattle.gp_values.specs.declared.atom.Atom.{Atom}
 use Rattle.gp_values.specs.Atoms.{same_list}
 use Rattle.gp_syntax.specs.declared.kinds.VariableType.{VariableType}
@@ -52,6 +53,17 @@ abbrev pub Told : Unified → Option Known → PartialAssignment → Type 0
 Told unified.Yes o b = o ≡ Some (known_of b)
 Told unified.No o b = o ≡ None
 Told unified.NoMemory o b = Free
+
+-- the assignment a has become b; it has the same places
+pub record TellsThem (o : Option Known) (a b : PartialAssignment) : Type 0 where
+  pub told : o ≡ Some (known_of b)
+  pub types : b.types ≡ a.types
+  pub count : length b.values ≡ length a.values
+
+abbrev pub TellsAll : Result Bool NoMemory → Option Known → PartialAssignment → PartialAssignment → Type 0
+TellsAll (Ok true) o a b = TellsThem o a b
+TellsAll (Ok false) o a b = o ≡ None
+TellsAll (Err e) o a b = Free
 
 -- a trail that is longer behind what was told alone
 abbrev pub KeepsTrail : Unified → List ℕ → List ℕ → Type 0

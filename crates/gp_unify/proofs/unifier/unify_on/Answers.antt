@@ -5,7 +5,7 @@ use Rattle.gp_unify.specs.Extension.{known_of}
 use Rattle.gp_unify.specs.inside.Trail.{cleared}
 use Rattle.gp_unify.specs.inside.Unify.{unify}
 use Rattle.gp_unify.proofs.Answers.{is_least, is_none}
-use Rattle.gp_unify.proofs.Trails.{back_to}
+use Rattle.gp_unify.proofs.Trails.{back_to, grown_count}
 use Rattle.gp_unify.proofs.unifier.unify_on.Goals as goal
 
 pub returns-in-Ok-clause-answers : goal.returns-in-Ok-clause-answers
@@ -14,7 +14,7 @@ returns-in-Ok-clause-answers c =
     let b = c.unify_label.new.assignment in
     let e = label_of c.args.label.now in
     let h : unify (type_in a.types) e c.args.list.now (known_of a) ≡ Some (known_of b) = subst (λ v. unify (type_in a.types) e v (known_of a) ≡ Some (known_of b)) c.atoms.ensures.value c.in-Ok.ensures.told in
-    is_least a e c.args.list.now b c.requires.simple c.in-Ok.ensures.grown.types h
+    is_least a e c.args.list.now b c.requires.simple c.in-Ok.ensures.grown.types (grown_count a b c.args.trail.now.items c.unify_label.new.trail.items c.in-Ok.ensures.grown) h
 
 pub returns-in-Err-Differs-clause-answers : goal.returns-in-Err-Differs-clause-answers
 returns-in-Err-Differs-clause-answers c =
