@@ -1,2 +1,6 @@
 pub mod Afters
 pub mod Wholes
+pub mod Undoing
+pub mod Notes
+pub mod Labels
+pub mod Collecting

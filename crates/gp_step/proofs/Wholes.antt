@@ -127,15 +127,15 @@ module _ (r : Rule) (g : Graph) (m : Found) (a : Assignment) (whole : IsGraph g)
 
 -- ---- of a checked rule
 
-at_label : (P : Expression ℕ → Type 0) (es : List (Expression ℕ)) → All P es → (j : ℕ) (e : Expression ℕ) → slice_get es j ≡ Some e → P e
+pub at_label : (P : Expression ℕ → Type 0) (es : List (Expression ℕ)) → All P es → (j : ℕ) (e : Expression ℕ) → slice_get es j ≡ Some e → P e
 at_label P es h j e i = subst P (get_or_from_slice_get es j e e i) (h j e (slice_get_within es j e i))
 
-all_left : (P : Expression ℕ → Type 0) (es fs : List (Expression ℕ)) → All P (es ++ fs) → (j : ℕ) (e : Expression ℕ) → slice_get es j ≡ Some e → P e
+pub all_left : (P : Expression ℕ → Type 0) (es fs : List (Expression ℕ)) → All P (es ++ fs) → (j : ℕ) (e : Expression ℕ) → slice_get es j ≡ Some e → P e
 all_left P [] fs h j e i = absurd (none-some e i)
 all_left P (x ∷ es) fs h zero e i = at_label P (x ∷ es ++ fs) h zero e i
 all_left P (x ∷ es) fs h (suc j) e i = all_left P es fs (λ k d l. h (suc k) d (omega arith)) j e i
 
-all_right : (P : Expression ℕ → Type 0) (es fs : List (Expression ℕ)) → All P (es ++ fs) → All P fs
+pub all_right : (P : Expression ℕ → Type 0) (es fs : List (Expression ℕ)) → All P (es ++ fs) → All P fs
 all_right P [] fs h = h
 all_right P (x ∷ es) fs h = all_right P es fs (λ k d l. h (suc k) d (omega arith))
 
