@@ -1,5 +1,5 @@
 -- What is collected of the right side, item by item.
-use Rattle.std.proofs.Common.{◌≡◌, ℕ, suc, ◌+◌, ◌<◌, ◌≤◌, Bool, true, false, if◌then◌else◌, List, [], ◌∷◌, ◌++◌, map, length, get_or, drop, drop-cons, append_assoc, add-one, Option, Some, None, slice_get, refl, sym, ap, subst, ◌∙◌, arith}
+use Rattle.std.proofs.Common.{◌≡◌, ℕ, suc, ◌+◌, ◌<◌, Bool, true, false, if◌then◌else◌, List, [], ◌∷◌, ◌++◌, length, get_or, drop, drop-cons, append_assoc, add-one, Some, slice_get, refl, sym, ap, subst, ◌∙◌, arith}
 use Rattle.gp_step.specs.inside.Edits.{gone}
 use Rattle.gp_step.proofs.Labels.{same_element}
 

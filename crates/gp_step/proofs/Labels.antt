@@ -1,10 +1,10 @@
 -- What a checked rule's right side asks for is there, where a match applies.
-use Rattle.std.proofs.Common.{◌≡◌, ℕ, suc, ◌+◌, ◌<◌, Bool, true, false, ◌||◌, List, [], ◌∷◌, ◌++◌, map, length, get_or, drop, drop-cons, add-one, Option, Some, None, IsSome, IfSome, slice_get, slice_index, refl, sym, ap, subst, ◌∙◌, arith}
+use Rattle.std.proofs.Common.{◌≡◌, ℕ, ◌<◌, Bool, ◌||◌, List, [], ◌∷◌, map, length, get_or, Option, Some, None, IsSome, IfSome, slice_get, refl, sym, ap, subst, ◌∙◌, arith}
 use Rattle.std.specs.Option.{option_map}
 use Rattle.std.specs.List.{list_any}
 use Rattle.std.proofs.lemmas.List.{get_or_default, length-map}
 use Rattle.std.proofs.lemmas.Option.{slice_get-map, get_or_from_slice_get}
-use Rattle.gp_values.specs.Graph.{Graph, Node, Edge, node_at, edge_at}
+use Rattle.gp_values.specs.Graph.{Graph, node_at}
 use Rattle.gp_syntax.specs.declared.rule.RuleParts.{RuleParts}
 use Rattle.gp_syntax.specs.declared.rule.RightNode.{RightNode}
 use Rattle.gp_syntax.specs.declared.rule.RightEdge.{RightEdge}
@@ -13,7 +13,6 @@ use Rattle.gp_syntax.specs.Expression.{Expression}
 use Rattle.gp_syntax.specs.Value.{Assignment}
 use Rattle.gp_syntax.specs.Assigned.{PartialAssignment, assigned_of}
 use Rattle.gp_syntax.specs.Match.{MatchBy, setting_of}
-use Rattle.gp_syntax.specs.Step.{right_labels}
 use Rattle.gp_syntax.specs.Tree.{rule_of_tree, right_node_of, right_edge_of, expression_of}
 use Rattle.gp_syntax.specs.WellFormed.{IsWithin}
 use Rattle.gp_eval.specs.Answer.{AreNodes}

@@ -4,3 +4,4 @@ pub mod Undoing
 pub mod Notes
 pub mod Labels
 pub mod Collecting
+pub mod Makes

@@ -4,7 +4,7 @@ use Rattle.std.specs.Prelude.{Some, IsSome, IfSome, Option}
 use Rattle.std.proofs.lemmas.List.{reverse-append}
 use Rattle.gp_values.specs.declared.atom.Atom.{Atom}
 use Rattle.gp_values.specs.Graph.{Graph, Node, Edge, IsGraph, HasNoEdges, node_at, edge_at, without_node, without_edge, with_node, with_edge, relabeled, without_node_number, without_edge_number}
-use Rattle.gp_values.proofs.Graphs.{get-remove_here, get-insert_here, get-remove_apart, IsSome-insert}
+use Rattle.gp_values.proofs.Graphs.{get-remove_here, get-insert_here}
 use Rattle.gp_values.proofs.Edits.{node_put_back, edge_put_back, relabeled_back, node_dropped, edge_dropped}
 use Rattle.gp_step.specs.declared.inverse.Inverse.{Inverse}
 use Rattle.gp_step.specs.declared.inverse.Inverse.TheVariants.{DropNode, DropEdge, PutNode, PutEdge, Relabel}
@@ -14,7 +14,7 @@ use Rattle.gp_step.specs.declared.made.Kept.{Kept}
 use Rattle.gp_step.specs.declared.made.MadeEdge.{MadeEdge}
 use Rattle.gp_step.specs.inside.Edits.{drop_edges, drop_nodes, put_edges}
 use Rattle.gp_step.specs.inside.Made.{number_of, node_of, edge_of, nodes_of, edges_of, kept_pairs, relabel_all, with_nodes}
-use Rattle.gp_step.specs.Undo.{inverse_of, MayUndo, undone_by, Fits}
+use Rattle.gp_step.specs.Undo.{inverse_of, MayUndo, undone_by, Fits, Undoes}
 use Rattle.gp_step.specs.inside.Notes.{KeepsUndo, KeepsUndoBehind, MayDropEdges, MayDropNodes, MayRelabel, MayPutEdges}
 
 pub last_first : {X : Type 0} (xs : List X) (x : X) → reverse (xs ++ x ∷ []) ≡ x ∷ reverse xs
@@ -150,3 +150,11 @@ behind_all u n left g h e k = subst (λ m. KeepsUndoBehind m u g h) (all_made n 
 
 pub one_longer : {X : Type 0} (xs ys : List X) (x : X) → xs ≡ ys ++ x ∷ [] → length xs ≡ length ys + 1
 one_longer xs ys x e = ap length e ∙ length-append ys (x ∷ [])
+
+-- ---- a whole step
+
+pub undone_together : (us vs : List Inverse) (n e k l : ℕ) (g a b : Graph) → us ≡ [] → KeepsUndo (reverse us) g (reverse vs) a → KeepsUndoBehind n DropNode a b → (h : Graph) → KeepsUndoBehind e DropEdge b h
+    → k ≡ n → l ≡ e → Undoes (replicate l DropEdge ++ (replicate k DropNode ++ reverse vs)) h g
+undone_together us vs n e k l g a b none first nodes h edges ek el =
+    let start : Undoes (reverse us) g g = rw none (record { fits = tt; same = refl }) in
+    rw (ek, el) (edges (replicate n DropNode ++ reverse vs) g (nodes (reverse vs) g (first g start)))

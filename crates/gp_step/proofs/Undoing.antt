@@ -1,8 +1,7 @@
 -- Inverse edits, one after another.
-use Rattle.std.proofs.Common.{◌≡◌, ℕ, suc, ◌+◌, ◌-◌, ◌<◌, ◌≤◌, List, [], ◌∷◌, ◌++◌, replicate, sym, subst, ap, refl, ◌∙◌, arith}
+use Rattle.std.proofs.Common.{◌≡◌, ℕ, suc, ◌+◌, ◌-◌, ◌<◌, ◌≤◌, List, ◌∷◌, ◌++◌, replicate, sym, subst, ap, ◌∙◌, arith}
 use Rattle.gp_values.specs.Graph.{Graph}
 use Rattle.gp_step.specs.declared.inverse.Inverse.{Inverse}
-use Rattle.gp_step.specs.declared.inverse.Inverse.TheVariants.{DropNode, DropEdge}
 use Rattle.gp_step.specs.Undo.{inverse_of, MayUndo, undone_by, Fits}
 
 -- what is left to be made, and where it leads

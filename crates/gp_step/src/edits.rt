@@ -170,9 +170,9 @@ pub(crate) fn add_nodes(graph: &mut Graph, nodes: Vec<Carried>)
     ensures undo { KeepsUndoBehind (length nodes.items) inverses.DropNode graph.old.graph graph.new.graph }
     ensures edge_room { graph.new.edge_room ≡ graph.old.edge_room }
 {
-    let mut left = nodes;
-    left.reverse();
-    'adds: while let Some(node) = left.pop() {
+    let mut waiting = nodes;
+    waiting.reverse();
+    'adds: while let Some(node) = waiting.pop() {
         add_node(graph, node);
     }
 }

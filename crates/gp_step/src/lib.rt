@@ -11,7 +11,10 @@ mod inverse;
 mod inverses;
 pub mod laws;
 mod made;
+mod step;
 mod taking_back;
+#[cfg(test)]
+mod tests;
 
 pub use inverse::Inverse;
 pub use inverses::Undo;

@@ -3,6 +3,8 @@ use Rattle.std.specs.Prelude.{ℕ, List, [], ◌∷◌, ◌++◌, replicate, IsS
 use Rattle.gp_values.specs.Graph.{Graph, Node, Edge, HasNoEdges, node_at, edge_at, with_edge, without_node, without_edge, relabeled}
 use Rattle.gp_step.specs.declared.inverse.Inverse.{Inverse}
 use Rattle.gp_step.specs.Undo.{Undoes}
+use Rattle.gp_step.specs.inside.Edits.{drop_edges, drop_nodes, put_edges}
+use Rattle.gp_step.specs.inside.Made.{relabel_all, with_nodes}
 
 -- what led back to a graph from the one does so from the other
 abbrev pub KeepsUndo : List Inverse → Graph → List Inverse → Graph → Type 0
@@ -28,3 +30,14 @@ MayRelabel (p ∷ ps) g = IsSome (node_at g p.0) × MayRelabel ps (relabeled g p
 abbrev pub MayPutEdges : List Edge → Graph → Type 0
 MayPutEdges [] g = Unit {0}
 MayPutEdges (d ∷ ds) g = IsSome (node_at g d.source) × IsSome (node_at g d.target) × MayPutEdges ds (with_edge g d)
+
+-- the edits of a step, one kind after another: edges off, nodes off, nodes of the interface relabelled, nodes on, edges on
+abbrev pub made_by : List ℕ → List ℕ → List (ℕ × Node) → List Node → List Edge → Graph → Graph
+made_by es ns ps xs ds g = put_edges ds (with_nodes xs (relabel_all ps (drop_nodes ns (drop_edges es g))))
+
+-- they may be made
+pub record MayMake (es ns : List ℕ) (ps : List (ℕ × Node)) (xs : List Node) (ds : List Edge) (g : Graph) : Type 0 where
+  pub edges : MayDropEdges es g
+  pub nodes : MayDropNodes ns (drop_edges es g)
+  pub kept : MayRelabel ps (drop_nodes ns (drop_edges es g))
+  pub ends : MayPutEdges ds (with_nodes xs (relabel_all ps (drop_nodes ns (drop_edges es g))))

@@ -1,5 +1,5 @@
-use Rattle.std.proofs.Common.{reverse, ◌∙◌, arith}
-use Rattle.gp_step.proofs.Notes.{edge_dropped_next, keeps_on}
+use Rattle.std.proofs.Common.{◌∙◌, arith}
+use Rattle.gp_step.proofs.Notes.{edge_dropped_next}
 use Rattle.gp_step.proofs.edits.cut_edges.Goals as goal
 
 pub loop-image-preserved : goal.loop-image-preserved

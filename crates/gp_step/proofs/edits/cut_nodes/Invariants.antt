@@ -1,8 +1,6 @@
-use Rattle.std.proofs.Common.{◌≡◌, ◌≤◌, ◌-◌, ◌+◌, map, drop, reverse, length, vec_len, vec_capacity}
-use Rattle.gp_step.specs.declared.inverse.Inverse.TheVariants.{DropNode, DropEdge}
-use Rattle.gp_step.specs.inside.Edits.{drop_edges, drop_nodes, put_edges}
-use Rattle.gp_step.specs.inside.Notes.{KeepsUndo, KeepsUndoBehind, MayDropEdges, MayDropNodes, MayRelabel, MayPutEdges}
-use Rattle.gp_step.specs.inside.Made.{number_of, nodes_of, edges_of, kept_pairs, relabel_all, with_nodes}
+use Rattle.std.proofs.Common.{◌≡◌, ◌≤◌, ◌-◌, ◌+◌, drop, reverse, vec_len, vec_capacity}
+use Rattle.gp_step.specs.inside.Edits.{drop_nodes}
+use Rattle.gp_step.specs.inside.Notes.{KeepsUndo, MayDropNodes}
 use Rattle.gp_step.proofs.edits.cut_nodes.Given as goal
 
 abbrev pub invariant-loop-n : goal.invariant-loop-n

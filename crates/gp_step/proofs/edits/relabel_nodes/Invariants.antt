@@ -1,8 +1,6 @@
-use Rattle.std.proofs.Common.{◌≡◌, ◌≤◌, ◌-◌, ◌+◌, map, drop, reverse, length, vec_len, vec_capacity}
-use Rattle.gp_step.specs.declared.inverse.Inverse.TheVariants.{DropNode, DropEdge}
-use Rattle.gp_step.specs.inside.Edits.{drop_edges, drop_nodes, put_edges}
-use Rattle.gp_step.specs.inside.Notes.{KeepsUndo, KeepsUndoBehind, MayDropEdges, MayDropNodes, MayRelabel, MayPutEdges}
-use Rattle.gp_step.specs.inside.Made.{number_of, nodes_of, edges_of, kept_pairs, relabel_all, with_nodes}
+use Rattle.std.proofs.Common.{◌≡◌, ◌≤◌, ◌+◌, reverse, length, vec_len, vec_capacity}
+use Rattle.gp_step.specs.inside.Notes.{KeepsUndo, MayRelabel}
+use Rattle.gp_step.specs.inside.Made.{kept_pairs, relabel_all}
 use Rattle.gp_step.proofs.edits.relabel_nodes.Given as goal
 
 abbrev pub invariant-relabels : goal.invariant-relabels

@@ -1,4 +1,4 @@
-use Rattle.std.proofs.Common.{◌≡◌, ◌∙◌, ◌+◌, ◌<◌, ◌++◌, true, false, length, drop, ap, sym, subst, arith}
+use Rattle.std.proofs.Common.{◌≡◌, ◌∙◌, ◌<◌, true, false, length, sym, arith}
 use Rattle.gp_syntax.specs.Rule.{is_kept}
 use Rattle.gp_syntax.specs.Tree.{rule_of_tree}
 use Rattle.gp_step.specs.inside.Edits.{gone}
@@ -13,9 +13,9 @@ loop-i-preserved c =
     let s = gone_next kept c.args.nodes.now c.loop-i.i 0 c.loop-i.removed.items (gone kept c.args.nodes.now) inside c.loop-i.invariant in
     elim c.if-not-has_in_interface.branch [
       | then-not-has_in_interface+in_ok-push w ↦
-        (let no : kept c.loop-i.i ≡ false = sym c.has_in_interface.ensures ∙ w.if-not-has_in_interface.true in
-         rw w.removed-is (rw w.in_ok-push.ensures.items (s.goes no)))
+          (let no : kept c.loop-i.i ≡ false = sym c.has_in_interface.ensures ∙ w.if-not-has_in_interface.true in
+          rw w.removed-is (rw w.in_ok-push.ensures.items (s.goes no)))
       | else-not-has_in_interface w ↦
-        (let yes : kept c.loop-i.i ≡ true = sym c.has_in_interface.ensures ∙ w.if-not-has_in_interface.false in
-         rw w.removed-is (s.stays yes))
+          (let yes : kept c.loop-i.i ≡ true = sym c.has_in_interface.ensures ∙ w.if-not-has_in_interface.false in
+          rw w.removed-is (s.stays yes))
     ]

@@ -1,6 +1,5 @@
 use Rattle.gp_syntax.specs.Assigned.{assigned_of}
 use Rattle.gp_syntax.specs.Tree.{rule_of_tree}
-use Rattle.gp_eval.specs.Answer.{AreNodes}
 use Rattle.gp_step.proofs.Labels.{images_are_nodes}
 use Rattle.gp_step.proofs.made.label_of.Goals as goal
 

@@ -1,4 +1,4 @@
-use Rattle.std.proofs.Common.{◌<◌, length, IfSome, subst, sym, arith}
+use Rattle.std.proofs.Common.{◌<◌, IfSome, subst, sym, arith}
 use Rattle.gp_step.proofs.Labels.{node_label, node_origin, node_count}
 use Rattle.gp_step.proofs.Collecting.{item_at}
 use Rattle.gp_step.proofs.made.made_nodes.Goals as goal

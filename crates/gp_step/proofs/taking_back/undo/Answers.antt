@@ -1,4 +1,4 @@
-use Rattle.std.proofs.Common.{◌-◌, ◌+◌, ◌++◌, replicate, reverse, arith}
+use Rattle.std.proofs.Common.{◌-◌, ◌+◌, ◌++◌, replicate, reverse}
 use Rattle.gp_step.specs.declared.inverse.Inverse.TheVariants.{DropNode, DropEdge}
 use Rattle.gp_step.proofs.Undoing.{next_left, counts_down}
 use Rattle.gp_step.proofs.taking_back.undo.Goals as goal
