@@ -1,0 +1,6 @@
+pub mod ConditionShapes
+pub mod Facts
+pub mod Known
+pub mod Shapes
+pub mod Size
+pub mod Tables
