@@ -1,6 +1,7 @@
 pub mod ConditionShapes
 pub mod Told
-pub mod Tests
+pub mod Parts
+pub mod Doubles
 pub mod Knowns
 pub mod Shapes
 pub mod Tables

@@ -3,7 +3,7 @@ use Rattle.std.specs.List.{list_all}
 use Rattle.gp_clauses.specs.inside.Size.{condition_size}
 use Rattle.gp_clauses.specs.inside.ConditionShapes.{named_condition}
 use Rattle.gp_clauses.proofs.Walks.{all_fails, all_ended, item_at}
-use Rattle.gp_clauses.proofs.Tests.{marks_chain, part_has_marks}
+use Rattle.gp_clauses.proofs.Parts.{marks_chain, part_has_marks}
 use Rattle.gp_clauses.proofs.marks.+condition_has_marks.Goals as goal
 
 pub returns-then-not-condition_has_marks : goal.returns-then-not-condition_has_marks

@@ -5,7 +5,7 @@ use Rattle.gp_clauses.specs.inside.Size.{condition_size}
 use Rattle.gp_clauses.specs.inside.Tables.{type_by}
 use Rattle.gp_clauses.specs.inside.ConditionShapes.{named_condition}
 use Rattle.gp_clauses.proofs.Walks.{all_fails, all_ended, item_at}
-use Rattle.gp_clauses.proofs.Tests.{typed_chain, is_typed_part}
+use Rattle.gp_clauses.proofs.Parts.{typed_chain, is_typed_part}
 use Rattle.gp_clauses.proofs.typed.+is_well_typed_condition.Goals as goal
 
 pub returns-then-not-is_well_typed_condition : goal.returns-then-not-is_well_typed_condition

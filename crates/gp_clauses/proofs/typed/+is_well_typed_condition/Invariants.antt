@@ -2,7 +2,7 @@ use Rattle.std.proofs.Common.{◌≡◌, drop}
 use Rattle.std.specs.List.{list_all}
 use Rattle.gp_clauses.specs.inside.Size.{condition_size}
 use Rattle.gp_clauses.specs.inside.Tables.{type_by}
-use Rattle.gp_clauses.proofs.Tests.{is_typed_part}
+use Rattle.gp_clauses.proofs.Parts.{is_typed_part}
 use Rattle.gp_clauses.proofs.typed.+is_well_typed_condition.Given as goal
 
 abbrev pub decreases-is_well_typed_condition : goal.decreases-is_well_typed_condition

@@ -2,7 +2,7 @@ use Rattle.std.proofs.Common.{◌∙◌, sym}
 use Rattle.gp_syntax.specs.Fault.{is_well_typed}
 use Rattle.gp_clauses.specs.inside.Tables.{type_by}
 use Rattle.gp_clauses.proofs.Walks.{all_fails, all_ended, item_at}
-use Rattle.gp_clauses.proofs.Tests.{node_fails, edge_fails, both_pass}
+use Rattle.gp_clauses.proofs.Parts.{node_fails, edge_fails, both_pass}
 use Rattle.gp_clauses.proofs.typed.has_typed_labels.Goals as goal
 
 pub returns-then-not-is_well_typed : goal.returns-then-not-is_well_typed
