@@ -1,5 +1,5 @@
 -- One layer of a condition.
-use Rattle.std.proofs.Common.{◌≡◌, ℕ, zero, suc, ◌+◌, ◌≤◌, List, [], ◌∷◌, map, fold, Option, Some, slice_get, refl, sym, ap, ◌∙◌, arith}
+use Rattle.std.proofs.Common.{◌≡◌, ℕ, zero, suc, ◌+◌, ◌≤◌, List, [], ◌∷◌, map, Option, Some, slice_get, refl, sym, ap, ◌∙◌, arith}
 use Rattle.gp_values.specs.Names.{Name}
 use Rattle.gp_syntax.specs.declared.expression.Cond.{Cond}
 use Rattle.gp_syntax.specs.declared.expression.Cond.TheVariants as tree
@@ -8,7 +8,7 @@ use Rattle.gp_syntax.specs.declared.expression.Cond.TheFolds.{fold-roll-Cond}
 use Rattle.gp_syntax.specs.Expression.{And, Or}
 use Rattle.gp_syntax.specs.Tree.{ands, ors}
 use Rattle.gp_clauses.specs.declared.condition_shape.Connective.TheVariants as connectives
-use Rattle.gp_clauses.specs.inside.Size.{total, condition_step, condition_size, condition_sizes}
+use Rattle.gp_clauses.specs.inside.Size.{condition_step, condition_size, condition_sizes}
 use Rattle.gp_clauses.specs.inside.ConditionShapes.{NamedCondition, named_condition, condition_chain}
 
 pub and_chain : (c : NamedCondition) (ds : List (Cond Name (Option Name))) → ands c (map named_condition ds) ≡ condition_chain connectives.And c ds

@@ -1,7 +1,6 @@
 -- The first name that stood before, list by list.
-use Rattle.std.proofs.Common.{◌≡◌, ℕ, ◌+◌, ◌<◌, Bool, true, false, if◌then◌else◌, List, [], ◌∷◌, ◌++◌, map, flat_map, drop, Option, Some, None, slice_get, refl, sym, ap, ◌∙◌, append_assoc}
-use Rattle.std.specs.Option.{option_or}
-use Rattle.gp_values.specs.Names.{Name, has_name, first_doubled, first_doubled_behind}
+use Rattle.std.proofs.Common.{◌≡◌, ℕ, ◌+◌, Bool, true, false, if◌then◌else◌, List, [], ◌∷◌, ◌++◌, map, flat_map, drop, Some, None, slice_get, refl, sym, ap, ◌∙◌, append_assoc}
+use Rattle.gp_values.specs.Names.{Name, has_name, first_doubled_behind}
 use Rattle.gp_syntax.specs.declared.tree.VariableGroup.{VariableGroup}
 use Rattle.gp_syntax.specs.Declaration.{DeclaredVariable}
 use Rattle.gp_syntax.specs.Tree.{variables_of}

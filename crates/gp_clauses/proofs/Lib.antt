@@ -3,6 +3,7 @@ pub mod Told
 pub mod Parts
 pub mod Doubles
 pub mod Knowns
+pub mod Scopes
 pub mod Shapes
 pub mod Tables
 pub mod Walks

@@ -1,5 +1,5 @@
 -- Types and marks in conditions, part by part.
-use Rattle.std.proofs.Common.{◌≡◌, ◌&&◌, Bool, true, false, List, [], ◌∷◌, ◌++◌, map, fold, Option, refl, sym, ap, ◌∙◌}
+use Rattle.std.proofs.Common.{◌≡◌, ◌&&◌, Bool, true, false, List, [], ◌∷◌, ◌++◌, map, Option, refl, sym, ap, ◌∙◌}
 use Rattle.std.specs.List.{list_all}
 use Rattle.gp_values.specs.Names.{Name}
 use Rattle.gp_syntax.specs.declared.kinds.VariableType.{VariableType}

@@ -1,5 +1,5 @@
 -- One layer of an expression.
-use Rattle.std.proofs.Common.{◌≡◌, ℕ, zero, suc, ◌+◌, ◌<◌, ◌≤◌, List, [], ◌∷◌, map, length, fold, Some, slice_get, refl, sym, ap, subst, ◌∙◌, arith}
+use Rattle.std.proofs.Common.{◌≡◌, ℕ, zero, suc, ◌+◌, ◌≤◌, List, [], ◌∷◌, map, Some, slice_get, refl, sym, ap, ◌∙◌, arith}
 use Rattle.gp_values.specs.Names.{Name}
 use Rattle.gp_syntax.specs.declared.expression.Signed.{Signed}
 use Rattle.gp_syntax.specs.declared.expression.SumSign.{SumSign}
@@ -15,7 +15,7 @@ use Rattle.gp_syntax.specs.Tree.{expression_of, operands_of, sum, product, dots,
 use Rattle.gp_clauses.specs.declared.shape.Operation.{Operation}
 use Rattle.gp_clauses.specs.declared.shape.Operation.TheVariants as operations
 use Rattle.gp_clauses.specs.inside.Size.{total, size_step, size, sizes, operand_sizes}
-use Rattle.gp_clauses.specs.inside.Shapes.{sum_operation, product_operation, applied, with_operand, chain}
+use Rattle.gp_clauses.specs.inside.Shapes.{sum_operation, product_operation, applied, chain}
 
 -- ---- what chains stand for
 

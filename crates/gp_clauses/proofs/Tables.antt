@@ -1,28 +1,27 @@
 -- Tables of names and of variables as they grow.
-use Rattle.std.proofs.Common.{◌≡◌, ℕ, Bool, true, false, ◌||◌, if◌then◌else◌, List, [], ◌∷◌, ◌++◌, map, flat_map, filter, fold, Option, Some, None, slice_get, get_or, refl, sym, ap, ◌∙◌}
+use Rattle.std.proofs.Common.{◌≡◌, ℕ, Bool, true, false, ◌||◌, if◌then◌else◌, List, [], ◌∷◌, ◌++◌, map, flat_map, filter, fold, Option, Some, None, slice_get, refl, sym, ap, ◌∙◌}
 use Rattle.std.specs.Option.{option_map_or}
 use Rattle.std.specs.Borrow.{Bor}
 use Rattle.std.proofs.lemmas.Option.{unwrap_or-slice_get}
 use Rattle.std.specs.Prelude.{unwrap_or}
-use Rattle.gp_values.specs.Names.{Name, same_name, has_name, place_of, first_doubled_behind}
+use Rattle.gp_values.specs.Names.{Name, same_name, has_name, first_doubled_behind}
 use Rattle.gp_syntax.specs.declared.kinds.VariableType.{VariableType}
 use Rattle.gp_syntax.specs.declared.kinds.VariableType.TheVariants as types
 use Rattle.gp_syntax.specs.declared.expression.Expr.{Expr}
 use Rattle.gp_syntax.specs.declared.tree.NodeDecl.{NodeDecl}
 use Rattle.gp_syntax.specs.declared.tree.EdgeDecl.{EdgeDecl}
 use Rattle.gp_syntax.specs.declared.tree.GraphDecl.{GraphDecl}
-use Rattle.gp_syntax.specs.declared.tree.VariableGroup.{VariableGroup}
 use Rattle.gp_syntax.specs.Expression.{Expression}
 use Rattle.gp_syntax.specs.Declaration.{DeclaredNode, DeclaredEdge, DeclaredVariable, variables_in}
 use Rattle.gp_syntax.specs.Fault.{variables_in_side}
-use Rattle.gp_syntax.specs.Tree.{expression_of, node_of, edge_of, side_of, variables_of}
+use Rattle.gp_syntax.specs.Tree.{expression_of, node_of, edge_of, side_of}
 use Rattle.gp_syntax.specs.Typing.{type_in}
 use Rattle.gp_syntax.proofs.Declarations.{has_append, once_head, same_name_told}
 use Rattle.gp_clauses.specs.declared.shape.Operation.{Operation}
 use Rattle.gp_clauses.specs.declared.shape.Operation.TheVariants as operations
 use Rattle.gp_clauses.specs.declared.variables.Variables.{Variables}
 use Rattle.gp_clauses.specs.inside.Shapes.{applied, with_operand, chain}
-use Rattle.gp_clauses.specs.inside.Tables.{with_name, with_names, with_variables_in, with_operand_names, no_variables, with_variable, is_kept, with_kept, with_group, type_by}
+use Rattle.gp_clauses.specs.inside.Tables.{with_name, with_names, with_variables_in, with_operand_names, with_variable, is_kept, with_kept}
 
 -- ---- folds
 

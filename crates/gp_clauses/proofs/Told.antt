@@ -1,6 +1,6 @@
 -- What the clauses ask of an expression, operation by operation.
-use Rattle.std.proofs.Common.{◌≡◌, ◌⊎◌, ℕ, ◌+◌, ◌<◌, ◌≤◌, ◌&&◌, Bool, true, false, ltb, leb, List, [], ◌∷◌, fold, Decides, refl, sym, ap, ◌∙◌, inl, inr, arith}
-use Rattle.std.specs.Prelude.{nat_lt, nat_le, if◌then◌else◌}
+use Rattle.std.proofs.Common.{◌≡◌, ℕ, ◌+◌, ◌≤◌, List, [], ◌∷◌, fold, refl, ap, ◌∙◌, arith}
+use Rattle.std.specs.Prelude.{nat_le}
 use Rattle.std.proofs.lemmas.Bool.Decides.{nat_tests}
 use Rattle.gp_values.specs.Names.{Name}
 use Rattle.gp_syntax.specs.declared.kinds.VariableType.{VariableType}
@@ -13,7 +13,7 @@ use Rattle.gp_clauses.specs.declared.shape.Operation.{Operation}
 use Rattle.gp_clauses.specs.declared.shape.Operation.TheVariants as operations
 use Rattle.gp_clauses.specs.declared.facts.Facts.{Facts}
 use Rattle.gp_clauses.specs.inside.Shapes.{applied, with_operand, chain}
-use Rattle.gp_clauses.specs.inside.Facts.{few, is_numeral, facts_of, negated, arithmetic, dotted, joined, combined}
+use Rattle.gp_clauses.specs.inside.Facts.{few, is_numeral, facts_of, negated, dotted, joined, combined}
 
 pub few_small : (n : ℕ) → few n ≤ 2
 few_small n = grind (arith, nat_tests)

@@ -1,5 +1,5 @@
 -- Loops over what is left of a list, by the item at a place.
-use Rattle.std.proofs.Common.{◌≡◌, ℕ, zero, suc, ◌+◌, ◌<◌, ◌≤◌, ◌&&◌, Bool, true, false, get_or, List, [], ◌∷◌, ◌++◌, map, length, fold, drop, Option, Some, None, slice_get, refl, sym, ap, ◌∙◌, arith, add-one}
+use Rattle.std.proofs.Common.{◌≡◌, ℕ, zero, suc, ◌+◌, ◌<◌, ◌≤◌, ◌&&◌, Bool, true, false, get_or, List, [], ◌∷◌, length, fold, drop, Option, Some, None, slice_get, refl, sym, ap, ◌∙◌, add-one}
 use Rattle.std.specs.Option.{option_or}
 use Rattle.std.proofs.Math.ListN.{drop_of_length-le}
 use Rattle.std.specs.List.{list_all}

@@ -20,7 +20,8 @@ pub struct Variables {
 }
 
 impl Variables {
-    fn new(alloc: Global) -> Variables
+    /// No variables.
+    pub fn new(alloc: Global) -> Variables
         ensures { result ≡ no_variables }
     {
         Variables {
@@ -94,7 +95,8 @@ impl Variables {
         Ok(())
     }
 
-    fn add_groups(
+    /// Adds the variables of groups, those whose names are among some others, where there are others.
+    pub fn add_groups(
         &mut self,
         alloc: Global,
         kept: Option<&NameTable>,
@@ -140,8 +142,8 @@ fn add_name(alloc: Global, table: &mut NameTable, name: &Name) -> Result<(), NoM
     Ok(())
 }
 
-// Adds the names of the variables of a side.
-fn add_side(alloc: Global, table: &mut NameTable, side: &GraphDecl) -> Result<(), NoMemory>
+/// Adds the names of the variables of a side that are not yet in the table.
+pub fn add_side(alloc: Global, table: &mut NameTable, side: &GraphDecl) -> Result<(), NoMemory>
     ensures { OnOk result (table.new ≡ with_names table.old (variables_in_side (side_of side.now))) }
 {
     'nodes: for node in side.nodes.as_slice() {

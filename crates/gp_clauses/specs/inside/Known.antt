@@ -1,5 +1,5 @@
 -- The first name that is unknown, among names of nodes or of variables.
-use Rattle.std.specs.Prelude.{◌++◌, List, Option, [], ◌∷◌}
+use Rattle.std.specs.Prelude.{List, Option}
 use Rattle.gp_values.specs.Names.{Name, first_unknown}
 use Rattle.gp_syntax.specs.Expression.{Expression}
 use Rattle.gp_syntax.specs.Declaration.{node_names, variables_in, nodes_in, nodes_in_condition}

@@ -1,6 +1,5 @@
-use Rattle.std.proofs.Common.{◌≡◌, ℕ, ◌+◌, ◌<◌, ◌∙◌, Option, ap, arith}
+use Rattle.std.proofs.Common.{◌≡◌, ◌+◌, ◌∙◌, Option, ap, arith}
 use Rattle.gp_values.specs.Names.{Name}
-use Rattle.gp_syntax.specs.Tree.{condition_of}
 use Rattle.gp_syntax.proofs.Trees.{condition_of-HasType, condition_of-HasEdge, condition_of-HasEdgeWith, condition_of-Compared, condition_of-Not, condition_of-And, condition_of-Or}
 use Rattle.gp_clauses.specs.inside.Size.{condition_size, condition_sizes}
 use Rattle.gp_clauses.specs.inside.ConditionShapes.{named_condition}

@@ -1,11 +1,10 @@
-use Rattle.std.proofs.Common.{rules, ◌≡◌, ◌<◌, Some, slice_get, refl, sym, ap, ◌∙◌, arith}
+use Rattle.std.proofs.Common.{◌≡◌, Some, slice_get, refl, sym, ap, ◌∙◌, arith}
 use Rattle.std.specs.Option.{option_or}
 use Rattle.std.proofs.lemmas.Option.{slice_get_read}
 use Rattle.gp_syntax.specs.Tree.{expression_of}
 use Rattle.gp_syntax.specs.Fault.{first_told}
-use Rattle.gp_clauses.specs.inside.Size.{condition_size}
 use Rattle.gp_clauses.specs.inside.ConditionShapes.{named_condition}
-use Rattle.gp_clauses.proofs.Walks.{untold, told_here, told_ended}
+use Rattle.gp_clauses.proofs.Walks.{told_here, told_ended}
 use Rattle.gp_clauses.proofs.Knowns.{unknown_in_part, unknown_condition_chain, unknown-Compared}
 use Rattle.gp_clauses.proofs.known.+unknown_in_condition.Goals as goal
 

@@ -1,5 +1,5 @@
 use Rattle.std.proofs.Common.{◌≡◌, map, drop}
-use Rattle.gp_syntax.specs.Declaration.{DeclaredNode, DeclaredEdge}
+use Rattle.gp_syntax.specs.Declaration.{DeclaredEdge}
 use Rattle.gp_syntax.specs.Tree.{edge_of, declaration_of}
 use Rattle.gp_syntax.specs.Fault.{first_told, unless, keeps_direction, bad_bidi}
 use Rattle.gp_clauses.proofs.marks.bad_bidi.Given as goal

@@ -1,7 +1,7 @@
 use Rattle.std.proofs.Common.{◌≡◌, map, drop}
 use Rattle.std.specs.List.{list_all}
 use Rattle.gp_syntax.specs.Tree.{edge_of}
-use Rattle.gp_syntax.specs.Declaration.{DeclaredNode, DeclaredEdge}
+use Rattle.gp_syntax.specs.Declaration.{DeclaredEdge}
 use Rattle.gp_syntax.specs.Fault.{is_edge_mark}
 use Rattle.gp_clauses.proofs.marks.edges_have_marks.Given as goal
 

@@ -1,7 +1,7 @@
 use Rattle.std.proofs.Common.{◌≡◌, map, drop}
 use Rattle.std.specs.List.{list_all}
 use Rattle.gp_syntax.specs.Tree.{node_of}
-use Rattle.gp_syntax.specs.Declaration.{DeclaredNode, DeclaredEdge}
+use Rattle.gp_syntax.specs.Declaration.{DeclaredNode}
 use Rattle.gp_syntax.specs.Fault.{is_node_mark}
 use Rattle.gp_clauses.proofs.marks.nodes_have_marks.Given as goal
 

@@ -1,8 +1,8 @@
 use Rattle.std.proofs.Common.{◌≡◌, ◌&&◌, drop}
 use Rattle.gp_values.specs.Names.{has_name}
 use Rattle.gp_syntax.specs.Declaration.{node_names}
-use Rattle.gp_syntax.specs.Fault.{first_told, unless, unknown_at_node, unknown_at_edge, bad_interface}
-use Rattle.gp_syntax.specs.Tree.{node_of, edge_of, side_of, declaration_of}
+use Rattle.gp_syntax.specs.Fault.{first_told, unless, bad_interface}
+use Rattle.gp_syntax.specs.Tree.{side_of, declaration_of}
 use Rattle.gp_clauses.proofs.names.bad_interface.Given as goal
 
 abbrev pub invariant-loop-name : goal.invariant-loop-name

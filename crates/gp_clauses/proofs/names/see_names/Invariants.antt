@@ -1,5 +1,5 @@
-use Rattle.std.proofs.Common.{◌≡◌, ◌++◌, map, flat_map, drop}
-use Rattle.gp_values.specs.Names.{first_doubled, first_doubled_behind}
+use Rattle.std.proofs.Common.{◌≡◌, ◌++◌, drop}
+use Rattle.gp_values.specs.Names.{first_doubled_behind}
 use Rattle.gp_clauses.proofs.names.see_names.Given as goal
 
 abbrev pub invariant-loop-name : goal.invariant-loop-name

@@ -1,6 +1,6 @@
-use Rattle.std.proofs.Common.{◌≡◌, ◌++◌, map, flat_map, drop}
-use Rattle.gp_syntax.specs.Fault.{first_told, unless, unknown_at_node, unknown_at_edge, bad_interface}
-use Rattle.gp_syntax.specs.Tree.{node_of, edge_of, side_of, declaration_of}
+use Rattle.std.proofs.Common.{◌≡◌, map, drop}
+use Rattle.gp_syntax.specs.Fault.{first_told, unknown_at_edge}
+use Rattle.gp_syntax.specs.Tree.{edge_of, side_of, declaration_of}
 use Rattle.gp_clauses.proofs.names.unknown_at_edges.Given as goal
 
 abbrev pub invariant-loop-edge : goal.invariant-loop-edge

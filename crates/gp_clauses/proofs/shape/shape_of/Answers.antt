@@ -1,4 +1,4 @@
-use Rattle.std.proofs.Common.{◌≡◌, ℕ, ◌+◌, ◌<◌, ◌∙◌, ap, arith}
+use Rattle.std.proofs.Common.{◌≡◌, ◌+◌, ◌∙◌, ap, arith}
 use Rattle.gp_values.specs.Names.{Name}
 use Rattle.gp_syntax.specs.Tree.{expression_of}
 use Rattle.gp_syntax.proofs.Trees.{expression_of-Number, expression_of-Text, expression_of-Variable, expression_of-InDegree, expression_of-OutDegree, expression_of-Length, expression_of-Empty, expression_of-Negated, expression_of-Sum, expression_of-Product, expression_of-Dot, expression_of-Join}

@@ -1,6 +1,4 @@
-use Rattle.std.proofs.Common.{rules, ◌≡◌, ◌&&◌, ◌<◌, ◌∙◌, Some, slice_get, sym, ap, arith}
-use Rattle.std.specs.List.{list_all}
-use Rattle.gp_syntax.specs.Fault.{is_well_typed_condition}
+use Rattle.std.proofs.Common.{rules, ◌≡◌, ◌<◌, ◌∙◌, Some, slice_get, sym}
 use Rattle.gp_clauses.specs.inside.Size.{condition_size}
 use Rattle.gp_clauses.specs.inside.Tables.{type_by}
 use Rattle.gp_clauses.specs.inside.ConditionShapes.{named_condition}

@@ -1,8 +1,8 @@
-use Rattle.std.proofs.Common.{rules, ◌≡◌, ◌<◌, fold, refl, sym, ap, ◌∙◌, arith}
+use Rattle.std.proofs.Common.{rules, ◌<◌, sym, ◌∙◌, arith}
 use Rattle.gp_syntax.specs.Tree.{expression_of}
 use Rattle.gp_clauses.specs.inside.Shapes.{operands}
 use Rattle.gp_clauses.specs.inside.Size.{size}
-use Rattle.gp_clauses.specs.inside.Tables.{with_operand_names, with_variables_in}
+use Rattle.gp_clauses.specs.inside.Tables.{with_operand_names}
 use Rattle.gp_clauses.proofs.Walks.{fold_step, fold_ended}
 use Rattle.gp_clauses.proofs.Tables.{variables_chain}
 use Rattle.gp_clauses.proofs.variables.+add_variables.Goals as goal
