@@ -1,10 +1,9 @@
 use crate::{
-    ConditionShape, Operation, Scope, Shape, bad_bidi, bad_interface, bad_mark, bad_type,
-    condition_shape_of, not_simple, shape_of, too_large, twice_declared, unbound, unknown_node,
+    Operation, Scope, Shape, bad_bidi, bad_interface, bad_mark, bad_type, not_simple, shape_of,
+    too_large, twice_declared, unbound, unknown_node,
 };
 use gp_syntax::{
-    Boxed, Cond, EdgeDecl, Expr, GraphDecl, Items, Name, NodeDecl, RuleDecl, VariableGroup,
-    VariableType,
+    Boxed, EdgeDecl, Expr, GraphDecl, Items, Name, NodeDecl, RuleDecl, VariableGroup, VariableType,
 };
 use std::alloc::Global;
 use std::test::Fail;
@@ -92,16 +91,5 @@ fn chains_have_further_operands(rt: HostRuntime) -> Result<(), Fail> {
     assert_eq!(rt; links.len(), 1);
     let (operation, _) = links.get(0);
     assert_eq!(rt; operation, Operation::Join);
-    Ok(())
-}
-
-#[test]
-fn tests_of_edges_have_ends(rt: HostRuntime) -> Result<(), Fail> {
-    let source = named(rt.alloc(), b"n")?;
-    let test = Cond::HasEdge(source, named(rt.alloc(), b"m")?);
-    let ConditionShape::HasEdge(_, target) = condition_shape_of(&test) else {
-        return Err(Fail::from("no edge"));
-    };
-    assert_eq!(rt; target.as_bytes(), b"m".as_slice());
     Ok(())
 }

@@ -1,0 +1,8 @@
+//! Checked rules.
+#![tactic(auto)]
+
+mod chains;
+mod fault;
+mod places;
+
+pub use fault::RuleFault;
