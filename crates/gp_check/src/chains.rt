@@ -154,3 +154,60 @@ pub fn joined_label(
         }
     }
 }
+
+fn both(
+    alloc: Global,
+    total: Cond<u32, MarkPattern<EdgeMark>>,
+    part: Cond<u32, MarkPattern<EdgeMark>>,
+) -> Result<Cond<u32, MarkPattern<EdgeMark>>, NoMemory>
+    ensures { IfOk result (λ r. condition_of pattern_of r ≡ And (condition_of pattern_of total) (condition_of pattern_of part)) }
+{
+    match total {
+        Cond::And(first, rest) => {
+            let mut rest = rest;
+            rest.push(part)?;
+            Ok(Cond::And(first, rest))
+        }
+        other => {
+            let mut rest = Items::new(alloc);
+            rest.push(part)?;
+            Ok(Cond::And(Boxed::new(alloc, other)?, rest))
+        }
+    }
+}
+
+fn either(
+    alloc: Global,
+    total: Cond<u32, MarkPattern<EdgeMark>>,
+    part: Cond<u32, MarkPattern<EdgeMark>>,
+) -> Result<Cond<u32, MarkPattern<EdgeMark>>, NoMemory>
+    ensures { IfOk result (λ r. condition_of pattern_of r ≡ Or (condition_of pattern_of total) (condition_of pattern_of part)) }
+{
+    match total {
+        Cond::Or(first, rest) => {
+            let mut rest = rest;
+            rest.push(part)?;
+            Ok(Cond::Or(first, rest))
+        }
+        other => {
+            let mut rest = Items::new(alloc);
+            rest.push(part)?;
+            Ok(Cond::Or(Boxed::new(alloc, other)?, rest))
+        }
+    }
+}
+
+/// A condition with one part more.
+pub fn with_part(
+    alloc: Global,
+    total: Cond<u32, MarkPattern<EdgeMark>>,
+    by: Connective,
+    part: Cond<u32, MarkPattern<EdgeMark>>,
+) -> Result<Cond<u32, MarkPattern<EdgeMark>>, NoMemory>
+    ensures { IfOk result (λ r. condition_of pattern_of r ≡ connected by (condition_of pattern_of total) (condition_of pattern_of part)) }
+{
+    match by {
+        Connective::And => both(alloc, total, part),
+        Connective::Or => either(alloc, total, part),
+    }
+}

@@ -2,7 +2,9 @@
 #![tactic(auto)]
 
 mod chains;
+mod expression;
 mod fault;
+mod pattern;
 mod places;
 
 pub use fault::RuleFault;
