@@ -1,5 +1,5 @@
 -- The edits of a step, as they are made in memory, may be made and lead to the step's graph.
-use Rattle.std.proofs.Common.{◌≡◌, ℕ, zero, suc, ◌+◌, ◌<◌, ◌≤◌, ◌≢◌, Bool, true, false, if◌then◌else◌, List, [], ◌∷◌, map, length, get_or, Option, Some, None, IsSome, slice_get, slice_index, Contains, refl, sym, ap, subst, ◌∙◌, arith}
+use Rattle.std.proofs.Common.{◌≡◌, ℕ, zero, suc, ◌+◌, ◌<◌, ◌≤◌, ◌≢◌, Bool, true, false, if◌then◌else◌, List, [], ◌∷◌, map, length, get_or, Option, Some, None, Result, Ok, Err, OnOk, IsSome, slice_get, slice_index, Contains, refl, sym, ap, subst, ◌∙◌, arith}
 use Rattle.std.specs.Ordering.{nat_cmp}
 use Rattle.std.specs.Cmp.{nat_cmp_total, unsigned_tied}
 use Rattle.std.specs.FinMap.{FinMap, get, insert, gets, same_map, nat_cmp-IsAntisymmetric}
@@ -227,3 +227,8 @@ after_is r g m a e = sym (ap (after_at r g m) e)
 
 pub is_ready : (p : RuleParts) (g : Graph) (m : Found) (b : PartialAssignment) → IsWellFormed (rule_of_tree p) → Applies (rule_of_tree p) g m → candidate (rule_of_tree p) g m ≡ Some (assigned_of b) → b.types ≡ p.types → IsWhole b → IsReady p g m b
 is_ready p g m b c k e t w = record { well_formed = c; applies = applies_by (rule_of_tree p) g m (assigned_of b) c k e; types = t; whole = w }
+
+-- what holds of a graph holds of the one that is equal to it, where there is one
+pub on_same : {X E : Type 0} (o : Result X E) (P : Graph → Type 0) (h k : Graph) → OnOk o (h ≡ k) → P k → OnOk o (P h)
+on_same (Ok x) P h k e w = subst P (sym e) w
+on_same (Err x) P h k e w = tt
