@@ -1,10 +1,8 @@
 //! The step that an applying match makes.
 
-ghost use Rattle.std.specs.Prelude.{◌≡◌, IfOk, OnOk, OnErr, Some};
-ghost use Rattle.gp_syntax.specs.Assigned.{IsWhole, assigned_of};
+ghost use Rattle.std.specs.Prelude.{◌≡◌, IfOk, OnOk, OnErr};
 ghost use Rattle.gp_syntax.specs.Step.{Applies, Step};
 ghost use Rattle.gp_syntax.specs.Tree.{rule_of_tree};
-ghost use Rattle.gp_unify.specs.inside.Candidate.{candidate};
 ghost use Rattle.gp_step.specs.After.{after};
 ghost use Rattle.gp_step.specs.Undo.{Undoes};
 
@@ -12,23 +10,9 @@ use crate::inverses::Undo;
 use crate::step::apply_by;
 use gp_graph::Graph;
 use gp_memory::NoMemory;
-use gp_syntax::{Assignment, Found, Rule};
+use gp_syntax::{Found, Rule};
+use gp_unify::assignment_of;
 use std::alloc::Global;
-
-// The assignment by which the match is one.
-fn assignment_of(
-    alloc: Global,
-    rule: &Rule,
-    graph: &Graph,
-    found: &Found,
-) -> Result<Assignment, NoMemory>
-    requires { Applies (rule_of_tree rule.now) graph.now.graph found.now }
-    ensures candidate { IfOk result (λ a. candidate (rule_of_tree rule.now) graph.now.graph found.now ≡ Some (assigned_of a)) }
-    ensures types { IfOk result (λ a. a.types ≡ rule.now.types) }
-    ensures whole { IfOk result (λ a. IsWhole a) }
-{
-    Err(NoMemory)
-}
 
 /// Makes the step of a match that applies, and gives what takes it back. All growths come first, the values of the right
 /// labels over the graph before the step among them: on refusal the graph is as before.
@@ -41,6 +25,8 @@ pub fn apply(alloc: Global, rule: &Rule, graph: &mut Graph, found: &Found) -> Re
 {
     let _sound = graph.next_numbers();
     let parts = rule.parts();
-    let assignment = assignment_of(alloc, rule, graph, found)?;
+    let Some(assignment) = assignment_of(alloc, rule, graph, found)? else {
+        unreachable!()
+    };
     apply_by(alloc, parts, graph, found, &assignment)
 }
