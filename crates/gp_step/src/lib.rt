@@ -13,7 +13,6 @@ mod inverse;
 mod inverses;
 pub mod laws;
 mod made;
-pub mod sample;
 mod step;
 mod taking_back;
 #[cfg(test)]

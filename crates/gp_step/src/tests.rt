@@ -4,15 +4,13 @@ ghost use Rattle.std.specs.Prelude.{◌≡◌, ◌↔◌, IsTrue, IsSome, IfOk};
 ghost use Rattle.gp_values.specs.Graph.{node_at, edge_at};
 ghost use Rattle.gp_step.specs.Undo.{Undoes};
 
-use crate::applying::apply;
 use crate::inverses::Undo;
 use crate::made::{Carried, Kept, MadeEdge};
-use crate::sample::makes_a_node;
 use crate::step::make;
 use crate::taking_back::undo;
 use gp_graph::Graph;
 use gp_memory::NoMemory;
-use gp_syntax::{EdgeImage, Found};
+use gp_syntax::EdgeImage;
 use gp_values::{Atom, EdgeMark, List, NodeMark};
 use std::alloc::Global;
 use std::test::Fail;
@@ -118,25 +116,6 @@ fn a_step_is_taken_back_to_the_very_graph(rt: HostRuntime) -> Result<(), Fail> {
     assert!(rt; !same_by_reading(&graph, &before));
     let again = inverses.copy(rt.alloc())?;
     undo(&mut graph, again);
-    assert!(rt; same_by_reading(&graph, &before));
-    Ok(())
-}
-
-// [ | ] => [ (n0, 0) | ]
-#[test]
-fn a_rule_makes_a_node_with_the_next_number(rt: HostRuntime) -> Result<(), Fail> {
-    let before = small_graph(rt.alloc())?;
-    let mut graph = before.copy(rt.alloc())?;
-    let rule = makes_a_node(rt.alloc())?;
-    let found = Found::new(rt.alloc(), 0);
-    let inverses = apply(rt.alloc(), &rule, &mut graph, &found)?;
-    assert_eq!(rt; graph.next_numbers(), (3, 1));
-    let zero = label(rt.alloc(), 0)?;
-    let Some((list, mark, root)) = graph.node(2) else {
-        return Err(Fail::from("no node 2"));
-    };
-    assert!(rt; list.same(&zero) && mark == NodeMark::None && !root);
-    undo(&mut graph, inverses);
     assert!(rt; same_by_reading(&graph, &before));
     Ok(())
 }
