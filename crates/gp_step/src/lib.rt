@@ -13,6 +13,7 @@ mod inverse;
 mod inverses;
 pub mod laws;
 mod made;
+pub mod sample;
 mod step;
 mod taking_back;
 #[cfg(test)]

@@ -1,5 +1,3 @@
-use Rattle.std.proofs.Common.{◌∙◌, sym}
-use Rattle.gp_syntax.specs.Assigned.{assigned_of}
 use Rattle.gp_syntax.specs.Step.{Step}
 use Rattle.gp_syntax.specs.Tree.{rule_of_tree}
 use Rattle.gp_step.proofs.Afters.{applying_steps}
