@@ -12,6 +12,8 @@ mod items;
 mod journal;
 pub mod laws;
 pub mod sharing;
+#[cfg(test)]
+mod tests;
 mod trail;
 
 pub use items::Items;
