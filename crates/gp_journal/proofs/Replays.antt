@@ -1,12 +1,12 @@
 -- Items, one after another.
-use Rattle.std.proofs.Common.{◌≡◌, ℕ, zero, suc, ◌+◌, ◌-◌, ◌<◌, ◌≤◌, List, [], ◌∷◌, ◌++◌, map, length, take, drop, get_or, drop-cons, add-one, sym, subst, ap, refl, ◌∙◌, arith}
+use Rattle.std.proofs.Common.{◌≡◌, ℕ, zero, suc, ◌+◌, ◌<◌, ◌≤◌, List, [], ◌∷◌, ◌++◌, length, take, drop, get_or, drop-cons, add-one, sym, subst, ap, refl, ◌∙◌}
 use Rattle.std.proofs.Math.Seq.{take-suc}
 use Rattle.gp_values.specs.Graph.{Graph}
 use Rattle.gp_syntax.specs.declared.found.Item.{Item}
-use Rattle.gp_syntax.specs.Rule.{Rule, Found}
+use Rattle.gp_syntax.specs.Rule.{Rule}
 use Rattle.gp_syntax.specs.Run as meant
 use Rattle.gp_syntax.specs.Tree.{item_of}
-use Rattle.gp_journal.specs.Trail.{Trail, root_from, led, undone, undone_of, back_by, rooted}
+use Rattle.gp_journal.specs.Trail.{Trail, root_from, undone, undone_of, back_by, rooted}
 use Rattle.std.proofs.lemmas.List.{length-map}
 use Rattle.gp_journal.specs.Leads.{Goes, Leads, CaughtUp}
 use Rattle.gp_journal.specs.Journal.{items_of}

@@ -1,5 +1,5 @@
 -- The rule for tests, in trails and journals.
-use Rattle.std.proofs.Common.{◌≡◌, ℕ, List, [], ◌∷◌, map, Some, refl, sym, ap, ◌∙◌, arith}
+use Rattle.std.proofs.Common.{◌≡◌, List, [], ◌∷◌, refl, sym, ap, arith}
 use Rattle.gp_values.specs.Graph.{Graph, IsGraph}
 use Rattle.gp_syntax.specs.declared.found.Item.{Item}
 use Rattle.gp_syntax.specs.Rule.{Rule, Found}
@@ -9,7 +9,7 @@ use Rattle.gp_step.specs.After.{after}
 use Rattle.gp_step.specs.inside.Sample.{one_node, at_nothing}
 use Rattle.gp_step.proofs.Afters.{applying_steps}
 use Rattle.gp_step.proofs.Samples.{one_node_applies}
-use Rattle.gp_journal.specs.Trail.{Trail, fresh, led, back_by, root_from, rooted}
+use Rattle.gp_journal.specs.Trail.{Trail, fresh, led, root_from, rooted}
 use Rattle.gp_journal.specs.Leads.{AppliesBy, Leads}
 use Rattle.gp_journal.specs.Journal.{items_of}
 

@@ -1,13 +1,12 @@
 -- What items lead to replays.
-use Rattle.std.proofs.Common.{◌≡◌, ℕ, zero, suc, ◌+◌, ◌-◌, ◌<◌, ◌≤◌, List, [], ◌∷◌, ◌++◌, map, length, take, drop, reverse, sym, subst, ap, refl, ◌∙◌, arith, length-append, length-drop, add-one}
-use Rattle.std.specs.Prelude.{Some, slice_get}
+use Rattle.std.proofs.Common.{◌≡◌, ℕ, zero, suc, ◌+◌, ◌-◌, ◌≤◌, List, [], ◌∷◌, ◌++◌, map, length, take, drop, reverse, sym, subst, ap, refl, ◌∙◌, arith, length-append, length-drop, add-one}
 use Rattle.std.proofs.lemmas.List.{reverse-append, length-reverse}
 use Rattle.gp_values.specs.Graph.{Graph}
 use Rattle.gp_syntax.specs.Rule.{Rule, Found}
 use Rattle.gp_syntax.specs.Step.{Step}
-use Rattle.gp_syntax.specs.Run.{Item, Stepped, Turned, Back, live_after, live_from, live}
+use Rattle.gp_syntax.specs.Run.{Item, Stepped, Turned, Back, live_from, live}
 use Rattle.gp_syntax.specs.Replay.{StepsTo, BacksFit, Replays}
-use Rattle.gp_journal.specs.Trail.{Trail, root_from, root_of, led, undone, undone_of, back_by, rooted}
+use Rattle.gp_journal.specs.Trail.{Trail, root_from, root_of, led, back_by, rooted}
 use Rattle.gp_journal.specs.Leads.{StepsBy, Led, IsTrailOf, Goes, Leads}
 use Rattle.gp_journal.specs.Journal.{Journal, IsJournalOf, items_of}
 use Rattle.gp_journal.specs.Laws.{TrailReplays, CatchingUpReplays, JournalReplays, TrailsAndJournalsReplay}

@@ -1,5 +1,5 @@
 -- How a trail is held, after each call.
-use Rattle.std.proofs.Common.{◌≡◌, ℕ, suc, ◌+◌, ◌-◌, ◌<◌, ◌≤◌, List, [], ◌∷◌, ◌++◌, reverse, length, sym, subst, ap, refl, ◌∙◌, arith}
+use Rattle.std.proofs.Common.{◌≡◌, ℕ, suc, ◌≤◌, List, [], ◌∷◌, ◌++◌, reverse, length, sym, subst, ap, refl, ◌∙◌, arith}
 use Rattle.std.specs.Prelude.{Some, None, Option, Result, Ok, Err, OnOk, slice_get, slice_index_or, map}
 use Rattle.std.specs.Option.{option_map}
 use Rattle.std.proofs.lemmas.List.{reverse-append}

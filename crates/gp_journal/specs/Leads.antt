@@ -1,5 +1,5 @@
 -- What items make of a trail, by the rules of a list.
-use Rattle.std.specs.Prelude.{◌≡◌, ℕ, ◌≤◌, List, [], ◌∷◌, Some, slice_get, length, take}
+use Rattle.std.specs.Prelude.{◌≡◌, ◌≤◌, List, [], ◌∷◌, Some, slice_get, length, take}
 use Rattle.gp_values.specs.Graph.{Graph}
 use Rattle.gp_syntax.specs.Rule.{Rule, Found}
 use Rattle.gp_syntax.specs.Step.{Applies, Step}

@@ -1,7 +1,7 @@
-use Rattle.std.proofs.Common.{map, ap, refl}
+use Rattle.std.proofs.Common.{map, ap}
 use Rattle.gp_syntax.specs.declared.found.Item.TheVariants.{Step}
 use Rattle.gp_syntax.specs.Tree.{rule_of_tree}
-use Rattle.gp_journal.specs.Trail.{advanced, rooted}
+use Rattle.gp_journal.specs.Trail.{rooted}
 use Rattle.gp_journal.proofs.Replays.{goes_on}
 use Rattle.gp_journal.proofs.Trails.{led_itself}
 use Rattle.gp_journal.proofs.journal.Journal.step.Goals as goal

@@ -1,7 +1,6 @@
-use Rattle.std.proofs.Common.{map, ap, sym, subst, ◌∙◌}
+use Rattle.std.proofs.Common.{map, sym, subst}
 use Rattle.gp_syntax.specs.Tree.{rule_of_tree}
-use Rattle.gp_journal.specs.Trail.{Trail}
-use Rattle.gp_journal.specs.Leads.{IsTrailOf, StepsBy, AppliesBy}
+use Rattle.gp_journal.specs.Leads.{IsTrailOf}
 use Rattle.gp_journal.proofs.Trails.{advanced_by, steps_by, only_by, led_itself}
 use Rattle.gp_journal.proofs.Stacks.{stepped_of}
 use Rattle.gp_journal.proofs.trail.Trail.advance.Goals as goal

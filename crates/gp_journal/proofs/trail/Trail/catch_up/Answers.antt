@@ -1,9 +1,8 @@
-use Rattle.std.proofs.Common.{◌∙◌, List, map, length, take, sym, subst, arith}
+use Rattle.std.proofs.Common.{◌∙◌, List, map, sym, subst, arith}
 use Rattle.gp_syntax.specs.Rule.{Found}
 use Rattle.gp_syntax.specs.Tree.{rule_of_tree}
 use Rattle.gp_journal.specs.Trail.{Trail}
-use Rattle.gp_journal.specs.Leads.{Led, Leads}
-use Rattle.gp_journal.specs.Journal.{items_of}
+use Rattle.gp_journal.specs.Leads.{Led}
 use Rattle.gp_journal.proofs.Stacks.{leads_of}
 use Rattle.gp_journal.proofs.Replays.{next_goes, one_more, caught_up}
 use Rattle.gp_journal.proofs.trail.Trail.catch_up.Goals as goal
