@@ -5,3 +5,4 @@ pub mod Notes
 pub mod Labels
 pub mod Collecting
 pub mod Makes
+pub mod Samples

@@ -1,5 +1,5 @@
 -- The edits of a step, as they are made in memory, may be made and lead to the step's graph.
-use Rattle.std.proofs.Common.{◌≡◌, ℕ, zero, suc, ◌+◌, ◌<◌, ◌≤◌, ◌≢◌, Bool, true, false, if◌then◌else◌, List, [], ◌∷◌, map, length, get_or, Option, Some, None, IsSome, slice_get, slice_index, Contains, refl, sym, ap, subst, ◌∙◌, arith}
+use Rattle.std.proofs.Common.{◌≡◌, ℕ, zero, suc, ◌+◌, ◌<◌, ◌≤◌, ◌≢◌, Bool, true, false, if◌then◌else◌, List, [], ◌∷◌, map, length, get_or, Option, Some, None, Result, Ok, Err, OnOk, IsSome, IsSomeAnd, slice_get, slice_index, Contains, refl, sym, ap, subst, ◌∙◌, arith}
 use Rattle.std.specs.Ordering.{nat_cmp}
 use Rattle.std.specs.Cmp.{nat_cmp_total, unsigned_tied}
 use Rattle.std.specs.FinMap.{FinMap, get, insert, gets, same_map, nat_cmp-IsAntisymmetric}
@@ -8,14 +8,14 @@ use Rattle.gp_values.specs.Apart.{AreApart}
 use Rattle.gp_values.specs.Graph.{Graph, Node, Edge, IsGraph, HasNoEdges, node_at, edge_at, with_node, with_edge, without_node, without_edge, relabeled}
 use Rattle.gp_values.proofs.Graphs.{get-remove_apart, IsSome-insert}
 use Rattle.gp_syntax.specs.declared.rule.RuleParts.{RuleParts}
-use Rattle.gp_syntax.specs.Assigned.{PartialAssignment, IsWhole, assigned_of}
+use Rattle.gp_syntax.specs.Assigned.{PartialAssignment, assigned_of}
 use Rattle.gp_syntax.specs.Tree.{rule_of_tree}
 use Rattle.gp_syntax.specs.Value.{Assignment}
 use Rattle.gp_syntax.specs.Rule.{Rule, RightNode, Found, is_kept}
 use Rattle.gp_syntax.specs.Match.{MatchBy}
 use Rattle.gp_syntax.specs.Step.{Applies, AppliesBy}
 use Rattle.gp_syntax.specs.WellFormed.{IsWellFormed}
-use Rattle.gp_unify.specs.inside.Candidate.{candidate}
+use Rattle.gp_unify.specs.Matched.{IsThatOfMatch, IsAssignment}
 use Rattle.gp_unify.proofs.Candidates.{is_candidate}
 use Rattle.gp_step.specs.After.{after_at, after}
 use Rattle.gp_syntax.proofs.Unique.{element}
@@ -215,15 +215,17 @@ module _ (r : Rule) (g : Graph) (m : Found) (a : Assignment) (whole : IsGraph g)
 
 -- ---- by the assignment that its images tell
 
-some_one : {X : Type 0} {x y : X} → Some x ≡ Some y → x ≡ y
-some_one e = cc
+pub assignment_is : (r : Rule) (g : Graph) (m : Found) (o : Option PartialAssignment) (b : PartialAssignment) (k : Applies r g m) → IsThatOfMatch o r g m → o ≡ Some b → IsAssignment r k.0 b
+assignment_is r g m o b k h e = subst (λ z. IsSomeAnd z (IsAssignment r k.0)) e (h k.0 k.1.is_match)
 
-pub applies_by : (r : Rule) (g : Graph) (m : Found) (a : Assignment) → IsWellFormed r → Applies r g m → candidate r g m ≡ Some a → AppliesBy r g m a
-applies_by r g m a c k e = subst (AppliesBy r g m) (some_one (sym (is_candidate c k.0 k.1.is_match) ∙ e)) k.1
+pub is_ready : (p : RuleParts) (g : Graph) (m : Found) (b : PartialAssignment) → IsWellFormed (rule_of_tree p) → (k : Applies (rule_of_tree p) g m) → IsAssignment (rule_of_tree p) k.0 b → IsReady p g m b
+is_ready p g m b c k i = record { well_formed = c; applies = subst (AppliesBy (rule_of_tree p) g m) (sym i.values) k.1; types = i.types; whole = i.whole }
 
-pub after_is : (r : Rule) (g : Graph) (m : Found) (a : Assignment) → candidate r g m ≡ Some a → stepped r g m a ≡ after r g m
+pub after_is : (r : Rule) (g : Graph) (m : Found) (b : PartialAssignment) → IsWellFormed r → (k : Applies r g m) → IsAssignment r k.0 b → after r g m ≡ stepped r g m (assigned_of b)
 unfolding after
-after_is r g m a e = sym (ap (after_at r g m) e)
+after_is r g m b c k i = ap (after_at r g m) (is_candidate c k.0 k.1.is_match) ∙ ap (stepped r g m) (sym i.values)
 
-pub is_ready : (p : RuleParts) (g : Graph) (m : Found) (b : PartialAssignment) → IsWellFormed (rule_of_tree p) → Applies (rule_of_tree p) g m → candidate (rule_of_tree p) g m ≡ Some (assigned_of b) → b.types ≡ p.types → IsWhole b → IsReady p g m b
-is_ready p g m b c k e t w = record { well_formed = c; applies = applies_by (rule_of_tree p) g m (assigned_of b) c k e; types = t; whole = w }
+-- what holds of a graph holds of the one that is equal to it, where there is one
+pub on_same : {X E : Type 0} (o : Result X E) (P : Graph → Type 0) (h k : Graph) → OnOk o (h ≡ k) → P k → OnOk o (P h)
+on_same (Ok x) P h k e w = subst P (sym e) w
+on_same (Err x) P h k e w = tt

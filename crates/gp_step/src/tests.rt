@@ -1,16 +1,20 @@
 //! Steps, made by their edits, and taken back.
 
-ghost use Rattle.std.specs.Prelude.{◌≡◌, ◌↔◌, IsTrue, IsSome, IfOk};
+ghost use Rattle.std.specs.Prelude.{◌≡◌, ◌↔◌, ◌∷◌, [], map, IsTrue, IsSome, IfOk};
+ghost use Rattle.gp_syntax.specs.Tree.{rule_of_tree};
+ghost use Rattle.gp_step.specs.inside.Sample.{one_node};
 ghost use Rattle.gp_values.specs.Graph.{node_at, edge_at};
 ghost use Rattle.gp_step.specs.Undo.{Undoes};
 
+use crate::applying::apply;
 use crate::inverses::Undo;
 use crate::made::{Carried, Kept, MadeEdge};
+use crate::sample::sample_rules;
 use crate::step::make;
 use crate::taking_back::undo;
 use gp_graph::Graph;
 use gp_memory::NoMemory;
-use gp_syntax::EdgeImage;
+use gp_syntax::{EdgeImage, Found, Rule};
 use gp_values::{Atom, EdgeMark, List, NodeMark};
 use std::alloc::Global;
 use std::test::Fail;
@@ -116,6 +120,29 @@ fn a_step_is_taken_back_to_the_very_graph(rt: HostRuntime) -> Result<(), Fail> {
     assert!(rt; !same_by_reading(&graph, &before));
     let again = inverses.copy(rt.alloc())?;
     undo(&mut graph, again);
+    assert!(rt; same_by_reading(&graph, &before));
+    Ok(())
+}
+
+// The step of [ | ] => [ (n0, 0) | ].
+fn make_a_node(alloc: Global, rules: &[Rule], graph: &mut Graph) -> Result<Undo, NoMemory>
+    requires { map rule_of_tree rules.now ≡ one_node ∷ [] }
+    ensures { IfOk result (λ u. Undoes u graph.new.graph graph.old.graph) }
+{
+    let found = Found::new(alloc, 0);
+    apply(alloc, &rules[0], graph, &found)
+}
+
+#[test]
+fn a_rule_makes_a_node_with_the_next_number(rt: HostRuntime) -> Result<(), Fail> {
+    let before = small_graph(rt.alloc())?;
+    let mut graph = before.copy(rt.alloc())?;
+    let rules = sample_rules(rt.alloc())?;
+    let inverses = make_a_node(rt.alloc(), rules.as_slice(), &mut graph)?;
+    let mut expected = before.copy(rt.alloc())?;
+    expected.add_node(label(rt.alloc(), 0)?, NodeMark::None, false)?;
+    assert!(rt; same_by_reading(&graph, &expected));
+    undo(&mut graph, inverses);
     assert!(rt; same_by_reading(&graph, &before));
     Ok(())
 }
