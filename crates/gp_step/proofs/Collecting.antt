@@ -44,9 +44,3 @@ item_at xs ys k q e l is =
     let h : q ≡ get_or xs k q = is ∙ ap (λ zs. get_or zs k q) e in
     let b : k < length xs = subst (λ zs. k < length zs) e l in
     same_element xs k q b ∙ ap (λ z. Some z) (sym h)
-
-pub here_at : {X : Type 0} (xs ys : List X) (k : ℕ) (q : X) → ys ≡ xs → k < length ys → q ≡ get_or ys k q → drop k xs ≡ q ∷ drop (suc k) xs
-here_at xs ys k q e l is =
-    let h : q ≡ get_or xs k q = is ∙ ap (λ zs. get_or zs k q) e in
-    let b : k < length xs = subst (λ zs. k < length zs) e l in
-    drop-cons xs k q b ∙ ap (λ z. z ∷ drop (suc k) xs) (sym h)

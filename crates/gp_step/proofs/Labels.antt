@@ -32,9 +32,6 @@ images_are_nodes r g m a w k d l =
 pub same_element : {X : Type 0} (xs : List X) (k : ℕ) (d : X) → k < length xs → slice_get xs k ≡ Some (get_or xs k d)
 same_element xs k d l = let e = element xs k l in e.1 ∙ ap (λ x. Some x) (sym (get_or_from_slice_get xs k e.0 d e.1))
 
-pub mapped_element : {X Y : Type 0} (f : X → Y) (xs : List X) (k : ℕ) (d : X) → k < length xs → slice_get (map f xs) k ≡ Some (f (get_or xs k d))
-mapped_element f xs k d l = slice_get-map f xs k ∙ ap (option_map f) (same_element xs k d l)
-
 module _ (p : RuleParts) (g : Graph) (m : meant.Found) (b : PartialAssignment) (w : IsReady p g m b) where
   abbrev r : meant.Rule
   r = rule_of_tree p

@@ -80,9 +80,6 @@ popped xs ys x e = ap reverse e ∙ last_first ys x
 pub keeps_on : (us vs ws : List Inverse) (g h k : Graph) → KeepsUndo us g vs h → KeepsUndo vs h ws k → KeepsUndo us g ws k
 keeps_on us vs ws g h k first then = λ before w. then before (first before w)
 
-pub edge_next : (xs : List EdgeImage) (n : ℕ) (d : EdgeImage) (g : Graph) → n < length xs → MayDropEdges (map number_of (drop n xs)) g → IsSome (edge_at g (get_or xs n d).number)
-edge_next xs n d g h may = (subst (λ l. MayDropEdges (map number_of l) g) (drop-cons xs n d h) may).0
-
 pub edge_dropped_next : (xs : List EdgeImage) (n : ℕ) (d : EdgeImage) (g h end : Graph) → n < length xs → h ≡ without_edge g (get_or xs n d).number
     → MayDropEdges (map number_of (drop n xs)) g → drop_edges (map number_of (drop n xs)) g ≡ end
     → record { may : MayDropEdges (map number_of (drop (n + 1) xs)) h; graph : drop_edges (map number_of (drop (n + 1) xs)) h ≡ end }
@@ -102,22 +99,8 @@ node_dropped_next xs n d g h end b made may same =
     let s = subst (λ l. drop_nodes l g ≡ end) (drop-cons xs n d b) same in
     record { may = rw (add-one, made) m.2; graph = rw (add-one, made) s }
 
-pub kept_next : (xs ys : List Kept) (k : Kept) (g : Graph) → xs ≡ ys ++ k ∷ [] → MayRelabel (kept_pairs (reverse xs)) g → IsSome (node_at g k.number)
-kept_next xs ys k g e may = (subst (λ l. MayRelabel (kept_pairs l) g) (popped xs ys k e) may).0
-
-pub relabeled_next : (xs ys : List Kept) (k : Kept) (g h end : Graph) → xs ≡ ys ++ k ∷ [] → h ≡ relabeled g k.number (node_of k.carried)
-    → MayRelabel (kept_pairs (reverse xs)) g → relabel_all (kept_pairs (reverse xs)) g ≡ end
-    → record { may : MayRelabel (kept_pairs (reverse ys)) h; graph : relabel_all (kept_pairs (reverse ys)) h ≡ end }
-relabeled_next xs ys k g h end e made may same =
-    let m = subst (λ l. MayRelabel (kept_pairs l) g) (popped xs ys k e) may in
-    let s = subst (λ l. relabel_all (kept_pairs l) g ≡ end) (popped xs ys k e) same in
-    record { may = rw made m.1; graph = rw made s }
-
 pub added_next : (xs ys : List Carried) (k : Carried) (g h end : Graph) → xs ≡ ys ++ k ∷ [] → h ≡ with_node g (node_of k) → with_nodes (nodes_of (reverse xs)) g ≡ end → with_nodes (nodes_of (reverse ys)) h ≡ end
 added_next xs ys k g h end e made same = rw made (subst (λ l. with_nodes (nodes_of l) g ≡ end) (popped xs ys k e) same)
-
-pub ends_next : (xs ys : List MadeEdge) (k : MadeEdge) (g : Graph) → xs ≡ ys ++ k ∷ [] → MayPutEdges (edges_of (reverse xs)) g → IsSome (node_at g k.source) × IsSome (node_at g k.target)
-ends_next xs ys k g e may = let m = subst (λ l. MayPutEdges (edges_of l) g) (popped xs ys k e) may in (m.0, m.1)
 
 pub put_next : (xs ys : List MadeEdge) (k : MadeEdge) (g h end : Graph) → xs ≡ ys ++ k ∷ [] → h ≡ with_edge g (edge_of k)
     → MayPutEdges (edges_of (reverse xs)) g → put_edges (edges_of (reverse xs)) g ≡ end
@@ -135,12 +118,6 @@ pub behind_next : (u : Inverse) (n left more : ℕ) (g h k : Graph) → left ≡
 behind_next u n left more g h k e b before one =
     let c : n - more ≡ suc (n - left) = made_so_far n left more e (omega arith) in
     λ us. subst (λ m. KeepsUndo us g (replicate m u ++ us) k) (sym c) (keeps_on us (replicate (n - left) u ++ us) (u ∷ (replicate (n - left) u ++ us)) g h k (before us) (one (replicate (n - left) u ++ us)))
-
-nothing_made : (n left : ℕ) → left ≡ n → n - left ≡ 0
-nothing_made n left e = omega arith
-
-pub behind_none : (u : Inverse) (n left : ℕ) (g : Graph) → left ≡ n → KeepsUndoBehind (n - left) u g g
-behind_none u n left g e = λ us. subst (λ m. KeepsUndo us g (replicate m u ++ us) g) (sym (nothing_made n left e)) (λ before w. w)
 
 all_made : (n left : ℕ) → left ≡ 0 → n - left ≡ n
 all_made n left e = omega arith

@@ -9,9 +9,6 @@ pub record Left (us : List Inverse) (g : Graph) (all : List Inverse) (first : Gr
   pub fits : Fits us g
   pub same : undone_by us g ≡ undone_by all first
 
-pub next_may : (u : Inverse) (us vs all : List Inverse) (g first : Graph) → us ≡ u ∷ vs → Left us g all first → MayUndo u g
-next_may u us vs all g first e l = (subst (λ ws. Fits ws g) e l.fits).0
-
 pub next_left : (u : Inverse) (us vs all : List Inverse) (g h first : Graph) → us ≡ u ∷ vs → h ≡ inverse_of u g → Left us g all first → Left vs h all first
 next_left u us vs all g h first e made l =
     let w : Fits (u ∷ vs) g = subst (λ ws. Fits ws g) e l.fits in
@@ -25,18 +22,3 @@ one_more n c h = omega arith
 
 pub counts_down : (x : Inverse) (n c : ℕ) (ys : List Inverse) → c < n → replicate (n - c) x ++ ys ≡ x ∷ (replicate (n - (c + 1)) x ++ ys)
 counts_down x n c ys h = ap (λ k. replicate k x ++ ys) (one_more n c h)
-
-none_left : (n c : ℕ) → n ≤ c → n - c ≡ 0
-none_left n c h = omega arith
-
-pub counted_down : (x : Inverse) (n c : ℕ) (ys : List Inverse) → n ≤ c → replicate (n - c) x ++ ys ≡ ys
-counted_down x n c ys h = ap (λ k. replicate k x ++ ys) (none_left n c h)
-
-no_less : (n : ℕ) → n ≡ n - 0
-no_less n = omega arith
-
-pub counts_from : (x : Inverse) (n : ℕ) (ys : List Inverse) → replicate n x ++ ys ≡ replicate (n - 0) x ++ ys
-counts_from x n ys = ap (λ k. replicate k x ++ ys) (no_less n)
-
-pub same_left : (us vs all : List Inverse) (g first : Graph) → us ≡ vs → Left us g all first → Left vs g all first
-same_left us vs all g first e l = subst (λ ws. Left ws g all first) e l
