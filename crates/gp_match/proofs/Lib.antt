@@ -1,1 +1,4 @@
 pub mod Judges
+pub mod Counted
+pub mod Loops
+pub mod Verdicts

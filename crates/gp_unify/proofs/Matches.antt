@@ -215,7 +215,7 @@ edge_found_at g xs i d o l h =
 
 -- ---- the labels of a rule's left side
 
-all_front : {X : Type 0} (P : X → Type 0) (xs ys : List X) → All P (xs ++ ys) → All P xs × All P ys
+pub all_front : {X : Type 0} (P : X → Type 0) (xs ys : List X) → All P (xs ++ ys) → All P xs × All P ys
 all_front P [] ys h = (λ k d l. absurd (omega arith), h)
 all_front P (x ∷ xs) ys h =
     let k = all_front P xs ys (λ j d l. h (suc j) d (omega arith)) in
@@ -225,7 +225,7 @@ all_front P (x ∷ xs) ys h =
     by k zero d l = h 0 d (omega arith)
     by k (suc i) d l = k i d (omega arith)
 
-all_asked : {P Q : Type 0} (F : Expression ℕ → Type 0) (f : P → Q) (asked : Q → Expression ℕ) (ps : List P) → All F (map asked (map f ps)) → All (λ p. F (asked (f p))) ps
+pub all_asked : {P Q : Type 0} (F : Expression ℕ → Type 0) (f : P → Q) (asked : Q → Expression ℕ) (ps : List P) → All F (map asked (map f ps)) → All (λ p. F (asked (f p))) ps
 all_asked F f asked [] h = λ k d l. absurd (omega arith)
 all_asked F f asked (p ∷ ps) h = by (all_asked F f asked ps (λ k d l. h (suc k) d (omega arith)))
   where
@@ -250,7 +250,7 @@ labels_known r c =
     let k = labels_all (IsWithin (length r.types) n) r c.left_labels_within in
     (λ i d l. within_known (length r.types) n (label_of (get_or r.left_nodes i d).label) (k.0 i d l), λ i d l. within_known (length r.types) n (label_of (get_or r.left_edges i d).label) (k.1 i d l))
 
-mapped : {P Q : Type 0} (f : P → Q) (asked : Q → Expression ℕ) (ps : List P) → map asked (map f ps) ≡ map (λ p. asked (f p)) ps
+pub mapped : {P Q : Type 0} (f : P → Q) (asked : Q → Expression ℕ) (ps : List P) → map asked (map f ps) ≡ map (λ p. asked (f p)) ps
 mapped f asked [] = refl
 mapped f asked (p ∷ ps) = ap (λ z. asked (f p) ∷ z) (mapped f asked ps)
 

@@ -11,6 +11,8 @@ pub mod laws;
 mod matched;
 mod mismatch;
 mod pieces;
+#[cfg(test)]
+mod tests;
 mod text;
 mod trail;
 mod unifier;
