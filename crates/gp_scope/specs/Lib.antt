@@ -1,0 +1,5 @@
+pub mod Outline
+pub mod Names
+pub mod Resolved
+pub mod Fault
+pub mod inside

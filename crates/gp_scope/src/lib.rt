@@ -1,0 +1,12 @@
+//! Scope.
+#![tactic(auto)]
+
+mod calls;
+mod components;
+mod fault;
+mod level;
+mod meaning;
+mod recursion;
+
+pub use fault::ScopeFault;
+pub use meaning::Meaning;
