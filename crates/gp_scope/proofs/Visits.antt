@@ -18,10 +18,10 @@ same_or_other (suc k) (suc x) = elim (same_or_other k x) [ inl e ↦ inl (ap suc
 pub marked_still : (marks : List Bool) (x k : ℕ) → x < length marks → IsMarked marks k → IsMarked (set marks x true) k
 marked_still marks x k lt h = elim (same_or_other k x) [ inl e ↦ ap (λ n. get_or (set marks x true) n false) e ∙ get_or-set_same marks x true false lt | inr n ↦ get_or-set_other marks x k true false n ∙ h ]
 
-marked_before : (marks : List Bool) (x k : ℕ) → IsMarked (set marks x true) k → IsMarked marks k ⊎ (x ≡ k)
+pub marked_before : (marks : List Bool) (x k : ℕ) → IsMarked (set marks x true) k → IsMarked marks k ⊎ (x ≡ k)
 marked_before marks x k h = elim (same_or_other k x) [ inl e ↦ inr (sym e) | inr n ↦ inl (sym (get_or-set_other marks x k true false n) ∙ h) ]
 
-marked_here : (marks : List Bool) (x k : ℕ) → x < length marks → x ≡ k → IsMarked (set marks x true) k
+pub marked_here : (marks : List Bool) (x k : ℕ) → x < length marks → x ≡ k → IsMarked (set marks x true) k
 marked_here marks x k lt e = ap (λ n. get_or (set marks x true) n false) (sym e) ∙ get_or-set_same marks x true false lt
 
 pub one_less : (marks : List Bool) (x : ℕ) → x < length marks → get_or marks x false ≡ false → unmarked (set marks x true) + 1 ≡ unmarked marks

@@ -1,3 +1,3 @@
 pub mod Calls
 pub mod Levels
-
+pub mod Judged

@@ -1,6 +1,7 @@
 //! Scope.
 #![tactic(auto)]
 
+mod breaks;
 mod calls;
 mod components;
 mod fault;
