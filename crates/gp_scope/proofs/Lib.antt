@@ -7,3 +7,5 @@ pub mod Judges
 pub mod Breaking
 pub mod Round
 pub mod Strays_found
+pub mod Outlines
+pub mod Counted

@@ -75,10 +75,11 @@ impl Level {
 pub(crate) fn meaning_at(levels: &[Level], name: &Name) -> Option<Meaning>
     ensures { result ≡ meaning_in (scope_of levels.now) name.now }
 {
-    for level in levels.iter().rev() {
-        let meaning = level.meaning(name);
-        if meaning.is_some() {
-            return meaning;
+    let mut count = levels.len();
+    'levels: while count > 0 {
+        count -= 1;
+        if let Some(meaning) = levels[count].meaning(name) {
+            return Some(meaning);
         }
     }
     None

@@ -8,6 +8,7 @@ mod fault;
 mod level;
 mod meaning;
 mod recursion;
+mod survey;
 
 pub use fault::ScopeFault;
 pub use meaning::Meaning;
