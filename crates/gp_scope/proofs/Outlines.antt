@@ -10,6 +10,7 @@ use Rattle.gp_syntax.specs.declared.tree.Decl.TheVariants as decl
 use Rattle.gp_syntax.specs.declared.tree.Decl.TheOpen.{Decl-F}
 use Rattle.gp_syntax.specs.declared.tree.Decl.TheFolds.{fold-roll-Decl}
 use Rattle.gp_scope.specs.Outline.{Outline, nothing, rule, procedure, named, chained, declared, declared_step, outline}
+use Rattle.gp_scope.specs.inside.Doubles.{name_of, name_step}
 use Rattle.gp_scope.specs.inside.Surveys.{weight, weight_step, weights}
 
 pub declared-Rule : (d : RuleDecl) (os : Outline) → declared (decl.Rule d) os ≡ rule d os
@@ -42,3 +43,11 @@ weight_at (x ∷ ds) (suc i) d lt = let h = weight_at ds i d (omega (arith, lt))
 -- a declaration of a list weighs no more than the list
 pub weighs_less : (ds : List Decl) (i : ℕ) (d : Decl) → i < length ds → d ≡ get_or ds i d → weight d ≤ weights ds
 weighs_less ds i d lt e = subst (λ x. weight x ≤ weights ds) (sym e) (weight_at ds i d lt)
+
+pub name_of-Rule : (d : RuleDecl) → name_of (decl.Rule d) ≡ d.name
+unfolding name_of
+name_of-Rule d = ap name_of (sym (decl.rolls-Rule d)) ∙ fold-roll-Decl Name name_step (Decl-F.Rule d)
+
+pub name_of-Procedure : (n : Name) (ds : List Decl) (body : CommandTree) → name_of (decl.Procedure n ds body) ≡ n
+unfolding name_of
+name_of-Procedure n ds body = ap name_of (sym (decl.rolls-Procedure n ds body)) ∙ fold-roll-Decl Name name_step (Decl-F.Procedure n ds body)

@@ -2,3 +2,4 @@ pub mod Calls
 pub mod Levels
 pub mod Judged
 pub mod Surveys
+pub mod Doubles

@@ -4,6 +4,7 @@
 mod breaks;
 mod calls;
 mod components;
+mod doubled;
 mod fault;
 mod level;
 mod meaning;

@@ -1,6 +1,6 @@
 //! How much is declared.
 
-ghost use Rattle.std.specs.Prelude.{◌≡◌, ◌+◌, ◌<◌, ◌^◌, length};
+ghost use Rattle.std.specs.Prelude.{◌||◌, ◌≡◌, ◌+◌, ◌<◌, ◌^◌, length};
 ghost use Rattle.gp_scope.specs.Outline.{Outline, declared, outline, is_main};
 ghost use Rattle.gp_scope.specs.Fault.{declares_main};
 ghost use Rattle.gp_scope.specs.inside.Surveys.{survey_of, declarations_in, both_counted, one_more_counted};
@@ -97,11 +97,19 @@ pub(crate) fn has_main(declarations: &[Decl]) -> bool
     ensures { result ≡ declares_main (outline declarations.now) }
 {
     'each: for declaration in declarations {
-        if let Decl::Procedure { name, .. } = declaration {
-            if is_main(name) {
-                return true;
-            }
+        if is_mains(declaration) {
+            return true;
         }
     }
     false
+}
+
+// Whether the declaration is Main's.
+fn is_mains(declaration: &Decl) -> bool
+    ensures { (os : Outline) → declares_main (declared declaration.now os) ≡ (result || declares_main os) }
+{
+    match declaration {
+        Decl::Procedure { name, .. } => is_main(name),
+        Decl::Rule(_) => false,
+    }
 }
