@@ -9,3 +9,4 @@ pub mod Round
 pub mod Strays_found
 pub mod Outlines
 pub mod Counted
+pub mod Pairs

@@ -3,3 +3,4 @@ pub mod Levels
 pub mod Judged
 pub mod Surveys
 pub mod Doubles
+pub mod Commands

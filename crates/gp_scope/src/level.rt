@@ -1,6 +1,6 @@
 //! What the declarations among one another give names to.
 
-ghost use Rattle.std.specs.Prelude.{◌≡◌, false, List, [], ◌∷◌, ◌++◌, map, IfOk, OnOk};
+ghost use Rattle.std.specs.Prelude.{◌≡◌, false, [], ◌∷◌, ◌++◌, IfOk};
 ghost use Rattle.gp_values.specs.Names.{has_name};
 ghost use Rattle.gp_scope.specs.Names.{meaning_in};
 ghost use Rattle.gp_scope.specs.inside.Levels.{names_of, scope_of};
@@ -42,24 +42,23 @@ impl Level {
         }
     }
 
-    /// Gives a further name its meaning.
-    pub(crate) fn add(
-        &mut self,
+    /// With the meaning of a further name.
+    pub(crate) fn with(
+        self,
         alloc: Global,
         name: &Name,
         meaning: Meaning,
-    ) -> Result<(), NoMemory>
-        requires { has_name (names_of self.old) name.now ≡ false }
-        ensures { OnOk result (self.new ≡ self.old ++ (name.now, meaning) ∷ []) }
+    ) -> Result<Level, NoMemory>
+        requires { has_name (names_of self) name.now ≡ false }
+        ensures { IfOk result (λ l. l ≡ self ++ (name.now, meaning) ∷ []) }
     {
-        self.meanings.push(meaning)?;
-        match self.names.add(alloc, name.as_bytes()) {
-            Ok(_) => Ok(()),
-            Err(refused) => {
-                let _ = self.meanings.pop();
-                Err(refused)
-            }
-        }
+        let Level {
+            mut names,
+            mut meanings,
+        } = self;
+        names.add(alloc, name.as_bytes())?;
+        meanings.push(meaning)?;
+        Ok(Level { names, meanings })
     }
 
     /// What the name means here, if it is among them.

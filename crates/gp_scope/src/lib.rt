@@ -8,8 +8,10 @@ mod doubled;
 mod fault;
 mod level;
 mod meaning;
+mod number;
 mod recursion;
 mod survey;
+mod unknown;
 
 pub use fault::ScopeFault;
 pub use meaning::Meaning;

@@ -1,0 +1,120 @@
+//! Commands with numbers in place of names.
+
+ghost use Rattle.std.specs.Prelude.{◌≡◌, ◌+◌, ◌<◌, ◌^◌, ◌++◌, map, length, IfOk, OnOk};
+ghost use Rattle.gp_syntax.specs.Tree.{command_of};
+ghost use Rattle.gp_scope.specs.Outline.{named};
+ghost use Rattle.gp_scope.specs.Resolved.{called_sets, resolved, rule_number, procedure_number};
+ghost use Rattle.gp_scope.specs.inside.Levels.{scope_of};
+ghost use Rattle.gp_scope.specs.inside.Commands.{sets_in, called_in_rest, resolved_rest, sets_in_rest};
+
+use crate::level::{Level, meaning_at};
+use gp_memory::NoMemory;
+use gp_syntax::{Boxed, Command, CommandTree, Items, Name};
+use std::alloc::Global;
+
+/// The command with numbers. The sets that it calls are put behind those that are there, and numbered by their places.
+#[cycle(number)]
+pub(crate) fn number(
+    alloc: Global,
+    levels: &[Level],
+    command: &CommandTree,
+    sets: &mut Vec<Items<u32>>,
+) -> Result<Command, NoMemory>
+    requires { length sets.old.items + length (called_sets (named command.now)) < 2 ^ 32 }
+    ensures command { IfOk result (λ c. command_of c ≡ resolved (scope_of levels.now) (length sets.old.items) (named command.now)) }
+    ensures sets { OnOk result (sets.new.items ≡ sets.old.items ++ sets_in (scope_of levels.now) (named command.now)) }
+{
+    match command {
+        CommandTree::Call(names) => {
+            let place = sets.len() as u32;
+            sets.push(rules_of(alloc, levels, names.as_slice())?)?;
+            Ok(Command::Call(place))
+        }
+        CommandTree::Procedure(name) => Ok(Command::Proc(procedure_at(levels, name))),
+        CommandTree::Seq(first, rest) => {
+            let first = number(alloc, levels, first.get(), sets)?;
+            let rest = number_rest(alloc, levels, rest.as_slice(), sets)?;
+            Ok(Command::Seq(Boxed::new(alloc, first)?, rest))
+        }
+        CommandTree::Or(first, rest) => {
+            let first = number(alloc, levels, first.get(), sets)?;
+            let rest = number_rest(alloc, levels, rest.as_slice(), sets)?;
+            Ok(Command::Or(Boxed::new(alloc, first)?, rest))
+        }
+        CommandTree::If(condition, then, other) => {
+            let condition = number(alloc, levels, condition.get(), sets)?;
+            let then = number(alloc, levels, then.get(), sets)?;
+            let other = number(alloc, levels, other.get(), sets)?;
+            Ok(Command::If(
+                Boxed::new(alloc, condition)?,
+                Boxed::new(alloc, then)?,
+                Boxed::new(alloc, other)?,
+            ))
+        }
+        CommandTree::Try(condition, then, other) => {
+            let condition = number(alloc, levels, condition.get(), sets)?;
+            let then = number(alloc, levels, then.get(), sets)?;
+            let other = number(alloc, levels, other.get(), sets)?;
+            Ok(Command::Try(
+                Boxed::new(alloc, condition)?,
+                Boxed::new(alloc, then)?,
+                Boxed::new(alloc, other)?,
+            ))
+        }
+        CommandTree::Loop(body) => {
+            let body = number(alloc, levels, body.get(), sets)?;
+            Ok(Command::Loop(Boxed::new(alloc, body)?))
+        }
+        CommandTree::Skip => Ok(Command::Skip),
+        CommandTree::Fail => Ok(Command::Fail),
+        CommandTree::Break => Ok(Command::Break),
+    }
+}
+
+// The further parts of a chain.
+#[cycle(number)]
+fn number_rest(
+    alloc: Global,
+    levels: &[Level],
+    commands: &[CommandTree],
+    sets: &mut Vec<Items<u32>>,
+) -> Result<Items<Command>, NoMemory>
+    requires { length sets.old.items + called_in_rest commands.now < 2 ^ 32 }
+    ensures commands { IfOk result (λ cs. map command_of cs ≡ resolved_rest (scope_of levels.now) (length sets.old.items) commands.now) }
+    ensures sets { OnOk result (sets.new.items ≡ sets.old.items ++ sets_in_rest (scope_of levels.now) commands.now) }
+{
+    let mut numbered = Vec::with_capacity(alloc, commands.len())?;
+    'each: for command in commands {
+        numbered.push(number(alloc, levels, command, sets)?)?;
+    }
+    Ok(Items::from_vec(numbered))
+}
+
+// The numbers of the rules of these names.
+fn rules_of(alloc: Global, levels: &[Level], names: &[Name]) -> Result<Items<u32>, NoMemory>
+    ensures { IfOk result (λ rs. rs ≡ map (rule_number (scope_of levels.now)) names.now) }
+{
+    let mut rules = Vec::with_capacity(alloc, names.len())?;
+    'each: for name in names {
+        rules.push(rule_at(levels, name))?;
+    }
+    Ok(Items::from_vec(rules))
+}
+
+fn rule_at(levels: &[Level], name: &Name) -> u32
+    ensures { result ≡ rule_number (scope_of levels.now) name.now }
+{
+    match meaning_at(levels, name) {
+        Some(meaning) => meaning.rule().unwrap_or(0),
+        None => 0,
+    }
+}
+
+fn procedure_at(levels: &[Level], name: &Name) -> u32
+    ensures { result ≡ procedure_number (scope_of levels.now) name.now }
+{
+    match meaning_at(levels, name) {
+        Some(meaning) => meaning.procedure().unwrap_or(0),
+        None => 0,
+    }
+}
