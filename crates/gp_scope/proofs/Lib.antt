@@ -10,3 +10,7 @@ pub mod Strays_found
 pub mod Outlines
 pub mod Counted
 pub mod Pairs
+pub mod Told
+pub mod Named
+pub mod Numbered
+pub mod Forms

@@ -1,6 +1,6 @@
 //! Commands with numbers in place of names.
 
-ghost use Rattle.std.specs.Prelude.{◌≡◌, ◌+◌, ◌<◌, ◌^◌, ◌++◌, map, length, IfOk, OnOk};
+ghost use Rattle.std.specs.Prelude.{◌≡◌, ◌+◌, ◌<◌, ◌^◌, [], ◌∷◌, ◌++◌, map, length, IfOk, OnOk};
 ghost use Rattle.gp_syntax.specs.Tree.{command_of};
 ghost use Rattle.gp_scope.specs.Outline.{named};
 ghost use Rattle.gp_scope.specs.Resolved.{called_sets, resolved, rule_number, procedure_number};
@@ -26,49 +26,91 @@ pub(crate) fn number(
 {
     match command {
         CommandTree::Call(names) => {
-            let place = sets.len() as u32;
-            sets.push(rules_of(alloc, levels, names.as_slice())?)?;
+            let place = push_set(alloc, levels, names.as_slice(), sets)?;
             Ok(Command::Call(place))
         }
         CommandTree::Procedure(name) => Ok(Command::Proc(procedure_at(levels, name))),
         CommandTree::Seq(first, rest) => {
-            let first = number(alloc, levels, first.get(), sets)?;
-            let rest = number_rest(alloc, levels, rest.as_slice(), sets)?;
-            Ok(Command::Seq(Boxed::new(alloc, first)?, rest))
+            let (first, rest) = number_chain(alloc, levels, first.get(), rest.as_slice(), sets)?;
+            Ok(Command::Seq(first, rest))
         }
         CommandTree::Or(first, rest) => {
-            let first = number(alloc, levels, first.get(), sets)?;
-            let rest = number_rest(alloc, levels, rest.as_slice(), sets)?;
-            Ok(Command::Or(Boxed::new(alloc, first)?, rest))
+            let (first, rest) = number_chain(alloc, levels, first.get(), rest.as_slice(), sets)?;
+            Ok(Command::Or(first, rest))
         }
         CommandTree::If(condition, then, other) => {
-            let condition = number(alloc, levels, condition.get(), sets)?;
-            let then = number(alloc, levels, then.get(), sets)?;
-            let other = number(alloc, levels, other.get(), sets)?;
-            Ok(Command::If(
-                Boxed::new(alloc, condition)?,
-                Boxed::new(alloc, then)?,
-                Boxed::new(alloc, other)?,
-            ))
+            let condition = number_boxed(alloc, levels, condition.get(), sets)?;
+            let (then, other) = number_two(alloc, levels, then.get(), other.get(), sets)?;
+            Ok(Command::If(condition, then, other))
         }
         CommandTree::Try(condition, then, other) => {
-            let condition = number(alloc, levels, condition.get(), sets)?;
-            let then = number(alloc, levels, then.get(), sets)?;
-            let other = number(alloc, levels, other.get(), sets)?;
-            Ok(Command::Try(
-                Boxed::new(alloc, condition)?,
-                Boxed::new(alloc, then)?,
-                Boxed::new(alloc, other)?,
-            ))
+            let condition = number_boxed(alloc, levels, condition.get(), sets)?;
+            let (then, other) = number_two(alloc, levels, then.get(), other.get(), sets)?;
+            Ok(Command::Try(condition, then, other))
         }
-        CommandTree::Loop(body) => {
-            let body = number(alloc, levels, body.get(), sets)?;
-            Ok(Command::Loop(Boxed::new(alloc, body)?))
-        }
+        CommandTree::Loop(body) => Ok(Command::Loop(number_boxed(
+            alloc,
+            levels,
+            body.get(),
+            sets,
+        )?)),
         CommandTree::Skip => Ok(Command::Skip),
         CommandTree::Fail => Ok(Command::Fail),
         CommandTree::Break => Ok(Command::Break),
     }
+}
+
+#[cycle(number)]
+fn number_boxed(
+    alloc: Global,
+    levels: &[Level],
+    command: &CommandTree,
+    sets: &mut Vec<Items<u32>>,
+) -> Result<Boxed<Command>, NoMemory>
+    requires { length sets.old.items + length (called_sets (named command.now)) < 2 ^ 32 }
+    ensures command { IfOk result (λ c. command_of c ≡ resolved (scope_of levels.now) (length sets.old.items) (named command.now)) }
+    ensures sets { OnOk result (sets.new.items ≡ sets.old.items ++ sets_in (scope_of levels.now) (named command.now)) }
+{
+    let numbered = number(alloc, levels, command, sets)?;
+    Ok(Boxed::new(alloc, numbered)?)
+}
+
+// Two branches.
+#[cycle(number)]
+fn number_two(
+    alloc: Global,
+    levels: &[Level],
+    first: &CommandTree,
+    second: &CommandTree,
+    sets: &mut Vec<Items<u32>>,
+) -> Result<(Boxed<Command>, Boxed<Command>), NoMemory>
+    requires { length sets.old.items + length (called_sets (named first.now)) + length (called_sets (named second.now)) < 2 ^ 32 }
+    ensures first { IfOk result (λ r. command_of r.0 ≡ resolved (scope_of levels.now) (length sets.old.items) (named first.now)) }
+    ensures second { IfOk result (λ r. command_of r.1 ≡ resolved (scope_of levels.now) (length sets.old.items + length (called_sets (named first.now))) (named second.now)) }
+    ensures sets { OnOk result (sets.new.items ≡ sets.old.items ++ (sets_in (scope_of levels.now) (named first.now) ++ sets_in (scope_of levels.now) (named second.now))) }
+{
+    let first = number_boxed(alloc, levels, first, sets)?;
+    let second = number_boxed(alloc, levels, second, sets)?;
+    Ok((first, second))
+}
+
+// A chain.
+#[cycle(number)]
+fn number_chain(
+    alloc: Global,
+    levels: &[Level],
+    first: &CommandTree,
+    rest: &[CommandTree],
+    sets: &mut Vec<Items<u32>>,
+) -> Result<(Boxed<Command>, Items<Command>), NoMemory>
+    requires { length sets.old.items + length (called_sets (named first.now)) + called_in_rest rest.now < 2 ^ 32 }
+    ensures first { IfOk result (λ r. command_of r.0 ≡ resolved (scope_of levels.now) (length sets.old.items) (named first.now)) }
+    ensures rest { IfOk result (λ r. map command_of r.1 ≡ resolved_rest (scope_of levels.now) (length sets.old.items + length (called_sets (named first.now))) rest.now) }
+    ensures sets { OnOk result (sets.new.items ≡ sets.old.items ++ (sets_in (scope_of levels.now) (named first.now) ++ sets_in_rest (scope_of levels.now) rest.now)) }
+{
+    let first = number_boxed(alloc, levels, first, sets)?;
+    let rest = number_rest(alloc, levels, rest, sets)?;
+    Ok((first, rest))
 }
 
 // The further parts of a chain.
@@ -88,6 +130,23 @@ fn number_rest(
         numbered.push(number(alloc, levels, command, sets)?)?;
     }
     Ok(Items::from_vec(numbered))
+}
+
+// Puts the set of these rules at the end, and gives its place.
+fn push_set(
+    alloc: Global,
+    levels: &[Level],
+    names: &[Name],
+    sets: &mut Vec<Items<u32>>,
+) -> Result<u32, NoMemory>
+    requires { length sets.old.items < 2 ^ 32 }
+    ensures place { IfOk result (λ n. n ≡ length sets.old.items) }
+    ensures sets { OnOk result (sets.new.items ≡ sets.old.items ++ map (rule_number (scope_of levels.now)) names.now ∷ []) }
+{
+    let place = sets.len() as u32;
+    let set = rules_of(alloc, levels, names)?;
+    sets.push(set)?;
+    Ok(place)
 }
 
 // The numbers of the rules of these names.

@@ -2,7 +2,10 @@
 use Rattle.std.specs.Prelude.{ℕ, ◌+◌, List, [], ◌∷◌, ◌++◌, map, length, Option, is_some}
 use Rattle.gp_values.specs.Names.{Name}
 use Rattle.gp_syntax.specs.declared.tree.CommandTree.{CommandTree}
+use Rattle.gp_syntax.specs.declared.tree.CommandTree.TheOpen.{CommandTree-F}
+use Rattle.gp_syntax.specs.declared.tree.CommandTree.TheFolds.{fold-CommandTree}
 use Rattle.gp_syntax.specs.Run as meant
+use Rattle.gp_scope.specs.inside.Surveys.{total}
 use Rattle.gp_scope.specs.Outline.{NamedCommand, named}
 use Rattle.gp_scope.specs.Names.{Scope, meaning_in, rule_of}
 use Rattle.gp_scope.specs.Resolved.{called_sets, resolved, rule_number}
@@ -31,3 +34,18 @@ sets_in_rest s (q ∷ qs) = sets_in s (named q) ++ sets_in_rest s qs
 abbrev pub resolved_rest : Scope → ℕ → List CommandTree → List meant.Command
 resolved_rest s c [] = []
 resolved_rest s c (q ∷ qs) = resolved s c (named q) ∷ resolved_rest s (c + length (called_sets (named q))) qs
+
+-- how large a command is: what recursion over it takes less of at each call
+abbrev pub size_step : CommandTree-F ℕ → ℕ
+size_step (CommandTree-F.Seq p qs) = 1 + p + total qs
+size_step (CommandTree-F.If k p q) = 1 + k + p + q
+size_step (CommandTree-F.Try k p q) = 1 + k + p + q
+size_step (CommandTree-F.Loop p) = 1 + p
+size_step (CommandTree-F.Or p qs) = 1 + p + total qs
+size_step other = 1
+
+unfoldable pub size : CommandTree → ℕ
+size = fold-CommandTree ℕ size_step
+
+abbrev pub sizes : List CommandTree → ℕ
+sizes qs = total (map size qs)
