@@ -14,3 +14,4 @@ pub mod Told
 pub mod Named
 pub mod Numbered
 pub mod Forms
+pub mod Declared

@@ -4,3 +4,4 @@ pub mod Judged
 pub mod Surveys
 pub mod Doubles
 pub mod Commands
+pub mod Declares

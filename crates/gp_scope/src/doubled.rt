@@ -48,8 +48,8 @@ fn doubled_within<'a>(alloc: Global, declaration: &'a Decl) -> Result<Option<&'a
     }
 }
 
-// The name that is declared.
-fn name_of(declaration: &Decl) -> &Name
+/// The name that is declared.
+pub(crate) fn name_of(declaration: &Decl) -> &Name
     ensures name { result.now ≡ name_of declaration.now }
     ensures again { StopsDoubled declaration.now }
 {

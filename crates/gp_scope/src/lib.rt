@@ -4,6 +4,7 @@
 mod breaks;
 mod calls;
 mod components;
+mod declare;
 mod doubled;
 mod fault;
 mod level;

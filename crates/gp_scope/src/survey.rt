@@ -24,7 +24,7 @@ pub(crate) fn is_main(name: &Name) -> bool
 
 impl Survey {
     // What both count together.
-    fn plus(self, other: Survey) -> Survey
+    pub(crate) fn plus(self, other: Survey) -> Survey
         requires rules { self.rules + other.rules < 2 ^ 32 }
         requires procedures { self.procedures + other.procedures < 2 ^ 32 }
         requires mains { self.mains + other.mains < 2 ^ 32 }
