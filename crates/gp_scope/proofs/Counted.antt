@@ -10,7 +10,7 @@ use Rattle.gp_scope.specs.inside.Surveys.{declarations_in, survey_of, both_count
 pub same_survey : (a b c d e f : ℕ) → a ≡ d → b ≡ e → c ≡ f → (let s : Survey = record { rules = a; procedures = b; mains = c } in s) ≡ record { rules = d; procedures = e; mains = f }
 same_survey a b c d e f p q r = ap (λ x. record { rules = x; procedures = b; mains = c }) p ∙ ap (λ x. record { rules = d; procedures = x; mains = c }) q ∙ ap (λ x. record { rules = d; procedures = e; mains = x }) r
 
-one_or_other : (b : Bool) → (cond b 0 1) + (cond b 1 0) ≡ 1
+pub one_or_other : (b : Bool) → (cond b 0 1) + (cond b 1 0) ≡ 1
 one_or_other true = refl
 one_or_other false = refl
 

@@ -1,5 +1,5 @@
 -- What one declaration does to the names among which it stands.
-use Rattle.std.proofs.Common.{◌≡◌, ℕ, zero, ◌+◌, ◌<◌, ◌^◌, Bool, true, false, cond, ◌||◌, List, [], ◌∷◌, ◌++◌, length, Option, Some, None, refl, sym, ap, ◌∙◌, subst, append_assoc, arith, length-append}
+use Rattle.std.proofs.Common.{◌≡◌, ℕ, zero, ◌+◌, ◌<◌, ◌^◌, Bool, true, false, cond, ◌||◌, List, [], ◌∷◌, ◌++◌, drop, length, get_or, Option, Some, None, refl, sym, ap, ◌∙◌, subst, append_assoc, arith, length-append}
 use Rattle.std.specs.Option.{option_or}
 use Rattle.gp_values.specs.Names.{Name, same_name, has_name}
 use Rattle.gp_syntax.specs.declared.tree.RuleDecl.{RuleDecl}
@@ -17,7 +17,7 @@ use Rattle.gp_scope.specs.inside.Surveys.{survey_of, both_counted, declarations_
 use Rattle.gp_scope.specs.inside.Levels.{names_of}
 use Rattle.gp_scope.specs.inside.Declares.{Counts, own_entries, GivesEntries, KeepsOnce, NamesNoOther}
 use Rattle.gp_scope.proofs.Counted.{counts_all}
-use Rattle.gp_scope.proofs.Outlines.{declared-Rule, declared-Procedure, name_of-Rule, name_of-Procedure}
+use Rattle.gp_scope.proofs.Outlines.{outline_from, declared-Rule, declared-Procedure, name_of-Rule, name_of-Procedure}
 
 -- how much a rule, or a procedure, declares
 pub rule_counts : (d : Decl) (x : RuleDecl) (k : Survey) → d ≡ decl.Rule x → Counts d k → (k.rules ≡ 1) × (k.procedures ≡ 0)
@@ -149,3 +149,12 @@ none_named d old = λ q t. ap (λ b. b || same_name q (name_of d)) t
 
 pub some_none : (n : Name) → Some n ≡ None → ⊥
 some_none n e = cc
+
+-- how many there are from here on
+pub few_here : (ds : List Decl) (i : ℕ) (d : Decl) (at : Survey) → i < length ds → d ≡ get_or ds i d → at.rules + at.procedures + at.mains + declarations_in (outline (drop i ds)) < 2 ^ 32
+    → at.rules + at.procedures + at.mains + declarations_in (declared d (outline (drop (i + 1) ds))) < 2 ^ 32
+few_here ds i d at lt e h = subst (λ o. at.rules + at.procedures + at.mains + declarations_in o < 2 ^ 32) (outline_from ds i d lt e) h
+
+pub once_here : (ds : List Decl) (i : ℕ) (d : Decl) (seen : List Name) → i < length ds → d ≡ get_or ds i d → doubled_behind seen (outline (drop i ds)) ≡ None
+    → doubled_behind seen (declared d (outline (drop (i + 1) ds))) ≡ None
+once_here ds i d seen lt e h = ap (doubled_behind seen) (sym (outline_from ds i d lt e)) ∙ h

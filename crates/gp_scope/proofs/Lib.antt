@@ -15,3 +15,4 @@ pub mod Named
 pub mod Numbered
 pub mod Forms
 pub mod Declared
+pub mod Within

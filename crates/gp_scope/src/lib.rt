@@ -11,6 +11,7 @@ mod level;
 mod meaning;
 mod number;
 mod recursion;
+mod strangers;
 mod survey;
 mod unknown;
 

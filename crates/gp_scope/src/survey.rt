@@ -38,7 +38,7 @@ impl Survey {
     }
 
     // One more procedure, or one more Main.
-    fn with_procedure(self, name: &Name) -> Survey
+    pub(crate) fn with_procedure(self, name: &Name) -> Survey
         requires procedures { self.procedures + 1 < 2 ^ 32 }
         requires mains { self.mains + 1 < 2 ^ 32 }
         ensures { result ≡ one_more_counted self name.now }

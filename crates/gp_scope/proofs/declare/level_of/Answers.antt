@@ -1,25 +1,14 @@
-use Rattle.std.proofs.Common.{◌≡◌, ◌∙◌, ℕ, ◌+◌, ◌<◌, ◌^◌, ◌++◌, ◌∷◌, [], ap, sym, subst, arith, drop, List, None, length, get_or, append-nil}
-use Rattle.gp_values.specs.Names.{Name, same_name, has_name}
-use Rattle.gp_syntax.specs.declared.tree.Decl.{Decl}
+use Rattle.std.proofs.Common.{◌≡◌, ◌∙◌, ◌+◌, ◌<◌, ◌^◌, ◌++◌, ◌∷◌, [], ap, sym, subst, arith, drop, append-nil}
+use Rattle.gp_values.specs.Names.{same_name, has_name}
 use Rattle.gp_scope.specs.declared.survey.Survey.{Survey}
-use Rattle.gp_scope.specs.Outline.{outline, declared}
+use Rattle.gp_scope.specs.Outline.{outline}
 use Rattle.gp_scope.specs.Names.{entries}
-use Rattle.gp_scope.specs.Fault.{doubled_behind}
 use Rattle.gp_scope.specs.inside.Levels.{names_of}
 use Rattle.gp_scope.specs.inside.Doubles.{name_of}
 use Rattle.gp_scope.specs.inside.Surveys.{declarations_in}
 use Rattle.gp_scope.proofs.Outlines.{outline_from, outline_past}
-use Rattle.gp_scope.proofs.Declared.{StillFew, still_few, new_to_level, has_more, or_more, some_none}
+use Rattle.gp_scope.proofs.Declared.{few_here, once_here, still_few, new_to_level, has_more, or_more, some_none}
 use Rattle.gp_scope.proofs.declare.level_of.Goals as goal
-
--- how many there are from here on
-few_here : (ds : List Decl) (i : ℕ) (d : Decl) (at : Survey) → i < length ds → d ≡ get_or ds i d → at.rules + at.procedures + at.mains + declarations_in (outline (drop i ds)) < 2 ^ 32
-    → at.rules + at.procedures + at.mains + declarations_in (declared d (outline (drop (i + 1) ds))) < 2 ^ 32
-few_here ds i d at lt e h = subst (λ o. at.rules + at.procedures + at.mains + declarations_in o < 2 ^ 32) (outline_from ds i d lt e) h
-
-once_here : (ds : List Decl) (i : ℕ) (d : Decl) (seen : List Name) → i < length ds → d ≡ get_or ds i d → doubled_behind seen (outline (drop i ds)) ≡ None
-    → doubled_behind seen (declared d (outline (drop (i + 1) ds))) ≡ None
-once_here ds i d seen lt e h = ap (doubled_behind seen) (sym (outline_from ds i d lt e)) ∙ h
 
 pub each-init : goal.each-init
 each-init c =
