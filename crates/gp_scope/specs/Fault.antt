@@ -5,6 +5,8 @@ use Rattle.std.specs.Option.{option_or}
 use Rattle.gp_values.specs.Names.{Name, has_name}
 use Rattle.gp_syntax.specs.Run as meant
 use Rattle.gp_syntax.specs.Scoped.{bodies, conditions_in, ReachesProcedure, IsChain, MayBreak}
+use Rattle.gp_scope.specs.declared.fault.ScopeFault.{ScopeFault}
+use Rattle.gp_scope.specs.declared.fault.ScopeFault.TheVariants as answers
 use Rattle.gp_scope.specs.Outline.{NamedCommand, Call, Named, Seq, If, Try, Loop, Or, Skip, Fail, Break, Outline, nothing, rule, procedure, is_main}
 use Rattle.gp_scope.specs.Names.{Scope, meaning_in, rule_of, procedure_of, Body, all_bodies_in_text}
 use Rattle.gp_scope.specs.Resolved.{ResolvedBody, resolved_bodies, others, program_with}
@@ -105,3 +107,14 @@ pub data IsFault (os : Outline) : Fault → Type 0 where
       IsFault os (DeepCalls n)
   stray_break : fault_of_names os ≡ None → ((j : ℕ) → IsRecursive (calls_of os) j → ⊥) → ((j : ℕ) → IsDeep (calls_of os) j → ⊥) → HasStrayBreak (calls_of os) →
       IsFault os StrayBreak
+
+-- what an answer says; memory that is refused says nothing
+abbrev pub told : ScopeFault → Option Fault
+told answers.NoMain = Some NoMain
+told answers.TwoMains = Some TwoMains
+told (answers.TwoRules n) = Some (TwoRules n)
+told (answers.Unknown n) = Some (Unknown n)
+told (answers.Recursive n) = Some (Recursive n)
+told (answers.DeepCalls n) = Some (DeepCalls n)
+told answers.StrayBreak = Some StrayBreak
+told answers.NoMemory = None

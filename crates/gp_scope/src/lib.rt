@@ -3,10 +3,12 @@
 
 mod breaks;
 mod calls;
+mod check;
 mod components;
 mod declare;
 mod doubled;
 mod fault;
+mod few;
 mod level;
 mod meaning;
 mod number;
@@ -15,5 +17,6 @@ mod strangers;
 mod survey;
 mod unknown;
 
+pub use check::check_names;
 pub use fault::ScopeFault;
 pub use meaning::Meaning;
