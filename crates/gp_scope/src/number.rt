@@ -20,7 +20,6 @@ pub(crate) fn number(
     command: &CommandTree,
     sets: &mut Vec<Items<u32>>,
 ) -> Result<Command, NoMemory>
-    requires { length sets.old.items + length (called_sets (named command.now)) < 2 ^ 32 }
     ensures command { IfOk result (λ c. command_of c ≡ resolved (scope_of levels.now) (length sets.old.items) (named command.now)) }
     ensures sets { OnOk result (sets.new.items ≡ sets.old.items ++ sets_in (scope_of levels.now) (named command.now)) }
 {
@@ -67,7 +66,6 @@ fn number_boxed(
     command: &CommandTree,
     sets: &mut Vec<Items<u32>>,
 ) -> Result<Boxed<Command>, NoMemory>
-    requires { length sets.old.items + length (called_sets (named command.now)) < 2 ^ 32 }
     ensures command { IfOk result (λ c. command_of c ≡ resolved (scope_of levels.now) (length sets.old.items) (named command.now)) }
     ensures sets { OnOk result (sets.new.items ≡ sets.old.items ++ sets_in (scope_of levels.now) (named command.now)) }
 {
@@ -84,7 +82,6 @@ fn number_two(
     second: &CommandTree,
     sets: &mut Vec<Items<u32>>,
 ) -> Result<(Boxed<Command>, Boxed<Command>), NoMemory>
-    requires { length sets.old.items + length (called_sets (named first.now)) + length (called_sets (named second.now)) < 2 ^ 32 }
     ensures first { IfOk result (λ r. command_of r.0 ≡ resolved (scope_of levels.now) (length sets.old.items) (named first.now)) }
     ensures second { IfOk result (λ r. command_of r.1 ≡ resolved (scope_of levels.now) (length sets.old.items + length (called_sets (named first.now))) (named second.now)) }
     ensures sets { OnOk result (sets.new.items ≡ sets.old.items ++ (sets_in (scope_of levels.now) (named first.now) ++ sets_in (scope_of levels.now) (named second.now))) }
@@ -103,7 +100,6 @@ fn number_chain(
     rest: &[CommandTree],
     sets: &mut Vec<Items<u32>>,
 ) -> Result<(Boxed<Command>, Items<Command>), NoMemory>
-    requires { length sets.old.items + length (called_sets (named first.now)) + called_in_rest rest.now < 2 ^ 32 }
     ensures first { IfOk result (λ r. command_of r.0 ≡ resolved (scope_of levels.now) (length sets.old.items) (named first.now)) }
     ensures rest { IfOk result (λ r. map command_of r.1 ≡ resolved_rest (scope_of levels.now) (length sets.old.items + length (called_sets (named first.now))) rest.now) }
     ensures sets { OnOk result (sets.new.items ≡ sets.old.items ++ (sets_in (scope_of levels.now) (named first.now) ++ sets_in_rest (scope_of levels.now) rest.now)) }
@@ -121,7 +117,6 @@ fn number_rest(
     commands: &[CommandTree],
     sets: &mut Vec<Items<u32>>,
 ) -> Result<Items<Command>, NoMemory>
-    requires { length sets.old.items + called_in_rest commands.now < 2 ^ 32 }
     ensures commands { IfOk result (λ cs. map command_of cs ≡ resolved_rest (scope_of levels.now) (length sets.old.items) commands.now) }
     ensures sets { OnOk result (sets.new.items ≡ sets.old.items ++ sets_in_rest (scope_of levels.now) commands.now) }
 {
@@ -139,11 +134,10 @@ fn push_set(
     names: &[Name],
     sets: &mut Vec<Items<u32>>,
 ) -> Result<u32, NoMemory>
-    requires { length sets.old.items < 2 ^ 32 }
     ensures place { IfOk result (λ n. n ≡ length sets.old.items) }
     ensures sets { OnOk result (sets.new.items ≡ sets.old.items ++ map (rule_number (scope_of levels.now)) names.now ∷ []) }
 {
-    let place = sets.len() as u32;
+    let place = u32::try_from(sets.len()).map_err(|_| NoMemory)?;
     let set = rules_of(alloc, levels, names)?;
     sets.push(set)?;
     Ok(place)

@@ -18,7 +18,7 @@ pub number-number_chain-requires : goal.number-number_chain-requires
 number-number_chain-requires t c =
     let e : c.args.command.now ≡ tree.Seq c.get.result.now c.as_slice-in-Seq.result.now = c.in-Seq.is ∙ ap (λ x. tree.Seq x c.in-Seq.rest) (sym c.get.ensures) ∙ ap (tree.Seq c.get.result.now) (sym c.as_slice-in-Seq.ensures) in
     let z : size c.args.command.now ≡ 1 + size c.get.result.now + sizes c.as_slice-in-Seq.result.now = ap size e ∙ size-Seq c.get.result.now c.as_slice-in-Seq.result.now in
-    (search rules, seq_room (scope_of c.args.levels.now) (length c.args.sets.now.items) c.args.command.now c.get.result.now c.as_slice-in-Seq.result.now e c.requires)
+    (search rules, tt)
 
 pub number-returns-in_ok-first-in-Seq-clause-command : goal.number-returns-in_ok-first-in-Seq-clause-command
 number-returns-in_ok-first-in-Seq-clause-command t c =
@@ -34,7 +34,7 @@ pub number-number_chain-requires-in-Or : goal.number-number_chain-requires-in-Or
 number-number_chain-requires-in-Or t c =
     let e : c.args.command.now ≡ tree.Or c.get-in-Or.result.now c.as_slice-in-Or.result.now = c.in-Or.is ∙ ap (λ x. tree.Or x c.in-Or.rest) (sym c.get-in-Or.ensures) ∙ ap (tree.Or c.get-in-Or.result.now) (sym c.as_slice-in-Or.ensures) in
     let z : size c.args.command.now ≡ 1 + size c.get-in-Or.result.now + sizes c.as_slice-in-Or.result.now = ap size e ∙ size-Or c.get-in-Or.result.now c.as_slice-in-Or.result.now in
-    (search rules, or_room (scope_of c.args.levels.now) (length c.args.sets.now.items) c.args.command.now c.get-in-Or.result.now c.as_slice-in-Or.result.now e c.requires)
+    (search rules, tt)
 
 pub number-returns-in_ok-first-in-Or-clause-command : goal.number-returns-in_ok-first-in-Or-clause-command
 number-returns-in_ok-first-in-Or-clause-command t c =
@@ -50,16 +50,13 @@ pub number-number_boxed-requires : goal.number-number_boxed-requires
 number-number_boxed-requires t c =
     let e : c.args.command.now ≡ tree.If c.get-in-If.result.now c.in-If.then c.in-If.other = c.in-If.is ∙ ap (λ x. tree.If x c.in-If.then c.in-If.other) (sym c.get-in-If.ensures) in
     let z : size c.args.command.now ≡ 1 + size c.get-in-If.result.now + size c.in-If.then + size c.in-If.other = ap size e ∙ size-If c.get-in-If.result.now c.in-If.then c.in-If.other in
-    let n = if_called (scope_of c.args.levels.now) (length c.args.sets.now.items) c.args.command.now c.get-in-If.result.now c.in-If.then c.in-If.other e in
-    (search rules, omega (arith, n, c.requires))
+    (search rules, tt)
 
 pub number-number_two-requires : goal.number-number_two-requires
 number-number_two-requires t c =
     let e : c.args.command.now ≡ tree.If c.get-in-If.result.now c.get-in-If-2.result.now c.get-in-If-3.result.now = c.in-If.is ∙ ap (λ x. tree.If x c.in-If.then c.in-If.other) (sym c.get-in-If.ensures) ∙ ap (λ x. tree.If c.get-in-If.result.now x c.in-If.other) (sym c.get-in-If-2.ensures) ∙ ap (tree.If c.get-in-If.result.now c.get-in-If-2.result.now) (sym c.get-in-If-3.ensures) in
     let z : size c.args.command.now ≡ 1 + size c.get-in-If.result.now + size c.get-in-If-2.result.now + size c.get-in-If-3.result.now = ap size e ∙ size-If c.get-in-If.result.now c.get-in-If-2.result.now c.get-in-If-3.result.now in
-    let l = behind_part (scope_of c.args.levels.now) c.args.sets.now.items c.number_boxed.new.sets.items c.get-in-If.result.now c.in_ok-condition-in-If.ensures.sets in
-    let n = if_called (scope_of c.args.levels.now) (length c.args.sets.now.items) c.args.command.now c.get-in-If.result.now c.get-in-If-2.result.now c.get-in-If-3.result.now e in
-    (search rules, omega (arith, n, l, c.requires))
+    (search rules, tt)
 
 pub number-returns-in_ok-then-in-If-clause-command : goal.number-returns-in_ok-then-in-If-clause-command
 number-returns-in_ok-then-in-If-clause-command t c =
@@ -76,16 +73,13 @@ pub number-number_boxed-requires-in-Try : goal.number-number_boxed-requires-in-T
 number-number_boxed-requires-in-Try t c =
     let e : c.args.command.now ≡ tree.Try c.get-in-Try.result.now c.in-Try.then c.in-Try.other = c.in-Try.is ∙ ap (λ x. tree.Try x c.in-Try.then c.in-Try.other) (sym c.get-in-Try.ensures) in
     let z : size c.args.command.now ≡ 1 + size c.get-in-Try.result.now + size c.in-Try.then + size c.in-Try.other = ap size e ∙ size-Try c.get-in-Try.result.now c.in-Try.then c.in-Try.other in
-    let n = try_called (scope_of c.args.levels.now) (length c.args.sets.now.items) c.args.command.now c.get-in-Try.result.now c.in-Try.then c.in-Try.other e in
-    (search rules, omega (arith, n, c.requires))
+    (search rules, tt)
 
 pub number-number_two-requires-in-Try : goal.number-number_two-requires-in-Try
 number-number_two-requires-in-Try t c =
     let e : c.args.command.now ≡ tree.Try c.get-in-Try.result.now c.get-in-Try-2.result.now c.get-in-Try-3.result.now = c.in-Try.is ∙ ap (λ x. tree.Try x c.in-Try.then c.in-Try.other) (sym c.get-in-Try.ensures) ∙ ap (λ x. tree.Try c.get-in-Try.result.now x c.in-Try.other) (sym c.get-in-Try-2.ensures) ∙ ap (tree.Try c.get-in-Try.result.now c.get-in-Try-2.result.now) (sym c.get-in-Try-3.ensures) in
     let z : size c.args.command.now ≡ 1 + size c.get-in-Try.result.now + size c.get-in-Try-2.result.now + size c.get-in-Try-3.result.now = ap size e ∙ size-Try c.get-in-Try.result.now c.get-in-Try-2.result.now c.get-in-Try-3.result.now in
-    let l = behind_part (scope_of c.args.levels.now) c.args.sets.now.items c.number_boxed-in-Try.new.sets.items c.get-in-Try.result.now c.in_ok-condition-in-Try.ensures.sets in
-    let n = try_called (scope_of c.args.levels.now) (length c.args.sets.now.items) c.args.command.now c.get-in-Try.result.now c.get-in-Try-2.result.now c.get-in-Try-3.result.now e in
-    (search rules, omega (arith, n, l, c.requires))
+    (search rules, tt)
 
 pub number-returns-in_ok-then-in-Try-clause-command : goal.number-returns-in_ok-then-in-Try-clause-command
 number-returns-in_ok-then-in-Try-clause-command t c =
@@ -102,8 +96,7 @@ pub number-number_boxed-requires-in-Loop : goal.number-number_boxed-requires-in-
 number-number_boxed-requires-in-Loop t c =
     let e : c.args.command.now ≡ tree.Loop c.get-in-Loop.result.now = c.in-Loop.is ∙ ap tree.Loop (sym c.get-in-Loop.ensures) in
     let z : size c.args.command.now ≡ 1 + size c.get-in-Loop.result.now = ap size e ∙ size-Loop c.get-in-Loop.result.now in
-    let n = loop_called (scope_of c.args.levels.now) (length c.args.sets.now.items) c.args.command.now c.get-in-Loop.result.now e in
-    (search rules, omega (arith, n, c.requires))
+    (search rules, tt)
 
 pub number-returns-in_ok-number_boxed-in-Loop-clause-command : goal.number-returns-in_ok-number_boxed-in-Loop-clause-command
 number-returns-in_ok-number_boxed-in-Loop-clause-command t c =
@@ -114,11 +107,6 @@ pub number-returns-in_ok-number_boxed-in-Loop-clause-sets : goal.number-returns-
 number-returns-in_ok-number_boxed-in-Loop-clause-sets t c =
     let e : c.args.command.now ≡ tree.Loop c.get-in-Loop.result.now = c.in-Loop.is ∙ ap tree.Loop (sym c.get-in-Loop.ensures) in
     c.in_ok-number_boxed-in-Loop.ensures.sets ∙ ap (λ l. c.args.sets.now.items ++ l) (loop_sets (scope_of c.args.levels.now) (length c.args.sets.now.items) c.args.command.now c.get-in-Loop.result.now e)
-
-pub number-push_set-requires : goal.number-push_set-requires
-number-push_set-requires t c =
-    let e : c.args.command.now ≡ tree.Call c.as_slice.result.now = c.in-Call.is ∙ ap tree.Call (sym c.as_slice.ensures) in
-    let n = call_called (scope_of c.args.levels.now) (length c.args.sets.now.items) c.args.command.now c.as_slice.result.now e in omega (arith, n, c.requires)
 
 pub number-returns-in_ok-place-in-Call-clause-command : goal.number-returns-in_ok-place-in-Call-clause-command
 number-returns-in_ok-place-in-Call-clause-command t c =
@@ -164,17 +152,15 @@ number-returns-in-Break-clause-sets t c =
 
 pub number_two-number_boxed-requires : goal.number_two-number_boxed-requires
 number_two-number_boxed-requires t c =
-    (search rules, omega (arith, c.requires))
+    (search rules, tt)
 
 pub number_two-number_boxed-requires-2 : goal.number_two-number_boxed-requires-2
 number_two-number_boxed-requires-2 t c =
-    let l = behind_part (scope_of c.args.levels.now) c.args.sets.now.items c.number_boxed.new.sets.items c.args.first.now c.in_ok-first.ensures.sets in
-    (search rules, omega (arith, l, c.requires))
+    (search rules, tt)
 
 pub number_chain-number_rest-requires : goal.number_chain-number_rest-requires
 number_chain-number_rest-requires t c =
-    let l = behind_part (scope_of c.args.levels.now) c.args.sets.now.items c.number_boxed.new.sets.items c.args.first.now c.in_ok-first.ensures.sets in
-    (search rules, omega (arith, l, c.requires))
+    (search rules, tt)
 
 pub number_rest-number-requires : goal.number_rest-number-requires
 number_rest-number-requires t c =
@@ -183,7 +169,7 @@ number_rest-number-requires t c =
     let a = ap called_in_rest more ∙ called_push (take c.each.command-index c.args.commands.now) c.command-item.result in
     let b = called_take (c.each.command-index + 1) c.args.commands.now in
     let z = is_smaller c.args.commands.now c.each.command-index c.command-item.result c.each-test.true c.command-item.is in
-    (search rules, omega (arith, a, b, count, c.requires))
+    (search rules, tt)
 
 pub number_rest-each-preserved : goal.number_rest-each-preserved
 number_rest-each-preserved t c =
