@@ -5,3 +5,4 @@ pub mod Surveys
 pub mod Doubles
 pub mod Commands
 pub mod Declares
+pub mod Numbering

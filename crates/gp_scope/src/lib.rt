@@ -1,6 +1,7 @@
 //! Scope.
 #![tactic(auto)]
 
+mod bodies;
 mod breaks;
 mod calls;
 mod check;

@@ -12,7 +12,7 @@ use Rattle.gp_scope.specs.inside.Doubles.{name_of}
 use Rattle.gp_scope.specs.inside.Declares.{unknown_of}
 use Rattle.gp_scope.proofs.Outlines.{outline_from, outline_past, weight-Procedure, weighs_less}
 use Rattle.gp_scope.proofs.Declared.{few_here, once_here, still_few, rule_once, procedure_once}
-use Rattle.gp_scope.proofs.Within.{fits_within, pushed_scope, inner_told, rule_tells, procedure_tells}
+use Rattle.gp_scope.proofs.Within.{fits_within, few_within, pushed_scope, inner_told, rule_tells, procedure_tells}
 use Rattle.gp_scope.proofs.strangers.+strangers.Goals as goal
 
 some_told : {X : Type 0} (o : Option X) (f : X → Name) (r : Option Name) → is_some o ≡ true → option_or (option_map f o) r ≡ option_map f o
@@ -22,10 +22,6 @@ some_told None f r e = cc
 none_told : {X : Type 0} (o : Option X) (f : X → Name) (r : Option Name) → is_some o ≡ false → option_or (option_map f o) r ≡ r
 none_told (Some x) f r e = cc
 none_told None f r e = refl
-
-few_within : (at within : Survey) (n : Name) (ds held : List Decl) → within ≡ one_more_counted at n → held ≡ ds → at.rules + (own_number n + at.procedures) + (main_number n + at.mains) + declarations_in (outline ds) < 2 ^ 32
-    → within.rules + within.procedures + within.mains + declarations_in (outline held) < 2 ^ 32
-few_within at within n ds held e h lt = subst (λ (s : Survey). s.rules + s.procedures + s.mains + declarations_in (outline held) < 2 ^ 32) (sym e) (subst (λ l. at.rules + (own_number n + at.procedures) + (main_number n + at.mains) + declarations_in (outline l) < 2 ^ 32) (sym h) lt)
 
 pub first_unknown-unknown_within-requires : goal.first_unknown-unknown_within-requires
 first_unknown-unknown_within-requires t c =
