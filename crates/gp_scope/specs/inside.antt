@@ -1,6 +1,4 @@
-pub mod Calls
 pub mod Levels
-pub mod Judged
 pub mod Surveys
 pub mod Doubles
 pub mod Commands

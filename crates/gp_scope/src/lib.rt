@@ -2,10 +2,7 @@
 #![tactic(auto)]
 
 mod bodies;
-mod breaks;
-mod calls;
 mod check;
-mod components;
 mod declare;
 mod doubled;
 mod fault;
@@ -13,7 +10,6 @@ mod few;
 mod level;
 mod meaning;
 mod number;
-mod recursion;
 mod strangers;
 mod survey;
 mod unknown;
