@@ -7,3 +7,4 @@ pub mod Numbered
 pub mod Forms
 pub mod Declared
 pub mod Within
+pub mod All_bodies

@@ -2,4 +2,5 @@ pub mod Outline
 pub mod Names
 pub mod Resolved
 pub mod Fault
+pub mod Bodies
 pub mod inside

@@ -3,13 +3,15 @@
 ghost use Rattle.std.specs.Prelude.{◌≡◌, ◌+◌, ◌<◌, ◌^◌, [], None, IfOk, OnOk};
 ghost use Rattle.gp_scope.specs.Outline.{outline, named};
 ghost use Rattle.gp_scope.specs.Names.{bodies};
-ghost use Rattle.gp_scope.specs.Fault.{doubled_behind};
+ghost use Rattle.gp_scope.specs.Fault.{doubled_behind, fault_of_names};
+ghost use Rattle.gp_scope.specs.Bodies.{AreBodies};
 ghost use Rattle.gp_scope.specs.inside.Levels.{scope_of};
 ghost use Rattle.gp_scope.specs.inside.Surveys.{declarations_in};
 ghost use Rattle.gp_scope.specs.inside.Declares.{KeepsOnce, Stands};
 ghost use Rattle.gp_scope.specs.inside.Numbering.{Numbers, numbered_of, with_body, with_bodies};
 
 use crate::declare::level_of;
+use crate::few::declaration_count;
 use crate::level::Level;
 use crate::number::number;
 use crate::survey::{Survey, count_one, is_main};
@@ -24,6 +26,29 @@ pub struct Bodies {
     pub main: Option<Command>,
     pub procedures: Vec<Command>,
     pub sets: Vec<Items<u32>>,
+}
+
+/// The bodies of a program text whose names are in order.
+pub fn bodies_of(alloc: Global, declarations: &[Decl]) -> Result<Bodies, NoMemory>
+    requires { fault_of_names (outline declarations.now) ≡ None }
+    ensures { IfOk result (λ b. AreBodies (outline declarations.now) b) }
+{
+    if declaration_count(declarations).is_none() {
+        return Err(NoMemory);
+    }
+    let top = Survey {
+        rules: 0,
+        procedures: 0,
+        mains: 0,
+    };
+    let mut levels = Vec::new(alloc);
+    levels.push(level_of(alloc, declarations, top)?)?;
+    let none = Bodies {
+        main: None,
+        procedures: Vec::new(alloc),
+        sets: Vec::new(alloc),
+    };
+    with_bodies(alloc, declarations, &mut levels, top, none)
 }
 
 // With the bodies of these declarations, behind so many.

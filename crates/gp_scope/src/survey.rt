@@ -87,7 +87,9 @@ pub(crate) fn count_one(declaration: &Decl) -> Survey
             mains: 0,
         },
         Decl::Procedure {
-            name, declarations, ..
+            name,
+            declarations,
+            ..
         } => count_declared(declarations.as_slice()).with_procedure(name),
     }
 }

@@ -61,14 +61,14 @@ with_bodies-each-preserved t c =
     let f = still_few c.each.at c.count_one.result d rest c.count_one.ensures few in
     let done = numbered_of c.in_ok-done.done in
     record {
-        bodies = ap (λ (s : Survey). with_bodies done (bodies (scope_of c.args.levels.now.items) s.rules s.procedures rest)) c.plus-at.ensures
-            ∙ ap (λ l. with_bodies done (bodies (scope_of l) (c.each.at.rules + c.count_one.result.rules) (c.each.at.procedures + c.count_one.result.procedures) rest)) (sym c.each.invariant.levels)
-            ∙ c.in_ok-done.ensures.bodies c.count_one.result c.count_one.ensures rest
-            ∙ ap (λ o. with_bodies (numbered_of c.each.done) (bodies (scope_of c.each.levels.items) c.each.at.rules c.each.at.procedures o)) (sym e)
-            ∙ ap (λ l. with_bodies (numbered_of c.each.done) (bodies (scope_of l) c.each.at.rules c.each.at.procedures (outline (drop i ds)))) c.each.invariant.levels ∙ c.each.invariant.bodies;
-        levels = c.in_ok-done.ensures.levels ∙ c.each.invariant.levels;
-        once = (once.0 ++ name_of d ∷ [], c.in_ok-done.ensures.once once.0 rest o);
-        few = subst (λ (s : Survey). s.rules + s.procedures + s.mains + declarations_in rest < 2 ^ 32) (sym c.plus-at.ensures) f.behind;
+      bodies = ap (λ (s : Survey). with_bodies done (bodies (scope_of c.args.levels.now.items) s.rules s.procedures rest)) c.plus-at.ensures
+          ∙ ap (λ l. with_bodies done (bodies (scope_of l) (c.each.at.rules + c.count_one.result.rules) (c.each.at.procedures + c.count_one.result.procedures) rest)) (sym c.each.invariant.levels)
+          ∙ c.in_ok-done.ensures.bodies c.count_one.result c.count_one.ensures rest
+          ∙ ap (λ o. with_bodies (numbered_of c.each.done) (bodies (scope_of c.each.levels.items) c.each.at.rules c.each.at.procedures o)) (sym e)
+          ∙ ap (λ l. with_bodies (numbered_of c.each.done) (bodies (scope_of l) c.each.at.rules c.each.at.procedures (outline (drop i ds)))) c.each.invariant.levels ∙ c.each.invariant.bodies;
+      levels = c.in_ok-done.ensures.levels ∙ c.each.invariant.levels;
+      once = (once.0 ++ name_of d ∷ [], c.in_ok-done.ensures.once once.0 rest o);
+      few = subst (λ (s : Survey). s.rules + s.procedures + s.mains + declarations_in rest < 2 ^ 32) (sym c.plus-at.ensures) f.behind;
     }
 
 pub with_own-with_procedure-within-requires-clause-procedures : goal.with_own-with_procedure-within-requires-clause-procedures
@@ -103,13 +103,13 @@ with_own-returns-in_ok-done-in-Procedure-2-clause-bodies t c =
     let p = c.in-Procedure in
     let s = scope_of c.args.levels.now.items in
     let scope = pushed_scope c.args.at c.with_procedure-within.result p.name p.declarations c.as_slice.result.now c.args.levels.now.items c.push.new.self.items c.in_ok-level_of-in-Procedure.field-0
-        c.with_procedure-within.ensures c.as_slice.ensures c.in_ok-level_of-in-Procedure.ensures c.in_ok-push-in-Procedure.ensures.items in
+    c.with_procedure-within.ensures c.as_slice.ensures c.in_ok-level_of-in-Procedure.ensures c.in_ok-push-in-Procedure.ensures.items in
     let held = ap scope_of c.as_slice-in-Procedure.ensures.value ∙ scope in
     let own = numbered_of c.in_ok-done-in-Procedure.done in
     let inner = inner_numbered c.args.at c.with_procedure-within.result p.name p.declarations c.as_slice-in-Procedure-2.result.now (scope_of c.push.new.self.items) _ own (numbered_of c.in_ok-done-in-Procedure-2.done)
-        c.with_procedure-within.ensures c.as_slice-in-Procedure-2.ensures scope c.in_ok-done-in-Procedure-2.ensures.bodies in
+    c.with_procedure-within.ensures c.as_slice-in-Procedure-2.ensures scope c.in_ok-done-in-Procedure-2.ensures.bodies in
     procedure_numbers c.args.declaration.now p.name p.declarations p.body s (scope_of c.as_slice-in-Procedure.result.now) c.args.at.rules c.args.at.procedures (numbered_of c.args.done) own (numbered_of c.in_ok-done-in-Procedure-2.done)
-        p.is held c.in_ok-done-in-Procedure.ensures inner
+    p.is held c.in_ok-done-in-Procedure.ensures inner
 
 pub with_own-returns-in_ok-done-in-Procedure-2-clause-once : goal.with_own-returns-in_ok-done-in-Procedure-2-clause-once
 with_own-returns-in_ok-done-in-Procedure-2-clause-once t c = procedure_once c.args.declaration.now c.in-Procedure.name c.in-Procedure.declarations c.in-Procedure.body c.in-Procedure.is

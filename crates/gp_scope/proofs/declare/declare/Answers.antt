@@ -7,10 +7,10 @@ use Rattle.gp_scope.proofs.declare.declare.Goals as goal
 
 pub returns-in-None : goal.returns-in-None
 returns-in-None c = record {
-    entries = λ k h os. ap (λ l. c.args.level ++ l) (sym (c.in-None.ensures.entries k h os));
-    names = none_named c.args.declaration.now c.args.level;
-    once = c.in-None.ensures.once;
-  }
+  entries = λ k h os. ap (λ l. c.args.level ++ l) (sym (c.in-None.ensures.entries k h os));
+  names = none_named c.args.declaration.now c.args.level;
+  once = c.in-None.ensures.once;
+}
 
 pub returns-in_ok-with-in-Some-clause-entries : goal.returns-in_ok-with-in-Some-clause-entries
 returns-in_ok-with-in-Some-clause-entries c = λ k h os.

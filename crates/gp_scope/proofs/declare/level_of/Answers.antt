@@ -14,9 +14,9 @@ pub each-init : goal.each-init
 each-init c =
     let none = c.new-level.ensures in
     record {
-        entries = ap (λ l. l ++ entries c.args.first.rules c.args.first.procedures (outline c.args.declarations.now)) none;
-        once = ([], (c.requires.once, λ n h. ap (λ l. has_name (names_of l) n) (sym none) ∙ h));
-        few = c.requires.few;
+      entries = ap (λ l. l ++ entries c.args.first.rules c.args.first.procedures (outline c.args.declarations.now)) none;
+      once = ([], (c.requires.once, λ n h. ap (λ l. has_name (names_of l) n) (sym none) ∙ h));
+      few = c.requires.few;
     }
 
 pub declare-requires : goal.declare-requires
@@ -29,8 +29,8 @@ declare-requires c =
     let again = c.name_of-name.ensures.again seen.0 (outline (drop (i + 1) ds)) in
     let new = new_to_level (names_of c.each.level) seen.0 (name_of d) seen.1.1 (λ h. some_none (name_of d) (sym (again h) ∙ o)) in
     record {
-        name = c.name_of-name.ensures.name;
-        new = ap (λ n. has_name (names_of c.each.level) n) c.name_of-name.ensures.name ∙ new;
+      name = c.name_of-name.ensures.name;
+      new = ap (λ n. has_name (names_of c.each.level) n) c.name_of-name.ensures.name ∙ new;
     }
 
 pub count_one-requires : goal.count_one-requires
@@ -62,10 +62,10 @@ each-preserved c =
     let f = still_few c.each.at c.count_one.result d rest c.count_one.ensures few in
     let told = c.in_ok-level.ensures in
     record {
-        entries = ap (λ (s : Survey). c.in_ok-level.level ++ entries s.rules s.procedures rest) c.plus-at.ensures ∙ told.entries c.count_one.result c.count_one.ensures rest
-            ∙ ap (λ x. c.each.level ++ entries c.each.at.rules c.each.at.procedures x) (sym e) ∙ c.each.invariant.entries;
-        once = (seen.0 ++ name_of d ∷ [], (told.once seen.0 rest o, λ n h. has_more seen.0 (name_of d) n ∙ or_more (has_name (names_of c.each.level) n) (has_name seen.0 n) (same_name n (name_of d)) (seen.1.1 n) (told.names n h)));
-        few = subst (λ (s : Survey). s.rules + s.procedures + s.mains + declarations_in rest < 2 ^ 32) (sym c.plus-at.ensures) f.behind;
+      entries = ap (λ (s : Survey). c.in_ok-level.level ++ entries s.rules s.procedures rest) c.plus-at.ensures ∙ told.entries c.count_one.result c.count_one.ensures rest
+          ∙ ap (λ x. c.each.level ++ entries c.each.at.rules c.each.at.procedures x) (sym e) ∙ c.each.invariant.entries;
+      once = (seen.0 ++ name_of d ∷ [], (told.once seen.0 rest o, λ n h. has_more seen.0 (name_of d) n ∙ or_more (has_name (names_of c.each.level) n) (has_name seen.0 n) (same_name n (name_of d)) (seen.1.1 n) (told.names n h)));
+      few = subst (λ (s : Survey). s.rules + s.procedures + s.mains + declarations_in rest < 2 ^ 32) (sym c.plus-at.ensures) f.behind;
     }
 
 pub returns : goal.returns

@@ -177,6 +177,6 @@ number_rest-each-preserved t c =
     let count : length c.each.sets.items ≡ length c.args.sets.now.items + called_in_rest (take c.each.command-index c.args.commands.now) = ap length c.each.invariant.sets ∙ length-append c.args.sets.now.items (sets_in_rest (scope_of c.args.levels.now) (take c.each.command-index c.args.commands.now)) ∙ ap (λ n. length c.args.sets.now.items + n) (rest_counted (scope_of c.args.levels.now) (take c.each.command-index c.args.commands.now)) in
     record {
       commands = ap (map command_of) c.in_ok-push.ensures.items ∙ map-append command_of c.each.numbered.items (c.in_ok-number.field-0 ∷ []) ∙ ap (λ l. l ++ command_of c.in_ok-number.field-0 ∷ []) c.each.invariant.commands
-        ∙ ap (λ x. resolved_rest (scope_of c.args.levels.now) (length c.args.sets.now.items) (take c.each.command-index c.args.commands.now) ++ x ∷ []) (c.in_ok-number.ensures.command ∙ ap (λ n. resolved (scope_of c.args.levels.now) n (named c.command-item.result)) count) ∙ sym (ap (resolved_rest (scope_of c.args.levels.now) (length c.args.sets.now.items)) more ∙ rest_push (scope_of c.args.levels.now) (length c.args.sets.now.items) (take c.each.command-index c.args.commands.now) c.command-item.result);
+          ∙ ap (λ x. resolved_rest (scope_of c.args.levels.now) (length c.args.sets.now.items) (take c.each.command-index c.args.commands.now) ++ x ∷ []) (c.in_ok-number.ensures.command ∙ ap (λ n. resolved (scope_of c.args.levels.now) n (named c.command-item.result)) count) ∙ sym (ap (resolved_rest (scope_of c.args.levels.now) (length c.args.sets.now.items)) more ∙ rest_push (scope_of c.args.levels.now) (length c.args.sets.now.items) (take c.each.command-index c.args.commands.now) c.command-item.result);
       sets = c.in_ok-number.ensures.sets ∙ ap (λ l. l ++ sets_in (scope_of c.args.levels.now) (named c.command-item.result)) c.each.invariant.sets ∙ append_assoc c.args.sets.now.items (sets_in_rest (scope_of c.args.levels.now) (take c.each.command-index c.args.commands.now)) (sets_in (scope_of c.args.levels.now) (named c.command-item.result)) ∙ ap (λ l. c.args.sets.now.items ++ l) (sym (ap (sets_in_rest (scope_of c.args.levels.now)) more ∙ sets_push (scope_of c.args.levels.now) (take c.each.command-index c.args.commands.now) c.command-item.result));
     }

@@ -81,14 +81,14 @@ first_unknown-each-preserved t c =
     let few = few_here ds i d c.each.at c.each-test.true c.declaration-item.is c.each.invariant.few in
     let f = still_few c.each.at c.count_one.result d rest c.count_one.ensures few in
     record {
-        told = ap (λ (s : Survey). first_told unknown_of (bodies_in_text (scope_of c.args.levels.now.items) s.rules s.procedures rest)) c.plus-behind.ensures
-            ∙ ap (λ l. first_told unknown_of (bodies_in_text (scope_of l) (c.each.at.rules + c.count_one.result.rules) (c.each.at.procedures + c.count_one.result.procedures) rest)) (sym c.each.invariant.levels)
-            ∙ sym (none_told c.in_ok-found.found (λ x. x.now) _ (sym c.if-is_some.ensures)) ∙ sym (c.in_ok-found.ensures.told c.count_one.result c.count_one.ensures rest)
-            ∙ ap (λ o. first_told unknown_of (bodies_in_text (scope_of c.each.levels.items) c.each.at.rules c.each.at.procedures o)) (sym e)
-            ∙ ap (λ l. first_told unknown_of (bodies_in_text (scope_of l) c.each.at.rules c.each.at.procedures (outline (drop i ds)))) c.each.invariant.levels ∙ c.each.invariant.told;
-        levels = c.in_ok-found.ensures.levels ∙ c.each.invariant.levels;
-        once = (once.0 ++ name_of d ∷ [], c.in_ok-found.ensures.once once.0 rest o);
-        few = subst (λ (s : Survey). s.rules + s.procedures + s.mains + declarations_in rest < 2 ^ 32) (sym c.plus-behind.ensures) f.behind;
+      told = ap (λ (s : Survey). first_told unknown_of (bodies_in_text (scope_of c.args.levels.now.items) s.rules s.procedures rest)) c.plus-behind.ensures
+          ∙ ap (λ l. first_told unknown_of (bodies_in_text (scope_of l) (c.each.at.rules + c.count_one.result.rules) (c.each.at.procedures + c.count_one.result.procedures) rest)) (sym c.each.invariant.levels)
+          ∙ sym (none_told c.in_ok-found.found (λ x. x.now) _ (sym c.if-is_some.ensures)) ∙ sym (c.in_ok-found.ensures.told c.count_one.result c.count_one.ensures rest)
+          ∙ ap (λ o. first_told unknown_of (bodies_in_text (scope_of c.each.levels.items) c.each.at.rules c.each.at.procedures o)) (sym e)
+          ∙ ap (λ l. first_told unknown_of (bodies_in_text (scope_of l) c.each.at.rules c.each.at.procedures (outline (drop i ds)))) c.each.invariant.levels ∙ c.each.invariant.told;
+      levels = c.in_ok-found.ensures.levels ∙ c.each.invariant.levels;
+      once = (once.0 ++ name_of d ∷ [], c.in_ok-found.ensures.once once.0 rest o);
+      few = subst (λ (s : Survey). s.rules + s.procedures + s.mains + declarations_in rest < 2 ^ 32) (sym c.plus-behind.ensures) f.behind;
     }
 
 pub unknown_within-with_procedure-within-requires-clause-procedures : goal.unknown_within-with_procedure-within-requires-clause-procedures
@@ -126,21 +126,21 @@ pub unknown_within-returns-after-branch-4-clause-told : goal.unknown_within-retu
 unknown_within-returns-after-branch-4-clause-told t c =
     let p = c.in-Procedure in
     let scope = pushed_scope c.args.at c.with_procedure-within.result p.name p.declarations c.as_slice.result.now c.args.levels.now.items c.push.new.self.items c.in_ok-level_of-in-Procedure.field-0
-        c.with_procedure-within.ensures c.as_slice.ensures c.in_ok-level_of-in-Procedure.ensures c.in_ok-push-in-Procedure.ensures.items in
+    c.with_procedure-within.ensures c.as_slice.ensures c.in_ok-level_of-in-Procedure.ensures c.in_ok-push-in-Procedure.ensures.items in
     let told = inner_told c.args.at c.with_procedure-within.result p.name p.declarations c.as_slice-in-Procedure.result.now (scope_of c.push.new.self.items) _ (option_copied c.in_ok-found-in-Procedure.found)
-        c.with_procedure-within.ensures c.as_slice-in-Procedure.ensures scope c.in_ok-found-in-Procedure.ensures.told in
+    c.with_procedure-within.ensures c.as_slice-in-Procedure.ensures scope c.in_ok-found-in-Procedure.ensures.told in
     let s = scope_of c.args.levels.now.items in
     let within = scope_within s c.args.at.rules c.args.at.procedures p.name (outline p.declarations) in
     let both = ap (λ o. option_or o (unknown_in within (named p.body))) told in
     elim c.match-branch-4.branch [
-        goal.unknown_within-in-None w ↦
-            let here = ap (λ l. unknown_in (scope_of l) (named p.body)) (w.as_slice-in-None.ensures.value ∙ c.in_ok-found-in-Procedure.ensures.levels) ∙ ap (λ x. unknown_in x (named p.body)) scope in
-            let f = ap option_copied w.found-is ∙ in_both (λ x. x.now) c.in_ok-found-in-Procedure.found w.unknown_in-found.result _ w.in-None.is (w.unknown_in-found.ensures ∙ here) ∙ both in
-            procedure_tells c.args.declaration.now p.name p.declarations p.body s c.args.at.rules c.args.at.procedures (option_copied c.match-branch-4.found) p.is f
+      | goal.unknown_within-in-None w ↦
+          let here = ap (λ l. unknown_in (scope_of l) (named p.body)) (w.as_slice-in-None.ensures.value ∙ c.in_ok-found-in-Procedure.ensures.levels) ∙ ap (λ x. unknown_in x (named p.body)) scope in
+          let f = ap option_copied w.found-is ∙ in_both (λ x. x.now) c.in_ok-found-in-Procedure.found w.unknown_in-found.result _ w.in-None.is (w.unknown_in-found.ensures ∙ here) ∙ both in
+          procedure_tells c.args.declaration.now p.name p.declarations p.body s c.args.at.rules c.args.at.procedures (option_copied c.match-branch-4.found) p.is f
       | goal.unknown_within-in_default w ↦
-            let f = in_first (λ x. x.now) c.in_ok-found-in-Procedure.found c.match-branch-4.found (unknown_in within (named p.body)) w.in_default.not-None w.found-is ∙ both in
-            procedure_tells c.args.declaration.now p.name p.declarations p.body s c.args.at.rules c.args.at.procedures (option_copied c.match-branch-4.found) p.is f
-      ]
+          let f = in_first (λ x. x.now) c.in_ok-found-in-Procedure.found c.match-branch-4.found (unknown_in within (named p.body)) w.in_default.not-None w.found-is ∙ both in
+          procedure_tells c.args.declaration.now p.name p.declarations p.body s c.args.at.rules c.args.at.procedures (option_copied c.match-branch-4.found) p.is f
+    ]
 
 pub unknown_within-returns-in-Rule-clause-once : goal.unknown_within-returns-in-Rule-clause-once
 unknown_within-returns-in-Rule-clause-once t c = rule_once c.args.declaration.now c.in-Rule.field-0 c.in-Rule.is
