@@ -50,28 +50,44 @@ fn call(alloc: Global, bytes: &[u8]) -> Result<CommandTree, Fail> {
     Ok(CommandTree::Call(names))
 }
 
+fn has_no_main(answer: &Result<(), ScopeFault>) -> bool {
+    matches!(answer, Err(ScopeFault::NoMain))
+}
+
+fn has_two_mains(answer: &Result<(), ScopeFault>) -> bool {
+    matches!(answer, Err(ScopeFault::TwoMains))
+}
+
+fn has_two(answer: &Result<(), ScopeFault>, bytes: &[u8]) -> bool {
+    match answer {
+        Err(ScopeFault::TwoRules(name)) => name.as_bytes() == bytes,
+        _ => false,
+    }
+}
+
+fn misses(answer: &Result<(), ScopeFault>, bytes: &[u8]) -> bool {
+    match answer {
+        Err(ScopeFault::Unknown(name)) => name.as_bytes() == bytes,
+        _ => false,
+    }
+}
+
 #[test]
 fn first_fault_of_names_is_told(rt: HostRuntime) -> Result<(), Fail> {
     let alloc = rt.alloc();
     let rules = [rule(alloc, b"r")?, rule(alloc, b"r")?];
-    assert!(rt; matches!(check_names(alloc, &rules), Err(ScopeFault::NoMain)));
+    assert!(rt; has_no_main(&check_names(alloc, &rules)));
     let mains = [
         main_is(alloc, CommandTree::Skip)?,
         main_is(alloc, CommandTree::Skip)?,
     ];
-    assert!(rt; matches!(check_names(alloc, &mains), Err(ScopeFault::TwoMains)));
-    let doubled = [
-        main_is(alloc, call(alloc, b"q")?)?,
-        rule(alloc, b"r")?,
-        rule(alloc, b"r")?,
-    ];
-    assert!(rt; matches!(check_names(alloc, &doubled), Err(ScopeFault::TwoRules(_))));
-    let unknown = [main_is(alloc, call(alloc, b"q")?)?, rule(alloc, b"r")?];
-    let told = match check_names(alloc, &unknown) {
-        Err(ScopeFault::Unknown(name)) => name.as_bytes() == b"q".as_slice(),
-        _ => false,
-    };
-    assert!(rt; told);
+    assert!(rt; has_two_mains(&check_names(alloc, &mains)));
+    let mut declarations = Vec::new(alloc);
+    declarations.push(main_is(alloc, call(alloc, b"q")?)?)?;
+    declarations.push(rule(alloc, b"r")?)?;
+    assert!(rt; misses(&check_names(alloc, declarations.as_slice()), b"q"));
+    declarations.push(rule(alloc, b"r")?)?;
+    assert!(rt; has_two(&check_names(alloc, declarations.as_slice()), b"r"));
     Ok(())
 }
 
