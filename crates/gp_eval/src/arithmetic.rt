@@ -32,8 +32,8 @@ pub fn number(alloc: Global, z: &i128) -> Result<List, Missing>
     Ok(single(alloc, Atom::Int(*z))?)
 }
 
-// A list of one integer as that integer, another as 0.
-fn integer(list: &List) -> i128
+/// A list of one integer as that integer, another as 0.
+pub fn integer(list: &List) -> i128
     ensures { result ≡ integer list.now }
 {
     match list.atoms() {

@@ -1,8 +1,8 @@
-//! Values by hand.
+//! Values and conditions by hand.
 
-use crate::{Valued, value};
+use crate::{Valued, holds, value};
 use gp_graph::Graph;
-use gp_syntax::{Assignment, Expr};
+use gp_syntax::{Assignment, Comparison, Cond, Expr};
 use gp_values::Atom;
 use std::test::Fail;
 
@@ -16,5 +16,29 @@ fn numeral_has_its_value(rt: HostRuntime) -> Result<(), Fail> {
         _ => false,
     };
     assert!(rt; seen);
+    Ok(())
+}
+
+#[test]
+fn integers_are_compared(rt: HostRuntime) -> Result<(), Fail> {
+    let alloc = rt.alloc();
+    let assignment = Assignment::new(alloc, &[])?;
+    let graph = Graph::new(alloc);
+    let table = [
+        (Comparison::Equal, false),
+        (Comparison::NotEqual, true),
+        (Comparison::Less, true),
+        (Comparison::LessEqual, true),
+        (Comparison::Greater, false),
+        (Comparison::GreaterEqual, false),
+    ];
+    for (comparison, expected) in table {
+        let condition = Cond::Compared(comparison, Expr::Number(-7), Expr::Number(2));
+        let seen = match holds(alloc, &condition, &assignment, &[], &graph) {
+            Valued::Value(seen) => seen == expected,
+            _ => false,
+        };
+        assert!(rt; seen);
+    }
     Ok(())
 }

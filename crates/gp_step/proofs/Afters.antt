@@ -30,7 +30,7 @@ some_same e = cc
 pub behind : (t : ℕ) (ts : List ℕ) (n : ℕ) → Contains ts n → Contains (t ∷ ts) n
 behind t ts n c = let l : c.0 < length ts = c.1 in (suc c.0, omega arith, c.2)
 
-at_head : (t : ℕ) (ts : List ℕ) (n : ℕ) → t ≡ n → Contains (t ∷ ts) n
+pub at_head : (t : ℕ) (ts : List ℕ) (n : ℕ) → t ≡ n → Contains (t ∷ ts) n
 at_head t ts n e = (0, omega arith, e)
 
 pub split_head : (t : ℕ) (ts : List ℕ) (n : ℕ) → Contains (t ∷ ts) n → (t ≡ n) ⊎ Contains ts n
@@ -40,10 +40,10 @@ split_head t ts n c = by c.0 c.1 c.2
     by zero l e = inl e
     by (suc k) l e = inr (k, omega arith, e)
 
-apart_rest : (t : ℕ) (ts : List ℕ) → AreApart (t ∷ ts) → AreApart ts
+pub apart_rest : (t : ℕ) (ts : List ℕ) → AreApart (t ∷ ts) → AreApart ts
 apart_rest t ts h i j l k e = h (suc i) (suc j) (omega arith) (omega arith) e
 
-apart_head : (t : ℕ) (ts : List ℕ) → AreApart (t ∷ ts) → Contains ts t → ⊥
+pub apart_head : (t : ℕ) (ts : List ℕ) → AreApart (t ∷ ts) → Contains ts t → ⊥
 apart_head t ts h c =
     let l : c.0 < length ts = c.1 in
     h 0 (suc c.0) (omega arith) (omega arith) (sym (get_or_default ts c.0 0 t c.1 ∙ c.2))
@@ -95,7 +95,7 @@ pub drop_edges_nodes : (ns : List ℕ) (h : Graph) → (drop_edges ns h).nodes �
 drop_edges_nodes [] h = refl
 drop_edges_nodes (k ∷ ns) h = drop_edges_nodes ns (without_edge h k)
 
-drop_edges_next_node : (ns : List ℕ) (h : Graph) → (drop_edges ns h).next_node ≡ h.next_node
+pub drop_edges_next_node : (ns : List ℕ) (h : Graph) → (drop_edges ns h).next_node ≡ h.next_node
 drop_edges_next_node [] h = refl
 drop_edges_next_node (k ∷ ns) h = drop_edges_next_node ns (without_edge h k)
 
@@ -107,7 +107,7 @@ pub drop_nodes_edges : (ns : List ℕ) (h : Graph) → (drop_nodes ns h).edges �
 drop_nodes_edges [] h = refl
 drop_nodes_edges (k ∷ ns) h = drop_nodes_edges ns (without_node h k)
 
-drop_nodes_next_node : (ns : List ℕ) (h : Graph) → (drop_nodes ns h).next_node ≡ h.next_node
+pub drop_nodes_next_node : (ns : List ℕ) (h : Graph) → (drop_nodes ns h).next_node ≡ h.next_node
 drop_nodes_next_node [] h = refl
 drop_nodes_next_node (k ∷ ns) h = drop_nodes_next_node ns (without_node h k)
 
@@ -129,7 +129,7 @@ gone_by : (b : Bool) (ks ns : List ℕ) (k n : ℕ) → (Contains ks n → Conta
 gone_by true ks ns k n h c = behind k ns n (h c)
 gone_by false ks ns k n h c = elim (split_head k ks n c) [ inl s ↦ at_head k ns n s | inr d ↦ behind k ns n (h d) ]
 
-gone_of : (kept : ℕ → Bool) (ns : List ℕ) (n : ℕ) → Contains (gone kept ns) n → Contains ns n
+pub gone_of : (kept : ℕ → Bool) (ns : List ℕ) (n : ℕ) → Contains (gone kept ns) n → Contains ns n
 gone_of kept [] n c = c
 gone_of kept (k ∷ ns) n c = gone_by (kept 0) (gone (λ i. kept (suc i)) ns) ns k n (gone_of (λ i. kept (suc i)) ns n) c
 
@@ -139,7 +139,7 @@ next_is : (o : Option ℕ) (k : ℕ) → next_of o k ≡ k + cond (is_none o) 1 
 next_is None k = refl
 next_is (Some i) k = omega arith
 
-length-images : (m : Found) (qs : List RightNode) (k : ℕ) → length (images_from m qs k) ≡ length qs
+pub length-images : (m : Found) (qs : List RightNode) (k : ℕ) → length (images_from m qs k) ≡ length qs
 length-images m [] k = refl
 length-images m (q ∷ qs) k = ap suc (length-images m qs (next_of q.origin k))
 

@@ -22,11 +22,11 @@ use Rattle.gp_syntax.proofs.Unique.{element}
 use Rattle.gp_syntax.proofs.Kept.{Decides-kept}
 use Rattle.gp_step.proofs.Afters.{both_values, has_values, applying_steps, only_steps, behind, split_head, edges_dropped, edges_left, nodes_left, drop_edges_nodes, there, kept_apart, stands, last_nodes}
 
-whole_edges : (es : List ℕ) (h : Graph) → IsGraph h → IsGraph (drop_edges es h)
+pub whole_edges : (es : List ℕ) (h : Graph) → IsGraph h → IsGraph (drop_edges es h)
 whole_edges [] h w = w
 whole_edges (e ∷ es) h w = whole_edges es (without_edge h e) (IsGraph-without_edge h e w)
 
-whole_nodes : (ns : List ℕ) (h : Graph) → IsGraph h → ((n : ℕ) → Contains ns n → HasNoEdges h n) → IsGraph (drop_nodes ns h)
+pub whole_nodes : (ns : List ℕ) (h : Graph) → IsGraph h → ((n : ℕ) → Contains ns n → HasNoEdges h n) → IsGraph (drop_nodes ns h)
 whole_nodes [] h w f = w
 whole_nodes (n ∷ ns) h w f = whole_nodes ns (without_node h n) (IsGraph-without_node h n w (f n (0, omega arith, refl))) (λ k c. f k (behind n ns k c))
 
@@ -52,7 +52,7 @@ whole_put_edges (d ∷ ds) h w f =
     whole_put_edges ds (with_edge h d) (IsGraph-with_edge h d w k.0 k.1 k.2) (λ j e i. f (suc j) e i)
 
 -- the place of what is gone
-gone_place : (kept : ℕ → Bool) (ns : List ℕ) (n : ℕ) → Contains (gone kept ns) n → (i : ℕ) × (i < length ns) × (slice_index ns i ≡ n) × (kept i ≡ false)
+pub gone_place : (kept : ℕ → Bool) (ns : List ℕ) (n : ℕ) → Contains (gone kept ns) n → (i : ℕ) × (i < length ns) × (slice_index ns i ≡ n) × (kept i ≡ false)
 gone_place kept [] n c = let l : c.0 < 0 = c.1 in absurd (omega arith)
 gone_place kept (k ∷ ns) n c = by (kept 0) refl c (gone_place (λ i. kept (suc i)) ns n)
   where
@@ -66,14 +66,14 @@ gone_place kept (k ∷ ns) n c = by (kept 0) refl c (gone_place (λ i. kept (suc
         ]
 
 module _ (r : Rule) (g : Graph) (m : Found) (a : Assignment) (whole : IsGraph g) (w : MatchBy r g m a) (o : IsWellFormed r) where
-  abbrev without : Graph
+  abbrev pub without : Graph
   without = drop_edges m.edges g
 
-  abbrev cleared : Graph
+  abbrev pub cleared : Graph
   cleared = drop_nodes (gone (is_kept r) m.nodes) without
 
   -- no edge is left at a node that goes
-  free : (n : ℕ) → Contains (gone (is_kept r) m.nodes) n → HasNoEdges without n
+  pub free : (n : ℕ) → Contains (gone (is_kept r) m.nodes) n → HasNoEdges without n
   free n c e d h =
       let p = gone_place (is_kept r) m.nodes n c in
       let l : p.0 < length m.nodes = p.1 in
@@ -84,7 +84,7 @@ module _ (r : Rule) (g : Graph) (m : Found) (a : Assignment) (whole : IsGraph g)
       (λ s. apart (w.dangling p.0 e d (omega arith) unkept f (inl (s ∙ sym p.2))), λ s. apart (w.dangling p.0 e d (omega arith) unkept f (inr (s ∙ sym p.2))))
 
   -- a kept node is still there
-  kept_stays : (j i : ℕ) (q : RightNode) → slice_get r.right_nodes j ≡ Some q → q.origin ≡ Some i → IsSome (node_at cleared (slice_index m.nodes i))
+  pub kept_stays : (j i : ℕ) (q : RightNode) → slice_get r.right_nodes j ≡ Some q → q.origin ≡ Some i → IsSome (node_at cleared (slice_index m.nodes i))
   kept_stays j i q h e =
       let l = o.origins j i q h e in
       let p = element r.left_nodes i l in
@@ -99,7 +99,7 @@ module _ (r : Rule) (g : Graph) (m : Found) (a : Assignment) (whole : IsGraph g)
       rw same (there _ _ (w.nodes i p.0 p.1))
 
   -- an image of a right node is there before the edges are put
-  abbrev made : Graph
+  abbrev pub made : Graph
   made = put_nodes m (made_node r g m a) r.right_nodes cleared
 
   end_there : (k : ℕ) → k < length r.right_nodes → IsSome (node_at made (slice_index (images_of r g m) k))
@@ -109,7 +109,7 @@ module _ (r : Rule) (g : Graph) (m : Found) (a : Assignment) (whole : IsGraph g)
       sym (last_nodes r g m a whole w o (slice_index (images_of r g m) k)) ∙ stands r g m a whole w o k q.0 q.1 in
       rw e refl
 
-  either_end : (b : Bool) (j k : ℕ) → j < length r.right_nodes → k < length r.right_nodes → IsSome (node_at made (slice_index (images_of r g m) (if b then j else k)))
+  pub either_end : (b : Bool) (j k : ℕ) → j < length r.right_nodes → k < length r.right_nodes → IsSome (node_at made (slice_index (images_of r g m) (if b then j else k)))
   either_end true j k l n = end_there j l
   either_end false j k l n = end_there k n
 
@@ -127,15 +127,15 @@ module _ (r : Rule) (g : Graph) (m : Found) (a : Assignment) (whole : IsGraph g)
 
 -- ---- of a checked rule
 
-at_label : (P : Expression ℕ → Type 0) (es : List (Expression ℕ)) → All P es → (j : ℕ) (e : Expression ℕ) → slice_get es j ≡ Some e → P e
+pub at_label : (P : Expression ℕ → Type 0) (es : List (Expression ℕ)) → All P es → (j : ℕ) (e : Expression ℕ) → slice_get es j ≡ Some e → P e
 at_label P es h j e i = subst P (get_or_from_slice_get es j e e i) (h j e (slice_get_within es j e i))
 
-all_left : (P : Expression ℕ → Type 0) (es fs : List (Expression ℕ)) → All P (es ++ fs) → (j : ℕ) (e : Expression ℕ) → slice_get es j ≡ Some e → P e
+pub all_left : (P : Expression ℕ → Type 0) (es fs : List (Expression ℕ)) → All P (es ++ fs) → (j : ℕ) (e : Expression ℕ) → slice_get es j ≡ Some e → P e
 all_left P [] fs h j e i = absurd (none-some e i)
 all_left P (x ∷ es) fs h zero e i = at_label P (x ∷ es ++ fs) h zero e i
 all_left P (x ∷ es) fs h (suc j) e i = all_left P es fs (λ k d l. h (suc k) d (omega arith)) j e i
 
-all_right : (P : Expression ℕ → Type 0) (es fs : List (Expression ℕ)) → All P (es ++ fs) → All P fs
+pub all_right : (P : Expression ℕ → Type 0) (es fs : List (Expression ℕ)) → All P (es ++ fs) → All P fs
 all_right P [] fs h = h
 all_right P (x ∷ es) fs h = all_right P es fs (λ k d l. h (suc k) d (omega arith))
 

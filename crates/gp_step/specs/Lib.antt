@@ -1,3 +1,4 @@
 pub mod After
 pub mod inside
 pub mod Laws
+pub mod Undo

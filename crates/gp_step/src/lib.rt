@@ -1,7 +1,25 @@
-//! The step that an applying match makes: what it leads to.
+//! The step that an applying match makes, and what takes it back.
 //!
-//! `specs/After` has the graph as a function, for those who need one, and the law in `laws` ties it to the relation
-//! `Step` of gp_syntax, which is what a reader believes.
+//! `apply` makes the step of a match that applies, on a graph in memory; all growths come first, so that on refusal the graph
+//! is as before. `undo` takes it back: the very graph from before is there again, next numbers included, and it takes no memory.
+//! `specs/Undo` says what an `Undo` does, as edits of a graph one after another. `specs/After` has the graph that a match
+//! leads to as a function, and the law in `laws` ties it to the relation `Step` of gp_syntax, which is what a reader
+//! believes.
 #![tactic(auto)]
 
+mod applying;
+mod edits;
+mod inverse;
+mod inverses;
 pub mod laws;
+mod made;
+pub mod sample;
+mod step;
+mod taking_back;
+#[cfg(test)]
+mod tests;
+
+pub use applying::apply;
+pub use inverse::Inverse;
+pub use inverses::Undo;
+pub use taking_back::undo;

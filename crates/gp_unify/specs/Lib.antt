@@ -1,3 +1,5 @@
 pub mod Known
+pub mod Extension
+pub mod Matched
 pub mod inside
 pub mod Laws

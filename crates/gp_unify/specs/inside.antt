@@ -1,2 +1,4 @@
 pub mod Unify
 pub mod Candidate
+pub mod Trail
+pub mod Reading

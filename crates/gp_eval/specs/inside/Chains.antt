@@ -1,5 +1,5 @@
 -- Chains valued from the left, operand by operand.
-use Rattle.std.specs.Prelude.{◌≡◌, ℕ, ℤ, ◌+ℤ◌, ◌-ℤ◌, ◌*ℤ◌, List, [], ◌∷◌, ◌++◌, Result, Ok, Err}
+use Rattle.std.specs.Prelude.{◌≡◌, ℕ, ℤ, ◌+ℤ◌, ◌-ℤ◌, ◌*ℤ◌, Bool, true, false, if◌then◌else◌, List, [], ◌∷◌, ◌++◌, Result, Ok, Err}
 use Rattle.gp_memory.specs.Free.{Free}
 use Rattle.gp_values.specs.declared.atom.Atom.{Atom}
 use Rattle.gp_values.specs.declared.atom.Atom.TheVariants.{Str}
@@ -9,7 +9,11 @@ use Rattle.gp_syntax.specs.declared.expression.SumSign.{SumSign}
 use Rattle.gp_syntax.specs.declared.expression.SumSign.TheVariants as sums
 use Rattle.gp_syntax.specs.declared.expression.ProductSign.{ProductSign}
 use Rattle.gp_syntax.specs.declared.expression.ProductSign.TheVariants as products
-use Rattle.gp_syntax.specs.Tree.{expression_of}
+use Rattle.gp_syntax.specs.declared.expression.Cond.{Cond}
+use Rattle.gp_syntax.specs.declared.rule.MarkPattern.{MarkPattern as Pattern}
+use Rattle.gp_values.specs.declared.marks.EdgeMark.{EdgeMark}
+use Rattle.gp_syntax.specs.Truth.{truth_of}
+use Rattle.gp_syntax.specs.Tree.{expression_of, condition_of, pattern_of}
 use Rattle.gp_syntax.specs.Value.{Setting, Valued, Value, NoValue, ◌>>=◌, value_of, ranged, quotient, integer, characters}
 use Rattle.gp_eval.specs.declared.valued.Missing.{Missing}
 use Rattle.gp_eval.specs.declared.valued.Missing.TheVariants as missing
@@ -43,3 +47,11 @@ dot_step s v e = v >>= λ x. value_of (expression_of e) s >>= λ y. Value (Str (
 
 abbrev pub join_step : Setting → Valued (List Atom) → Expr ℕ → Valued (List Atom)
 join_step s v e = v >>= λ x. value_of (expression_of e) s >>= λ y. Value (x ++ y)
+
+-- ---- conditions
+
+abbrev pub and_step : Setting → Valued Bool → Cond ℕ (Pattern EdgeMark) → Valued Bool
+and_step s v c = v >>= λ x. if x then truth_of (condition_of pattern_of c) s else Value false
+
+abbrev pub or_step : Setting → Valued Bool → Cond ℕ (Pattern EdgeMark) → Valued Bool
+or_step s v c = v >>= λ x. if x then Value true else truth_of (condition_of pattern_of c) s

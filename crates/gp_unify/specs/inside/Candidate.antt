@@ -10,9 +10,16 @@ use Rattle.gp_syntax.specs.WellFormed.{left_labels}
 use Rattle.gp_unify.specs.Known.{Known, nothing_known}
 use Rattle.gp_unify.specs.inside.Unify.{unify_all}
 
+-- the labels of nodes, and of edges, of these numbers
+abbrev pub node_labels : Graph → List ℕ → List (Option (List Atom))
+node_labels g ns = map (λ n. option_map (λ (x : Node). x.label) (node_at g n)) ns
+
+abbrev pub edge_labels : Graph → List ℕ → List (Option (List Atom))
+edge_labels g es = map (λ e. option_map (λ (d : Edge). d.label) (edge_at g e)) es
+
 -- what the host carries at the images of the left side
 abbrev pub found_labels : Graph → Found → List (Option (List Atom))
-found_labels g m = map (λ n. option_map (λ (x : Node). x.label) (node_at g n)) m.nodes ++ map (λ e. option_map (λ (d : Edge). d.label) (edge_at g e)) m.edges
+found_labels g m = node_labels g m.nodes ++ edge_labels g m.edges
 
 -- the values of the first variables, `empty` where none is known
 abbrev pub listed : ℕ → Known → Assignment

@@ -1,0 +1,119 @@
+-- Unknown names in expressions and conditions, part by part.
+use Rattle.std.proofs.Common.{◌≡◌, ℤ, ℕ, List, [], ◌∷◌, ◌++◌, Option, Some, None, refl, sym, ap, ◌∙◌}
+use Rattle.std.specs.Option.{option_or}
+use Rattle.gp_values.specs.Names.{Name, first_unknown}
+use Rattle.gp_syntax.specs.declared.expression.Expr.{Expr}
+use Rattle.gp_syntax.specs.declared.expression.Cond.{Cond}
+use Rattle.gp_syntax.specs.declared.kinds.VariableType.{VariableType}
+use Rattle.gp_syntax.specs.declared.kinds.Comparison.{Comparison}
+use Rattle.gp_syntax.specs.Expression.{Expression, Number, Text, Variable, In_degree, Out_degree, Length_of, Negated, Empty, HasType, HasEdge, HasEdgeWith, Compared, Not}
+use Rattle.gp_syntax.specs.Declaration.{variables_in, nodes_in}
+use Rattle.gp_syntax.specs.Fault.{first_told}
+use Rattle.gp_syntax.specs.Tree.{expression_of}
+use Rattle.gp_syntax.proofs.Told.{unknown_append}
+use Rattle.gp_clauses.specs.declared.shape.Operation.{Operation}
+use Rattle.gp_clauses.specs.declared.shape.Operation.TheVariants as operations
+use Rattle.gp_clauses.specs.declared.known.Known.{Known}
+use Rattle.gp_clauses.specs.declared.known.Known.TheVariants as known
+use Rattle.gp_clauses.specs.inside.Shapes.{applied, with_operand, chain}
+use Rattle.gp_clauses.specs.declared.condition_shape.Connective.{Connective}
+use Rattle.gp_clauses.specs.declared.condition_shape.Connective.TheVariants as connectives
+use Rattle.gp_clauses.specs.inside.ConditionShapes.{NamedCondition, named_condition, connected, with_part, condition_chain}
+use Rattle.gp_clauses.specs.inside.Known.{names_known, references, references_in_condition, unknown_in, unknown_in_condition}
+
+pub unknown-Number : (k : Known) (z : ℤ) → unknown_in k (Number z) ≡ None
+unknown-Number (known.Nodes s) z = refl
+unknown-Number (known.Variables t) z = refl
+
+pub unknown-Text : (k : Known) (s : List ℕ) → unknown_in k (Text s) ≡ None
+unknown-Text (known.Nodes s) z = refl
+unknown-Text (known.Variables t) z = refl
+
+pub unknown-Empty : (k : Known) → unknown_in k Empty ≡ None
+unknown-Empty (known.Nodes s) = refl
+unknown-Empty (known.Variables t) = refl
+
+pub unknown-Out_degree : (k : Known) (n : Name) → unknown_in k (Out_degree n) ≡ unknown_in k (In_degree n)
+unknown-Out_degree (known.Nodes s) n = refl
+unknown-Out_degree (known.Variables t) n = refl
+
+pub unknown-Length_of : (k : Known) (n : Name) → unknown_in k (Length_of n) ≡ unknown_in k (Variable n)
+unknown-Length_of (known.Nodes s) n = refl
+unknown-Length_of (known.Variables t) n = refl
+
+pub unknown-Negated : (k : Known) (e : Expression Name) → unknown_in k (Negated e) ≡ unknown_in k e
+unknown-Negated (known.Nodes s) e = refl
+unknown-Negated (known.Variables t) e = refl
+
+pub or_none : {A : Type 0} (a : Option A) → option_or a None ≡ a
+or_none None = refl
+or_none (Some x) = refl
+
+pub or_assoc : {A : Type 0} (a b c : Option A) → option_or (option_or a b) c ≡ option_or a (option_or b c)
+or_assoc None b c = refl
+or_assoc (Some x) b c = refl
+
+references_applied : (k : Known) (op : Operation) (d e : Expression Name) → references k (applied op d e) ≡ references k d ++ references k e
+references_applied (known.Nodes s) operations.Plus d e = refl
+references_applied (known.Nodes s) operations.Minus d e = refl
+references_applied (known.Nodes s) operations.Times d e = refl
+references_applied (known.Nodes s) operations.Over d e = refl
+references_applied (known.Nodes s) operations.Dot d e = refl
+references_applied (known.Nodes s) operations.Join d e = refl
+references_applied (known.Variables t) operations.Plus d e = refl
+references_applied (known.Variables t) operations.Minus d e = refl
+references_applied (known.Variables t) operations.Times d e = refl
+references_applied (known.Variables t) operations.Over d e = refl
+references_applied (known.Variables t) operations.Dot d e = refl
+references_applied (known.Variables t) operations.Join d e = refl
+
+pub unknown_applied : (k : Known) (op : Operation) (d e : Expression Name) → unknown_in k (applied op d e) ≡ option_or (unknown_in k d) (unknown_in k e)
+unknown_applied k op d e = ap (first_unknown (names_known k)) (references_applied k op d e) ∙ unknown_append (names_known k) (references k d) (references k e)
+
+abbrev pub unknown_at : Known → (Operation × Expr Name) → Option Name
+unknown_at k l = unknown_in k (expression_of l.1)
+
+pub unknown_chain : (k : Known) (e : Expression Name) (ls : List (Operation × Expr Name)) → unknown_in k (chain e ls) ≡ option_or (unknown_in k e) (first_told (unknown_at k) ls)
+unknown_chain k e [] = sym (or_none (unknown_in k e))
+unknown_chain k e (l ∷ ls) =
+    unknown_chain k (with_operand e l) ls ∙ ap (λ o. option_or o (first_told (unknown_at k) ls)) (unknown_applied k l.0 e (expression_of l.1))
+    ∙ or_assoc (unknown_in k e) (unknown_at k l) (first_told (unknown_at k) ls)
+
+-- ---- conditions
+
+pub unknown-HasType : (k : Known) (w : VariableType) (e : Expression Name) → unknown_in_condition k (HasType w e) ≡ unknown_in k e
+unknown-HasType (known.Nodes s) w e = refl
+unknown-HasType (known.Variables t) w e = refl
+
+pub unknown-HasEdge : (k : Known) (a b : Name) → unknown_in_condition k (HasEdge a b) ≡ option_or (unknown_in k (In_degree a)) (unknown_in k (In_degree b))
+unknown-HasEdge (known.Nodes s) a b = unknown_append (names_known (known.Nodes s)) (a ∷ []) (b ∷ [])
+unknown-HasEdge (known.Variables t) a b = refl
+
+pub unknown-HasEdgeWith : (k : Known) (a b : Name) (e : Expression Name) (m : Option Name) → unknown_in_condition k (HasEdgeWith a b e m) ≡ option_or (option_or (unknown_in k (In_degree a)) (unknown_in k (In_degree b))) (unknown_in k e)
+unknown-HasEdgeWith (known.Nodes s) a b e m =
+    unknown_append (names_known (known.Nodes s)) (a ∷ b ∷ []) (nodes_in e) ∙ ap (λ o. option_or o (unknown_in (known.Nodes s) e)) (unknown_append (names_known (known.Nodes s)) (a ∷ []) (b ∷ []))
+unknown-HasEdgeWith (known.Variables t) a b e m = refl
+
+pub unknown-Compared : (k : Known) (op : Comparison) (d e : Expression Name) → unknown_in_condition k (Compared op d e) ≡ option_or (unknown_in k d) (unknown_in k e)
+unknown-Compared (known.Nodes s) op d e = unknown_append (names_known (known.Nodes s)) (nodes_in d) (nodes_in e)
+unknown-Compared (known.Variables t) op d e = unknown_append (names_known (known.Variables t)) (variables_in d) (variables_in e)
+
+pub unknown-Not : (k : Known) (c : NamedCondition) → unknown_in_condition k (Not c) ≡ unknown_in_condition k c
+unknown-Not (known.Nodes s) c = refl
+unknown-Not (known.Variables t) c = refl
+
+references_connected : (k : Known) (by : Connective) (c d : NamedCondition) → references_in_condition k (connected by c d) ≡ references_in_condition k c ++ references_in_condition k d
+references_connected (known.Nodes s) connectives.And c d = refl
+references_connected (known.Nodes s) connectives.Or c d = refl
+references_connected (known.Variables t) connectives.And c d = refl
+references_connected (known.Variables t) connectives.Or c d = refl
+
+abbrev pub unknown_in_part : Known → Cond Name (Option Name) → Option Name
+unknown_in_part k d = unknown_in_condition k (named_condition d)
+
+pub unknown_condition_chain : (k : Known) (by : Connective) (c : NamedCondition) (ds : List (Cond Name (Option Name))) → unknown_in_condition k (condition_chain by c ds) ≡ option_or (unknown_in_condition k c) (first_told (unknown_in_part k) ds)
+unknown_condition_chain k by c [] = sym (or_none (unknown_in_condition k c))
+unknown_condition_chain k by c (d ∷ ds) =
+    unknown_condition_chain k by (with_part by c d) ds
+    ∙ ap (λ o. option_or o (first_told (unknown_in_part k) ds)) (ap (first_unknown (names_known k)) (references_connected k by c (named_condition d)) ∙ unknown_append (names_known k) (references_in_condition k c) (references_in_condition k (named_condition d)))
+    ∙ or_assoc (unknown_in_condition k c) (unknown_in_part k d) (first_told (unknown_in_part k) ds)

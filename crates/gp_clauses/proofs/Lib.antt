@@ -1,0 +1,9 @@
+pub mod ConditionShapes
+pub mod Told
+pub mod Parts
+pub mod Doubles
+pub mod Knowns
+pub mod Scopes
+pub mod Shapes
+pub mod Tables
+pub mod Walks

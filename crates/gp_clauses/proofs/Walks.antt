@@ -1,0 +1,48 @@
+-- Loops over what is left of a list, by the item at a place.
+use Rattle.std.proofs.Common.{◌≡◌, ℕ, zero, suc, ◌+◌, ◌<◌, ◌≤◌, ◌&&◌, Bool, true, false, get_or, List, [], ◌∷◌, length, fold, drop, Option, Some, None, slice_get, refl, sym, ap, ◌∙◌, add-one}
+use Rattle.std.specs.Option.{option_or}
+use Rattle.std.proofs.Math.ListN.{drop_of_length-le}
+use Rattle.std.specs.List.{list_all}
+use Rattle.std.proofs.lemmas.Option.{slice_get_read}
+use Rattle.gp_syntax.specs.Fault.{first_told}
+
+drop_suc : {A : Type 0} (xs : List A) (k : ℕ) (x : A) → slice_get xs k ≡ Some x → drop k xs ≡ x ∷ drop (suc k) xs
+drop_suc [] k x h = absurd cc
+drop_suc (y ∷ xs) zero x h = let e : y ≡ x = cc in ap (λ z. z ∷ xs) e
+drop_suc (y ∷ xs) (suc k) x h = drop_suc xs k x h
+
+pub drop_item : {A : Type 0} (xs : List A) (k : ℕ) (x : A) → slice_get xs k ≡ Some x → drop k xs ≡ x ∷ drop (k + 1) xs
+drop_item xs k x h = drop_suc xs k x h ∙ rw add-one refl
+
+-- one item more, in a fold
+pub fold_on : {A B : Type 0} (f : B → A → B) (xs : List A) (k : ℕ) (x : A) (a : B) → slice_get xs k ≡ Some x → fold f (f a x) (drop (k + 1) xs) ≡ fold f a (drop k xs)
+fold_on f xs k x a h = sym (ap (fold f a) (drop_item xs k x h))
+
+-- and past the last
+pub fold_ended : {A B : Type 0} (f : B → A → B) (xs : List A) (k : ℕ) (a : B) → length xs ≤ k → fold f a (drop k xs) ≡ a
+fold_ended f xs k a l = ap (fold f a) (drop_of_length-le xs l)
+
+-- an item of which nothing is told
+pub untold : {A B : Type 0} (f : A → Option B) (xs : List A) (k : ℕ) (x : A) → slice_get xs k ≡ Some x → f x ≡ None → first_told f (drop (k + 1) xs) ≡ first_told f (drop k xs)
+untold f xs k x h n = sym (ap (first_told f) (drop_item xs k x h) ∙ ap (λ o. option_or o (first_told f (drop (k + 1) xs))) n)
+
+-- an item of which something is told
+pub told_here : {A B : Type 0} (f : A → Option B) (xs : List A) (k : ℕ) (x : A) (y : B) → slice_get xs k ≡ Some x → f x ≡ Some y → first_told f (drop k xs) ≡ Some y
+told_here f xs k x y h s = ap (first_told f) (drop_item xs k x h) ∙ ap (λ o. option_or o (first_told f (drop (k + 1) xs))) s
+
+pub told_ended : {A B : Type 0} (f : A → Option B) (xs : List A) (k : ℕ) → length xs ≤ k → first_told f (drop k xs) ≡ None
+told_ended f xs k l = ap (first_told f) (drop_of_length-le xs l)
+
+pub fold_step : {A B : Type 0} (f : B → A → B) (xs : List A) (k : ℕ) (x : A) (a b m : B) → slice_get xs k ≡ Some x → b ≡ f a x → fold f a (drop k xs) ≡ m → fold f b (drop (k + 1) xs) ≡ m
+fold_step f xs k x a b m h e s = ap (λ z. fold f z (drop (k + 1) xs)) e ∙ fold_on f xs k x a h ∙ s
+
+-- ---- tests of all items
+
+pub all_fails : {A : Type 0} (p : A → Bool) (xs : List A) (k : ℕ) (x : A) → slice_get xs k ≡ Some x → p x ≡ false → list_all p (drop k xs) ≡ false
+all_fails p xs k x h f = ap (list_all p) (drop_item xs k x h) ∙ ap (λ b. b && list_all p (drop (k + 1) xs)) f
+
+pub all_ended : {A : Type 0} (p : A → Bool) (xs : List A) (k : ℕ) → length xs ≤ k → list_all p (drop k xs) ≡ true
+all_ended p xs k l = ap (list_all p) (drop_of_length-le xs l)
+
+pub item_at : {A : Type 0} (xs : List A) (k : ℕ) (x : A) → k < length xs → x ≡ get_or xs k x → slice_get xs k ≡ Some x
+item_at xs k x l e = slice_get_read xs _ k x refl l e

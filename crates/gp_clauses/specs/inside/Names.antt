@@ -1,0 +1,12 @@
+-- Names seen one after the other.
+use Rattle.std.specs.Prelude.{◌≡◌, List, ◌∷◌, ◌++◌, Option, None}
+use Rattle.gp_values.specs.Names.{Name, first_doubled_behind}
+use Rattle.gp_syntax.specs.declared.tree.VariableGroup.{VariableGroup}
+
+abbrev pub group_names : VariableGroup → List Name
+group_names g = g.first ∷ g.rest
+
+-- the first that stood before, or all of them behind those that were seen
+pub record Doubled (told : Option Name) (old new names : List Name) : Type 0 where
+  pub first : told ≡ first_doubled_behind old names
+  pub all : told ≡ None → new ≡ old ++ names

@@ -1,0 +1,160 @@
+//! Names that are unknown where they stand.
+
+ghost use Rattle.std.specs.Prelude.{◌≡◌, if◌then◌else◌, Some, None};
+ghost use Rattle.std.specs.Option.{option_copied, option_or};
+ghost use Rattle.gp_values.specs.Names.{has_name};
+ghost use Rattle.gp_syntax.specs.Declaration.{node_names};
+ghost use Rattle.gp_syntax.specs.Expression.{Variable, In_degree};
+ghost use Rattle.gp_syntax.specs.Tree.{side_of, expression_of};
+ghost use Rattle.gp_clauses.specs.inside.ConditionShapes.{named_condition};
+ghost use Rattle.gp_clauses.specs.inside.Known.{names_known, unknown_in, unknown_in_condition};
+
+use crate::condition_shape::{ConditionShape, condition_shape_of};
+use crate::shape::{Shape, shape_of};
+use gp_syntax::{Cond, Expr, GraphDecl, Name, NameTable};
+
+/// Which names are asked for, and which of them are known: the nodes of a side, or variables.
+#[derive(Clone, Copy)]
+pub enum Known<'k> {
+    Nodes(&'k GraphDecl),
+    Variables(&'k NameTable),
+}
+
+/// Whether a side has a node of this name.
+pub fn has_node(side: &GraphDecl, name: &Name) -> bool
+    ensures { result ≡ has_name (node_names (side_of side.now)) name.now }
+{
+    for node in side.nodes.as_slice() {
+        if name.same(&node.name) {
+            return true;
+        }
+    }
+    false
+}
+
+impl<'k> Known<'k> {
+    fn has(self, name: &Name) -> bool
+        ensures { result ≡ has_name (names_known self.entry) name.now }
+    {
+        match self {
+            Known::Nodes(side) => has_node(side, name),
+            Known::Variables(table) => table.has(name.as_bytes()),
+        }
+    }
+
+    /// The name, where it is not known.
+    pub fn unknown<'a>(self, name: &'a Name) -> Option<&'a Name>
+        ensures { option_copied result ≡ (if has_name (names_known self.entry) name.now then None else Some name.now) }
+    {
+        if self.has(name) { None } else { Some(name) }
+    }
+
+    fn unknown_variable<'a>(self, name: &'a Name) -> Option<&'a Name>
+        ensures { option_copied result ≡ unknown_in self.entry (Variable name.now) }
+    {
+        match self {
+            Known::Nodes(_) => None,
+            Known::Variables(_) => self.unknown(name),
+        }
+    }
+
+    fn unknown_node<'a>(self, name: &'a Name) -> Option<&'a Name>
+        ensures { option_copied result ≡ unknown_in self.entry (In_degree name.now) }
+    {
+        match self {
+            Known::Nodes(_) => self.unknown(name),
+            Known::Variables(_) => None,
+        }
+    }
+}
+
+/// The first name in an expression that is asked for and not known.
+pub fn unknown_in<'a>(known: Known<'_>, e: &'a Expr<Name>) -> Option<&'a Name>
+    ensures { option_copied result ≡ unknown_in known.entry (expression_of e.now) }
+{
+    match shape_of(e) {
+        Shape::Number(_) => None,
+        Shape::Text(_) => None,
+        Shape::Variable(x) => known.unknown_variable(x),
+        Shape::InDegree(n) => known.unknown_node(n),
+        Shape::OutDegree(n) => known.unknown_node(n),
+        Shape::Length(x) => known.unknown_variable(x),
+        Shape::Empty => None,
+        Shape::Negated(operand) => unknown_in(known, operand),
+        Shape::Chain(first, links) => {
+            if let Some(name) = unknown_in(known, first) {
+                return Some(name);
+            }
+            'operands: for at in 0..links.len() {
+                let (_, operand) = links.get(at);
+                if let Some(name) = unknown_in(known, operand) {
+                    return Some(name);
+                }
+            }
+            None
+        }
+    }
+}
+
+// The first name of the two, where they are asked for and not known.
+fn unknown_end<'a>(known: Known<'_>, source: &'a Name, target: &'a Name) -> Option<&'a Name>
+    ensures { option_copied result ≡ option_or (unknown_in known.entry (In_degree source.now)) (unknown_in known.entry (In_degree target.now)) }
+{
+    match known.unknown_node(source) {
+        Some(name) => Some(name),
+        None => known.unknown_node(target),
+    }
+}
+
+// The first name in two expressions.
+fn unknown_in_two<'a>(known: Known<'_>, d: &'a Expr<Name>, e: &'a Expr<Name>) -> Option<&'a Name>
+    ensures { option_copied result ≡ option_or (unknown_in known.entry (expression_of d.now)) (unknown_in known.entry (expression_of e.now)) }
+{
+    match unknown_in(known, d) {
+        Some(name) => Some(name),
+        None => unknown_in(known, e),
+    }
+}
+
+fn unknown_in_edge<'a>(
+    known: Known<'_>,
+    source: &'a Name,
+    target: &'a Name,
+    label: &'a Expr<Name>,
+) -> Option<&'a Name>
+    ensures { option_copied result ≡ option_or (option_or (unknown_in known.entry (In_degree source.now)) (unknown_in known.entry (In_degree target.now))) (unknown_in known.entry (expression_of label.now)) }
+{
+    match unknown_end(known, source, target) {
+        Some(name) => Some(name),
+        None => unknown_in(known, label),
+    }
+}
+
+/// The first name in a condition that is asked for and not known.
+pub fn unknown_in_condition<'a>(
+    known: Known<'_>,
+    c: &'a Cond<Name, Option<Name>>,
+) -> Option<&'a Name>
+    ensures { option_copied result ≡ unknown_in_condition known.entry (named_condition c.now) }
+{
+    match condition_shape_of(c) {
+        ConditionShape::HasType(_, e) => unknown_in(known, e),
+        ConditionShape::HasEdge(source, target) => unknown_end(known, source, target),
+        ConditionShape::HasEdgeWith(source, target, label, _) => {
+            unknown_in_edge(known, source, target, label)
+        }
+        ConditionShape::Compared(_, d, e) => unknown_in_two(known, d, e),
+        ConditionShape::Not(part) => unknown_in_condition(known, part),
+        ConditionShape::Chain(_, first, rest) => {
+            if let Some(name) = unknown_in_condition(known, first) {
+                return Some(name);
+            }
+            'parts: for part in rest {
+                if let Some(name) = unknown_in_condition(known, part) {
+                    return Some(name);
+                }
+            }
+            None
+        }
+    }
+}

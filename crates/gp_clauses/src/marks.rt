@@ -1,0 +1,243 @@
+//! The clause on marks, and that on directions.
+
+ghost use Rattle.std.specs.Prelude.{◌≡◌, ◌&&◌, map, option_map};
+ghost use Rattle.std.specs.List.{list_all};
+ghost use Rattle.std.specs.Option.{option_copied};
+ghost use Rattle.gp_values.specs.Names.{has_name};
+ghost use Rattle.gp_syntax.specs.Declaration.{DeclaredNode, DeclaredEdge, edge_named};
+ghost use Rattle.gp_syntax.specs.Fault.{is_any, is_node_mark, is_edge_mark, node_named, keeps_node_mark, keeps_edge_mark, marks_in_condition, has_marks, joins_the_same, keeps_direction, bad_mark, bad_bidi};
+ghost use Rattle.gp_syntax.specs.Tree.{node_of, edge_of, side_of, declaration_of, condition_or_true};
+ghost use Rattle.gp_clauses.specs.inside.ConditionShapes.{named_condition};
+
+use crate::condition_shape::{ConditionShape, condition_shape_of};
+use gp_syntax::{Cond, EdgeDecl, GraphDecl, Name, NodeDecl, RuleDecl};
+
+fn is_any(mark: &Option<Name>) -> bool
+    ensures { result ≡ is_any mark.now }
+{
+    match mark {
+        Some(word) => word.as_bytes() == b"any".as_slice(),
+        None => false,
+    }
+}
+
+fn is_node_mark(mark: &Option<Name>) -> bool
+    ensures { result ≡ is_node_mark mark.now }
+{
+    let Some(word) = mark else {
+        return true;
+    };
+    match word.as_bytes() {
+        b"any" => true,
+        b"red" => true,
+        b"green" => true,
+        b"blue" => true,
+        b"grey" => true,
+        _ => false,
+    }
+}
+
+fn is_edge_mark(mark: &Option<Name>) -> bool
+    ensures { result ≡ is_edge_mark mark.now }
+{
+    let Some(word) = mark else {
+        return true;
+    };
+    match word.as_bytes() {
+        b"any" => true,
+        b"red" => true,
+        b"green" => true,
+        b"blue" => true,
+        b"dashed" => true,
+        _ => false,
+    }
+}
+
+/// The node of a name.
+pub fn node_named<'a>(nodes: &'a [NodeDecl], name: &Name) -> Option<&'a NodeDecl>
+    ensures { option_map node_of (option_copied result) ≡ node_named (map node_of nodes.now) name.now }
+{
+    for node in nodes {
+        if name.same(&node.name) {
+            return Some(node);
+        }
+    }
+    None
+}
+
+/// The edge of a name.
+pub fn edge_named<'a>(edges: &'a [EdgeDecl], name: &Name) -> Option<&'a EdgeDecl>
+    ensures { option_map edge_of (option_copied result) ≡ edge_named (map edge_of edges.now) name.now }
+{
+    for edge in edges {
+        if name.same(&edge.name) {
+            return Some(edge);
+        }
+    }
+    None
+}
+
+/// Whether a name is among some others.
+pub fn is_among(names: &[Name], name: &Name) -> bool
+    ensures { result ≡ has_name names.now name.now }
+{
+    for other in names {
+        if name.same(other) {
+            return true;
+        }
+    }
+    false
+}
+
+fn nodes_have_marks(nodes: &[NodeDecl]) -> bool
+    ensures { result ≡ list_all (λ (n : DeclaredNode). is_node_mark n.mark) (map node_of nodes.now) }
+{
+    for node in nodes {
+        if !is_node_mark(&node.mark) {
+            return false;
+        }
+    }
+    true
+}
+
+fn edges_have_marks(edges: &[EdgeDecl]) -> bool
+    ensures { result ≡ list_all (λ (e : DeclaredEdge). is_edge_mark e.mark) (map edge_of edges.now) }
+{
+    for edge in edges {
+        if !is_edge_mark(&edge.mark) {
+            return false;
+        }
+    }
+    true
+}
+
+fn has_marks(side: &GraphDecl) -> bool
+    ensures { result ≡ has_marks (side_of side.now) }
+{
+    nodes_have_marks(side.nodes.as_slice()) && edges_have_marks(side.edges.as_slice())
+}
+
+/// Whether each mark in a condition is one of edges.
+fn condition_has_marks(c: &Cond<Name, Option<Name>>) -> bool
+    ensures { result ≡ list_all is_edge_mark (marks_in_condition (named_condition c.now)) }
+{
+    match condition_shape_of(c) {
+        ConditionShape::HasType(_, _) => true,
+        ConditionShape::HasEdge(_, _) => true,
+        ConditionShape::HasEdgeWith(_, _, _, mark) => is_edge_mark(mark),
+        ConditionShape::Compared(_, _, _) => true,
+        ConditionShape::Not(part) => condition_has_marks(part),
+        ConditionShape::Chain(_, first, rest) => {
+            if !condition_has_marks(first) {
+                return false;
+            }
+            'parts: for part in rest {
+                if !condition_has_marks(part) {
+                    return false;
+                }
+            }
+            true
+        }
+    }
+}
+
+fn tests_have_marks(condition: &Option<Cond<Name, Option<Name>>>) -> bool
+    ensures { result ≡ list_all is_edge_mark (marks_in_condition (condition_or_true (λ m. m) condition.now)) }
+{
+    match condition {
+        Some(c) => condition_has_marks(c),
+        None => true,
+    }
+}
+
+fn keeps_node_mark(rule: &RuleDecl, node: &NodeDecl) -> bool
+    ensures { result ≡ keeps_node_mark (declaration_of rule.now) (node_of node.now) }
+{
+    if !is_any(&node.mark) {
+        return true;
+    }
+    if !is_among(rule.interface.as_slice(), &node.name) {
+        return false;
+    }
+    match node_named(rule.left.nodes.as_slice(), &node.name) {
+        Some(left) => is_any(&left.mark),
+        None => false,
+    }
+}
+
+fn keeps_edge_mark(rule: &RuleDecl, edge: &EdgeDecl) -> bool
+    ensures { result ≡ keeps_edge_mark (declaration_of rule.now) (edge_of edge.now) }
+{
+    if !is_any(&edge.mark) {
+        return true;
+    }
+    match edge_named(rule.left.edges.as_slice(), &edge.name) {
+        Some(left) => is_any(&left.mark),
+        None => false,
+    }
+}
+
+fn keeps_node_marks(rule: &RuleDecl, nodes: &[NodeDecl]) -> bool
+    ensures { result ≡ list_all (keeps_node_mark (declaration_of rule.now)) (map node_of nodes.now) }
+{
+    for node in nodes {
+        if !keeps_node_mark(rule, node) {
+            return false;
+        }
+    }
+    true
+}
+
+fn keeps_edge_marks(rule: &RuleDecl, edges: &[EdgeDecl]) -> bool
+    ensures { result ≡ list_all (keeps_edge_mark (declaration_of rule.now)) (map edge_of edges.now) }
+{
+    for edge in edges {
+        if !keeps_edge_mark(rule, edge) {
+            return false;
+        }
+    }
+    true
+}
+
+/// Whether a word is no mark of its place, or `any` stands on the right where nothing was found by it.
+pub fn bad_mark(rule: &RuleDecl) -> bool
+    ensures { result ≡ bad_mark (declaration_of rule.now) }
+{
+    !(has_marks(&rule.left)
+        && has_marks(&rule.right)
+        && tests_have_marks(&rule.condition)
+        && keeps_node_marks(rule, rule.right.nodes.as_slice())
+        && keeps_edge_marks(rule, rule.right.edges.as_slice()))
+}
+
+/// Whether two edges join the same two names, in either order.
+pub fn joins_the_same(p: &EdgeDecl, e: &EdgeDecl) -> bool
+    ensures { result ≡ joins_the_same (edge_of p.now) (edge_of e.now) }
+{
+    p.source.same(&e.source) && p.target.same(&e.target)
+        || p.source.same(&e.target) && p.target.same(&e.source)
+}
+
+fn keeps_direction(rule: &RuleDecl, edge: &EdgeDecl) -> bool
+    ensures { result ≡ keeps_direction (declaration_of rule.now) (edge_of edge.now) }
+{
+    if !edge.bidirectional {
+        return true;
+    }
+    match edge_named(rule.left.edges.as_slice(), &edge.name) {
+        Some(left) => left.bidirectional && joins_the_same(left, edge),
+        None => false,
+    }
+}
+
+/// The right edge with `(B)` whose name is no left edge with `(B)` between the same two names.
+pub fn bad_bidi(rule: &RuleDecl) -> Option<&Name>
+    ensures { option_copied result ≡ bad_bidi (declaration_of rule.now) }
+{
+    for edge in rule.right.edges.as_slice() {
+        if !keeps_direction(rule, edge) {
+            return Some(&edge.name);
+        }
+    }
+    None
+}

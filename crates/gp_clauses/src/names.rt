@@ -1,0 +1,218 @@
+//! The clauses on sizes and on names.
+
+ghost use Rattle.std.specs.Prelude.{◌≡◌, ◌++◌, ◌∷◌, [], Some, None, if◌then◌else◌, map, flat_map, IfOk, option_map};
+ghost use Rattle.std.specs.Option.{option_copied, option_or};
+ghost use Rattle.gp_values.specs.Names.{has_name, first_doubled, first_doubled_behind, first_unknown};
+ghost use Rattle.gp_syntax.specs.Declaration.{DeclaredVariable, node_names, edge_names};
+ghost use Rattle.gp_syntax.specs.Fault.{first_told, unless, is_large, too_large, variable_names, twice_declared, unknown_degree, unknown_at_node, unknown_at_edge, unknown_in_side, unknown_node, bad_interface};
+ghost use Rattle.gp_syntax.specs.Tree.{node_of, edge_of, side_of, variables_of, declaration_of, condition_or_true};
+ghost use Rattle.gp_clauses.specs.inside.Names.{Doubled, group_names};
+ghost use Rattle.gp_clauses.specs.inside.Known.{unknown_in_condition};
+
+use crate::known::{Known, has_node, unknown_in, unknown_in_condition};
+use gp_memory::NoMemory;
+use gp_syntax::{Cond, EdgeDecl, GraphDecl, Name, NameTable, NodeDecl, RuleDecl, VariableGroup};
+use std::alloc::Global;
+
+fn is_large(side: &GraphDecl) -> bool
+    ensures { result ≡ is_large (side_of side.now) }
+{
+    side.nodes.len() > 32 || side.edges.len() > 64
+}
+
+/// Whether a side has more than 32 nodes or more than 64 edges.
+pub fn too_large(rule: &RuleDecl) -> bool
+    ensures { result ≡ too_large (declaration_of rule.now) }
+{
+    is_large(&rule.left) || is_large(&rule.right)
+}
+
+// Puts a name behind those that were seen, or gives it where it was seen.
+fn see<'a>(
+    alloc: Global,
+    seen: &mut NameTable,
+    name: &'a Name,
+) -> Result<Option<&'a Name>, NoMemory>
+    ensures { IfOk result (λ o. Doubled (option_copied o) seen.old seen.new (name.now ∷ [])) }
+{
+    if seen.add(alloc, name.as_bytes())? {
+        Ok(None)
+    } else {
+        Ok(Some(name))
+    }
+}
+
+fn see_names<'a>(
+    alloc: Global,
+    seen: &mut NameTable,
+    names: &'a [Name],
+) -> Result<Option<&'a Name>, NoMemory>
+    ensures { IfOk result (λ o. Doubled (option_copied o) seen.old seen.new names.now) }
+{
+    for name in names {
+        if let Some(doubled) = see(alloc, seen, name)? {
+            return Ok(Some(doubled));
+        }
+    }
+    Ok(None)
+}
+
+fn see_group<'a>(
+    alloc: Global,
+    seen: &mut NameTable,
+    group: &'a VariableGroup,
+) -> Result<Option<&'a Name>, NoMemory>
+    ensures { IfOk result (λ o. Doubled (option_copied o) seen.old seen.new (group_names group.now)) }
+{
+    if let Some(doubled) = see(alloc, seen, &group.first)? {
+        return Ok(Some(doubled));
+    }
+    see_names(alloc, seen, group.rest.as_slice())
+}
+
+fn doubled_variable(alloc: Global, rule: &RuleDecl) -> Result<Option<&Name>, NoMemory>
+    ensures { IfOk result (λ o. option_copied o ≡ first_doubled (variable_names (declaration_of rule.now))) }
+{
+    let mut seen = NameTable::new(alloc);
+    for group in rule.variables.as_slice() {
+        if let Some(doubled) = see_group(alloc, &mut seen, group)? {
+            return Ok(Some(doubled));
+        }
+    }
+    Ok(None)
+}
+
+fn doubled_node(alloc: Global, side: &GraphDecl) -> Result<Option<&Name>, NoMemory>
+    ensures { IfOk result (λ o. option_copied o ≡ first_doubled (node_names (side_of side.now))) }
+{
+    let mut seen = NameTable::new(alloc);
+    for node in side.nodes.as_slice() {
+        if let Some(doubled) = see(alloc, &mut seen, &node.name)? {
+            return Ok(Some(doubled));
+        }
+    }
+    Ok(None)
+}
+
+fn doubled_edge(alloc: Global, side: &GraphDecl) -> Result<Option<&Name>, NoMemory>
+    ensures { IfOk result (λ o. option_copied o ≡ first_doubled (edge_names (side_of side.now))) }
+{
+    let mut seen = NameTable::new(alloc);
+    for edge in side.edges.as_slice() {
+        if let Some(doubled) = see(alloc, &mut seen, &edge.name)? {
+            return Ok(Some(doubled));
+        }
+    }
+    Ok(None)
+}
+
+fn doubled_name(alloc: Global, names: &[Name]) -> Result<Option<&Name>, NoMemory>
+    ensures { IfOk result (λ o. option_copied o ≡ first_doubled names.now) }
+{
+    let mut seen = NameTable::new(alloc);
+    see_names(alloc, &mut seen, names)
+}
+
+/// The first name of a variable, of a node or an edge of its side, or in the interface, that stood before among those of
+/// its kind.
+pub fn twice_declared(alloc: Global, rule: &RuleDecl) -> Result<Option<&Name>, NoMemory>
+    ensures { IfOk result (λ o. option_copied o ≡ twice_declared (declaration_of rule.now)) }
+{
+    if let Some(doubled) = doubled_variable(alloc, rule)? {
+        return Ok(Some(doubled));
+    }
+    if let Some(doubled) = doubled_node(alloc, &rule.left)? {
+        return Ok(Some(doubled));
+    }
+    if let Some(doubled) = doubled_edge(alloc, &rule.left)? {
+        return Ok(Some(doubled));
+    }
+    if let Some(doubled) = doubled_node(alloc, &rule.right)? {
+        return Ok(Some(doubled));
+    }
+    if let Some(doubled) = doubled_edge(alloc, &rule.right)? {
+        return Ok(Some(doubled));
+    }
+    doubled_name(alloc, rule.interface.as_slice())
+}
+
+fn unknown_at_nodes<'a>(rule: &RuleDecl, nodes: &'a [NodeDecl]) -> Option<&'a Name>
+    ensures { option_copied result ≡ first_told (unknown_at_node (declaration_of rule.now)) (map node_of nodes.now) }
+{
+    for node in nodes {
+        if let Some(name) = unknown_in(Known::Nodes(&rule.left), &node.label) {
+            return Some(name);
+        }
+    }
+    None
+}
+
+fn unknown_at_edge<'a>(rule: &RuleDecl, side: &GraphDecl, edge: &'a EdgeDecl) -> Option<&'a Name>
+    ensures { option_copied result ≡ unknown_at_edge (declaration_of rule.now) (side_of side.now) (edge_of edge.now) }
+{
+    if !has_node(side, &edge.source) {
+        return Some(&edge.source);
+    }
+    if !has_node(side, &edge.target) {
+        return Some(&edge.target);
+    }
+    unknown_in(Known::Nodes(&rule.left), &edge.label)
+}
+
+fn unknown_at_edges<'a>(rule: &RuleDecl, side: &'a GraphDecl) -> Option<&'a Name>
+    ensures { option_copied result ≡ first_told (unknown_at_edge (declaration_of rule.now) (side_of side.now)) (side_of side.now).edges }
+{
+    for edge in side.edges.as_slice() {
+        if let Some(name) = unknown_at_edge(rule, side, edge) {
+            return Some(name);
+        }
+    }
+    None
+}
+
+fn unknown_in_side<'a>(rule: &RuleDecl, side: &'a GraphDecl) -> Option<&'a Name>
+    ensures { option_copied result ≡ unknown_in_side (declaration_of rule.now) (side_of side.now) }
+{
+    match unknown_at_nodes(rule, side.nodes.as_slice()) {
+        Some(name) => Some(name),
+        None => unknown_at_edges(rule, side),
+    }
+}
+
+/// The first name in a condition, if there is one, that is asked for and not known.
+pub fn unknown_in_tests<'a>(
+    known: Known<'_>,
+    condition: &'a Option<Cond<Name, Option<Name>>>,
+) -> Option<&'a Name>
+    ensures { option_copied result ≡ unknown_in_condition known.entry (condition_or_true (λ m. m) condition.now) }
+{
+    match condition {
+        Some(c) => unknown_in_condition(known, c),
+        None => None,
+    }
+}
+
+/// The first end of an edge that is no node of its side, or name in a degree or a test of edges that is no left node.
+pub fn unknown_node(rule: &RuleDecl) -> Option<&Name>
+    ensures { option_copied result ≡ unknown_node (declaration_of rule.now) }
+{
+    if let Some(name) = unknown_in_side(rule, &rule.left) {
+        return Some(name);
+    }
+    if let Some(name) = unknown_in_side(rule, &rule.right) {
+        return Some(name);
+    }
+    unknown_in_tests(Known::Nodes(&rule.left), &rule.condition)
+}
+
+/// The first name in the interface that is not a node of both sides.
+pub fn bad_interface(rule: &RuleDecl) -> Option<&Name>
+    ensures { option_copied result ≡ bad_interface (declaration_of rule.now) }
+{
+    for name in rule.interface.as_slice() {
+        if !(has_node(&rule.left, name) && has_node(&rule.right, name)) {
+            return Some(name);
+        }
+    }
+    None
+}

@@ -1,0 +1,46 @@
+-- What is collected of the right side, item by item.
+use Rattle.std.proofs.Common.{◌≡◌, ℕ, suc, ◌+◌, ◌<◌, Bool, true, false, if◌then◌else◌, List, [], ◌∷◌, ◌++◌, length, get_or, drop, drop-cons, append_assoc, add-one, Some, slice_get, refl, sym, ap, subst, ◌∙◌, arith}
+use Rattle.gp_step.specs.inside.Edits.{gone}
+use Rattle.gp_step.proofs.Labels.{same_element}
+
+one_more : {X : Type 0} (so new rest : List X) (x : X) → new ≡ so ++ x ∷ [] → new ++ rest ≡ so ++ x ∷ rest
+one_more so new rest x e = ap (λ l. l ++ rest) e ∙ append_assoc so (x ∷ []) rest
+
+-- ---- what goes
+
+gone_same : (p q : ℕ → Bool) (ns : List ℕ) → ((i : ℕ) → p i ≡ q i) → gone p ns ≡ gone q ns
+gone_same p q [] h = refl
+gone_same p q (n ∷ ns) h = let e = gone_same (λ i. p (suc i)) (λ i. q (suc i)) ns (λ i. h (suc i)) in rw (h 0, e) refl
+
+swapped : (n i : ℕ) → n + suc i ≡ (n + 1) + i
+swapped n i = omega arith
+
+nothing_more : (n : ℕ) → n + 0 ≡ n
+nothing_more n = omega arith
+
+pub gone_next : (kept : ℕ → Bool) (ns : List ℕ) (n d : ℕ) (so end : List ℕ) → n < length ns
+    → so ++ gone (λ i. kept (n + i)) (drop n ns) ≡ end
+    → record { stays : kept n ≡ true → so ++ gone (λ i. kept ((n + 1) + i)) (drop (n + 1) ns) ≡ end; goes : kept n ≡ false → (so ++ get_or ns n d ∷ []) ++ gone (λ i. kept ((n + 1) + i)) (drop (n + 1) ns) ≡ end }
+gone_next kept ns n d so end l same =
+    let x = get_or ns n d in
+    let rest = drop (suc n) ns in
+    let s : so ++ (if kept (n + 0) then gone (λ i. kept (n + suc i)) rest else x ∷ gone (λ i. kept (n + suc i)) rest) ≡ end = subst (λ l. so ++ gone (λ i. kept (n + i)) l ≡ end) (drop-cons ns n d l) same in
+    let e : gone (λ i. kept (n + suc i)) rest ≡ gone (λ i. kept ((n + 1) + i)) rest = gone_same (λ i. kept (n + suc i)) (λ i. kept ((n + 1) + i)) rest (λ i. ap kept (swapped n i)) in
+    record {
+      stays = λ t.
+          let b : kept (n + 0) ≡ true = ap kept (nothing_more n) ∙ t in
+          let u : so ++ gone (λ i. kept (n + suc i)) rest ≡ end = subst (λ z. so ++ (if z then gone (λ i. kept (n + suc i)) rest else x ∷ gone (λ i. kept (n + suc i)) rest) ≡ end) b s in
+          subst (λ z. so ++ gone (λ i. kept ((n + 1) + i)) (drop z ns) ≡ end) (sym (add-one n)) (ap (λ l. so ++ l) (sym e) ∙ u);
+      goes = λ t.
+          let b : kept (n + 0) ≡ false = ap kept (nothing_more n) ∙ t in
+          let u : so ++ x ∷ gone (λ i. kept (n + suc i)) rest ≡ end = subst (λ z. so ++ (if z then gone (λ i. kept (n + suc i)) rest else x ∷ gone (λ i. kept (n + suc i)) rest) ≡ end) b s in
+          subst (λ z. (so ++ x ∷ []) ++ gone (λ i. kept ((n + 1) + i)) (drop z ns) ≡ end) (sym (add-one n)) (one_more so (so ++ x ∷ []) (gone (λ i. kept ((n + 1) + i)) rest) x refl ∙ ap (λ l. so ++ x ∷ l) (sym e) ∙ u);
+    }
+
+-- ---- the item of a turn
+
+pub item_at : {X : Type 0} (xs ys : List X) (k : ℕ) (q : X) → ys ≡ xs → k < length ys → q ≡ get_or ys k q → slice_get xs k ≡ Some q
+item_at xs ys k q e l is =
+    let h : q ≡ get_or xs k q = is ∙ ap (λ zs. get_or zs k q) e in
+    let b : k < length xs = subst (λ zs. k < length zs) e l in
+    same_element xs k q b ∙ ap (λ z. Some z) (sym h)

@@ -1,0 +1,104 @@
+-- What a checked rule's right side asks for is there, where a match applies.
+use Rattle.std.proofs.Common.{◌≡◌, ℕ, ◌<◌, Bool, ◌||◌, List, [], ◌∷◌, map, length, get_or, Option, Some, None, IsSome, IfSome, slice_get, refl, sym, ap, subst, ◌∙◌, arith}
+use Rattle.std.specs.Option.{option_map}
+use Rattle.std.specs.List.{list_any}
+use Rattle.std.proofs.lemmas.List.{get_or_default, length-map}
+use Rattle.std.proofs.lemmas.Option.{slice_get-map, get_or_from_slice_get}
+use Rattle.gp_values.specs.Graph.{Graph, node_at}
+use Rattle.gp_syntax.specs.declared.rule.RuleParts.{RuleParts}
+use Rattle.gp_syntax.specs.declared.rule.RightNode.{RightNode}
+use Rattle.gp_syntax.specs.declared.rule.RightEdge.{RightEdge}
+use Rattle.gp_syntax.specs.Rule as meant
+use Rattle.gp_syntax.specs.Expression.{Expression}
+use Rattle.gp_syntax.specs.Value.{Assignment}
+use Rattle.gp_syntax.specs.Assigned.{PartialAssignment, assigned_of}
+use Rattle.gp_syntax.specs.Match.{MatchBy, setting_of}
+use Rattle.gp_syntax.specs.Tree.{rule_of_tree, right_node_of, right_edge_of, expression_of}
+use Rattle.gp_syntax.specs.WellFormed.{IsWithin}
+use Rattle.gp_eval.specs.Answer.{AreNodes}
+use Rattle.gp_syntax.proofs.Unique.{element}
+use Rattle.gp_step.specs.inside.Made.{IsReady, IsRightLabel}
+use Rattle.gp_step.proofs.Afters.{both_values, has_values, there}
+use Rattle.gp_step.proofs.Wholes.{all_left, at_label, all_right}
+
+pub images_are_nodes : (r : meant.Rule) (g : Graph) (m : meant.Found) (a : Assignment) → MatchBy r g m a → AreNodes g m.nodes
+images_are_nodes r g m a w k d l =
+    let n : length m.nodes ≡ length r.left_nodes = w.node_count in
+    let p = element r.left_nodes k (omega arith) in
+    subst (λ i. IsSome (node_at g i)) (sym (get_or_default m.nodes k d 0 l)) (there _ _ (w.nodes k p.0 p.1))
+
+-- ---- elements
+
+pub same_element : {X : Type 0} (xs : List X) (k : ℕ) (d : X) → k < length xs → slice_get xs k ≡ Some (get_or xs k d)
+same_element xs k d l = let e = element xs k l in e.1 ∙ ap (λ x. Some x) (sym (get_or_from_slice_get xs k e.0 d e.1))
+
+module _ (p : RuleParts) (g : Graph) (m : meant.Found) (b : PartialAssignment) (w : IsReady p g m b) where
+  abbrev r : meant.Rule
+  r = rule_of_tree p
+
+  abbrev node_labels : List (Expression ℕ)
+  node_labels = map (λ (q : meant.RightNode). q.label) r.right_nodes
+
+  abbrev edge_labels : List (Expression ℕ)
+  edge_labels = map (λ (q : meant.RightEdge). q.label) r.right_edges
+
+  node_label_at : (k : ℕ) (q : RightNode) → slice_get p.right_nodes k ≡ Some q → slice_get node_labels k ≡ Some (expression_of q.label)
+  node_label_at k q e =
+      slice_get-map (λ (z : meant.RightNode). z.label) r.right_nodes k
+      ∙ ap (option_map (λ (z : meant.RightNode). z.label)) (slice_get-map right_node_of p.right_nodes k ∙ ap (option_map right_node_of) e)
+
+  edge_label_at : (k : ℕ) (q : RightEdge) → slice_get p.right_edges k ≡ Some q → slice_get edge_labels k ≡ Some (expression_of q.label)
+  edge_label_at k q e =
+      slice_get-map (λ (z : meant.RightEdge). z.label) r.right_edges k
+      ∙ ap (option_map (λ (z : meant.RightEdge). z.label)) (slice_get-map right_edge_of p.right_edges k ∙ ap (option_map right_edge_of) e)
+
+  pub node_label : (k : ℕ) (q : RightNode) → slice_get p.right_nodes k ≡ Some q → IsRightLabel p g m b (expression_of q.label)
+  node_label k q e =
+      let s = setting_of r g m (assigned_of b) in
+      let v = both_values node_labels edge_labels s w.applies.values in
+      let i = node_label_at k q e in
+      let n : length p.left_nodes ≡ length r.left_nodes = sym (length-map p.left_nodes _) in
+      record {
+        within = subst (λ z. IsWithin (length p.types) z (expression_of q.label)) (sym n) (all_left (IsWithin (length r.types) (length r.left_nodes)) node_labels edge_labels w.well_formed.right_labels_within k (expression_of q.label) i);
+        has_value = has_values node_labels s v.0 k (expression_of q.label) i;
+      }
+
+  pub edge_label : (k : ℕ) (q : RightEdge) → slice_get p.right_edges k ≡ Some q → IsRightLabel p g m b (expression_of q.label)
+  edge_label k q e =
+      let s = setting_of r g m (assigned_of b) in
+      let v = both_values node_labels edge_labels s w.applies.values in
+      let i = edge_label_at k q e in
+      let n : length p.left_nodes ≡ length r.left_nodes = sym (length-map p.left_nodes _) in
+      record {
+        within = subst (λ z. IsWithin (length p.types) z (expression_of q.label)) (sym n) (at_label (IsWithin (length r.types) (length r.left_nodes)) edge_labels (all_right (IsWithin (length r.types) (length r.left_nodes)) node_labels edge_labels w.well_formed.right_labels_within) k (expression_of q.label) i);
+        has_value = has_values edge_labels s v.1 k (expression_of q.label) i;
+      }
+
+  some_below : (o : Option ℕ) (n : ℕ) → ((i : ℕ) → o ≡ Some i → i < n) → IfSome o (λ i. i < n)
+  some_below None n h = tt
+  some_below (Some i) n h = h i refl
+
+  -- where it comes from
+  pub node_origin : (k : ℕ) (q : RightNode) → slice_get p.right_nodes k ≡ Some q → IfSome q.origin (λ i. i < length p.left_nodes)
+  node_origin k q e =
+      let n : length r.left_nodes ≡ length p.left_nodes = length-map p.left_nodes _ in
+      some_below q.origin (length p.left_nodes) (λ i o. subst (λ z. i < z) n (w.well_formed.origins k i (right_node_of q) (slice_get-map right_node_of p.right_nodes k ∙ ap (option_map right_node_of) e) o))
+
+  pub edge_origin : (k : ℕ) (q : RightEdge) → slice_get p.right_edges k ≡ Some q → IfSome q.origin (λ i. i < length m.edges)
+  edge_origin k q e =
+      some_below q.origin (length m.edges) (λ i o. subst (λ z. i < z) (sym w.applies.is_match.edge_count) (w.well_formed.edge_origins k i (right_edge_of q) (slice_get-map right_edge_of p.right_edges k ∙ ap (option_map right_edge_of) e) o))
+
+  pub node_count : length m.nodes ≡ length p.left_nodes
+  node_count = w.applies.is_match.node_count ∙ length-map p.left_nodes _
+
+  pub edge_ends : (k : ℕ) (q : RightEdge) → slice_get p.right_edges k ≡ Some q → (q.source < length p.right_nodes) × (q.target < length p.right_nodes)
+  edge_ends k q e =
+      let n : length r.right_nodes ≡ length p.right_nodes = length-map p.right_nodes _ in
+      let h = w.well_formed.right_ends k (right_edge_of q) (slice_get-map right_edge_of p.right_edges k ∙ ap (option_map right_edge_of) e) in
+      (subst (λ z. q.source < z) n h.0, subst (λ z. q.target < z) n h.1)
+
+-- ---- the interface
+
+pub any_mapped : {A B : Type 0} (f : A → B) (t : B → Bool) (xs : List A) → list_any (λ x. t (f x)) xs ≡ list_any t (map f xs)
+any_mapped f t [] = refl
+any_mapped f t (x ∷ xs) = ap (λ b. t (f x) || b) (any_mapped f t xs)

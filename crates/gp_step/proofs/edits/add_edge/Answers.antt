@@ -1,0 +1,5 @@
+use Rattle.gp_step.proofs.Notes.{edge_added}
+use Rattle.gp_step.proofs.edits.add_edge.Goals as goal
+
+pub returns-clause-undo : goal.returns-clause-undo
+returns-clause-undo c = λ us. rw c.in-Ok.ensures.ok (edge_added us c.args.graph.now.graph _ c.next_numbers-sound.ensures.sound)

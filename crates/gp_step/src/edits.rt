@@ -1,0 +1,192 @@
+//! Edits that are noted, so that they can be taken back. They take no memory: room is made before.
+
+ghost use Rattle.std.specs.Prelude.{◌≡◌, ◌<◌, ◌≤◌, ◌+◌, ◌-◌, ◌++◌, ◌∷◌, [], List, map, reverse, replicate, length, IsSome, vec_len, vec_capacity};
+ghost use Rattle.gp_values.specs.Graph.{HasNoEdges, node_at, edge_at, with_node, with_edge, without_node, without_edge, relabeled};
+ghost use Rattle.gp_step.specs.declared.inverse.Inverse.{Inverse as AnyInverse};
+ghost use Rattle.gp_step.specs.declared.inverse.Inverse.TheVariants as inverses;
+ghost use Rattle.gp_step.specs.inside.Edits.{drop_edges, drop_nodes, put_edges};
+ghost use Rattle.gp_step.specs.inside.Notes.{KeepsUndo, KeepsUndoBehind, MayDropEdges, MayDropNodes, MayRelabel, MayPutEdges};
+ghost use Rattle.gp_step.specs.inside.Made.{number_of, node_of, edge_of, nodes_of, edges_of, kept_pairs, relabel_all, with_nodes};
+
+use crate::inverse::Inverse;
+use crate::made::{Carried, Kept, MadeEdge};
+use gp_graph::Graph;
+use gp_syntax::EdgeImage;
+
+// Puts an item at the end, where there is a spare place.
+fn push_spare<T: Drop>(items: &mut Vec<T>, item: T)
+    requires { vec_len items.old < vec_capacity items.old }
+    ensures items { items.new.items ≡ items.old.items ++ item ∷ [] }
+    ensures room { vec_capacity items.old - vec_len items.old ≤ (vec_capacity items.new - vec_len items.new) + 1 }
+{
+    match items.push(item) {
+        Ok(()) => (),
+        Err(_) => unreachable!(),
+    }
+}
+
+// Removes an edge.
+fn cut_edge(graph: &mut Graph, taken: &mut Vec<Inverse>, e: u64)
+    requires there { IsSome (edge_at graph.old.graph e) }
+    requires spare { vec_len taken.old < vec_capacity taken.old }
+    ensures graph { graph.new.graph ≡ without_edge graph.old.graph e }
+    ensures undo { KeepsUndo (reverse taken.old.items) graph.old.graph (reverse taken.new.items) graph.new.graph }
+    ensures room { vec_capacity taken.old - vec_len taken.old ≤ (vec_capacity taken.new - vec_len taken.new) + 1 }
+    ensures node_room { graph.new.node_room ≡ graph.old.node_room }
+    ensures edge_room { graph.new.edge_room ≡ graph.old.edge_room }
+{
+    let _sound = graph.next_numbers();
+    let (source, target, label, mark) = graph.remove_edge(e);
+    push_spare(taken, Inverse::PutEdge(e, source, target, label, mark));
+}
+
+// Removes a node that has no edges.
+fn cut_node(graph: &mut Graph, taken: &mut Vec<Inverse>, n: u64)
+    requires there { IsSome (node_at graph.old.graph n) }
+    requires no_edges { HasNoEdges graph.old.graph n }
+    requires spare { vec_len taken.old < vec_capacity taken.old }
+    ensures graph { graph.new.graph ≡ without_node graph.old.graph n }
+    ensures undo { KeepsUndo (reverse taken.old.items) graph.old.graph (reverse taken.new.items) graph.new.graph }
+    ensures room { vec_capacity taken.old - vec_len taken.old ≤ (vec_capacity taken.new - vec_len taken.new) + 1 }
+    ensures node_room { graph.new.node_room ≡ graph.old.node_room }
+    ensures edge_room { graph.new.edge_room ≡ graph.old.edge_room }
+{
+    let _sound = graph.next_numbers();
+    let (label, mark, root) = graph.remove_node(n);
+    push_spare(taken, Inverse::PutNode(n, label, mark, root));
+}
+
+// Gives a node what it is to carry.
+fn relabel(graph: &mut Graph, taken: &mut Vec<Inverse>, kept: Kept)
+    requires there { IsSome (node_at graph.old.graph kept.number) }
+    requires spare { vec_len taken.old < vec_capacity taken.old }
+    ensures graph { graph.new.graph ≡ relabeled graph.old.graph kept.number (node_of kept.carried) }
+    ensures undo { KeepsUndo (reverse taken.old.items) graph.old.graph (reverse taken.new.items) graph.new.graph }
+    ensures room { vec_capacity taken.old - vec_len taken.old ≤ (vec_capacity taken.new - vec_len taken.new) + 1 }
+    ensures node_room { graph.new.node_room ≡ graph.old.node_room }
+    ensures edge_room { graph.new.edge_room ≡ graph.old.edge_room }
+{
+    let Kept {
+        number,
+        carried: Carried { label, mark, root },
+    } = kept;
+    let (old_mark, old_root) = match graph.node(number) {
+        Some((_, found_mark, found_root)) => (found_mark, found_root),
+        None => unreachable!(),
+    };
+    let old_label = graph.relabel(number, label, mark, root);
+    push_spare(
+        taken,
+        Inverse::Relabel(number, old_label, old_mark, old_root),
+    );
+}
+
+// Adds a node, for which there is room.
+fn add_node(graph: &mut Graph, carried: Carried)
+    requires place { 0 < graph.old.node_room }
+    ensures graph { graph.new.graph ≡ with_node graph.old.graph (node_of carried) }
+    ensures undo { (us : List AnyInverse) → KeepsUndo us graph.old.graph (inverses.DropNode ∷ us) graph.new.graph }
+    ensures node_room { graph.old.node_room ≤ graph.new.node_room + 1 }
+    ensures edge_room { graph.new.edge_room ≡ graph.old.edge_room }
+{
+    let _sound = graph.next_numbers();
+    let Carried { label, mark, root } = carried;
+    let Ok(_number) = graph.add_node(label, mark, root) else {
+        unreachable!()
+    };
+}
+
+// Adds an edge, for which there is room.
+fn add_edge(graph: &mut Graph, edge: MadeEdge)
+    requires source { IsSome (node_at graph.old.graph edge.source) }
+    requires target { IsSome (node_at graph.old.graph edge.target) }
+    requires place { 0 < graph.old.edge_room }
+    ensures graph { graph.new.graph ≡ with_edge graph.old.graph (edge_of edge) }
+    ensures undo { (us : List AnyInverse) → KeepsUndo us graph.old.graph (inverses.DropEdge ∷ us) graph.new.graph }
+    ensures edge_room { graph.old.edge_room ≤ graph.new.edge_room + 1 }
+{
+    let _sound = graph.next_numbers();
+    let MadeEdge {
+        source,
+        target,
+        label,
+        mark,
+    } = edge;
+    let Ok(_number) = graph.add_edge(source, target, label, mark) else {
+        unreachable!()
+    };
+}
+
+/// Removes these edges, in order.
+pub(crate) fn cut_edges(graph: &mut Graph, taken: &mut Vec<Inverse>, edges: &[EdgeImage])
+    requires there { MayDropEdges (map number_of edges.now) graph.old.graph }
+    requires spare { vec_len taken.old + length edges.now ≤ vec_capacity taken.old }
+    ensures graph { graph.new.graph ≡ drop_edges (map number_of edges.now) graph.old.graph }
+    ensures undo { KeepsUndo (reverse taken.old.items) graph.old.graph (reverse taken.new.items) graph.new.graph }
+    ensures room { vec_capacity taken.old - vec_len taken.old ≤ (vec_capacity taken.new - vec_len taken.new) + length edges.now }
+    ensures node_room { graph.new.node_room ≡ graph.old.node_room }
+    ensures edge_room { graph.new.edge_room ≡ graph.old.edge_room }
+{
+    for image in edges {
+        cut_edge(graph, taken, image.number);
+    }
+}
+
+/// Removes these nodes, in order.
+pub(crate) fn cut_nodes(graph: &mut Graph, taken: &mut Vec<Inverse>, nodes: &[u64])
+    requires there { MayDropNodes nodes.now graph.old.graph }
+    requires spare { vec_len taken.old + length nodes.now ≤ vec_capacity taken.old }
+    ensures graph { graph.new.graph ≡ drop_nodes nodes.now graph.old.graph }
+    ensures undo { KeepsUndo (reverse taken.old.items) graph.old.graph (reverse taken.new.items) graph.new.graph }
+    ensures room { vec_capacity taken.old - vec_len taken.old ≤ (vec_capacity taken.new - vec_len taken.new) + length nodes.now }
+    ensures node_room { graph.new.node_room ≡ graph.old.node_room }
+    ensures edge_room { graph.new.edge_room ≡ graph.old.edge_room }
+{
+    for n in nodes {
+        cut_node(graph, taken, *n);
+    }
+}
+
+/// Gives these nodes what they are to carry, in order.
+pub(crate) fn relabel_nodes(graph: &mut Graph, taken: &mut Vec<Inverse>, kept: Vec<Kept>)
+    requires there { MayRelabel (kept_pairs kept.items) graph.old.graph }
+    requires spare { vec_len taken.old + length kept.items ≤ vec_capacity taken.old }
+    ensures graph { graph.new.graph ≡ relabel_all (kept_pairs kept.items) graph.old.graph }
+    ensures undo { KeepsUndo (reverse taken.old.items) graph.old.graph (reverse taken.new.items) graph.new.graph }
+    ensures node_room { graph.new.node_room ≡ graph.old.node_room }
+    ensures edge_room { graph.new.edge_room ≡ graph.old.edge_room }
+{
+    let mut left = kept;
+    left.reverse();
+    'relabels: while let Some(node) = left.pop() {
+        relabel(graph, taken, node);
+    }
+}
+
+/// Adds nodes that carry this, in order.
+pub(crate) fn add_nodes(graph: &mut Graph, nodes: Vec<Carried>)
+    requires place { length nodes.items ≤ graph.old.node_room }
+    ensures graph { graph.new.graph ≡ with_nodes (nodes_of nodes.items) graph.old.graph }
+    ensures undo { KeepsUndoBehind (length nodes.items) inverses.DropNode graph.old.graph graph.new.graph }
+    ensures edge_room { graph.new.edge_room ≡ graph.old.edge_room }
+{
+    let mut waiting = nodes;
+    waiting.reverse();
+    'adds: while let Some(node) = waiting.pop() {
+        add_node(graph, node);
+    }
+}
+
+/// Adds these edges, in order.
+pub(crate) fn add_edges(graph: &mut Graph, edges: Vec<MadeEdge>)
+    requires there { MayPutEdges (edges_of edges.items) graph.old.graph }
+    requires place { length edges.items ≤ graph.old.edge_room }
+    ensures graph { graph.new.graph ≡ put_edges (edges_of edges.items) graph.old.graph }
+    ensures undo { KeepsUndoBehind (length edges.items) inverses.DropEdge graph.old.graph graph.new.graph }
+{
+    let mut left = edges;
+    left.reverse();
+    'adds: while let Some(edge) = left.pop() {
+        add_edge(graph, edge);
+    }
+}

@@ -1,0 +1,315 @@
+//! What the right side is to carry at a match, worked out over the graph before the step.
+
+ghost use Rattle.std.specs.Prelude.{◌≡◌, ◌<◌, ◌++◌, ◌∷◌, [], map, length, false, IfOk, IfSome, OnOk};
+ghost use Rattle.std.specs.Option.{option_map, option_map_or};
+ghost use Rattle.gp_values.specs.Graph.{Node as AnyNode, Edge as AnyEdge};
+ghost use Rattle.gp_syntax.specs.Assigned.{assigned_of};
+ghost use Rattle.gp_syntax.specs.Step.{found_node, found_edge, left_root};
+ghost use Rattle.gp_syntax.specs.Step as meant;
+ghost use Rattle.gp_syntax.specs.Rule.{is_kept};
+ghost use Rattle.gp_syntax.specs.Rule as places;
+ghost use Rattle.gp_syntax.specs.Tree.{rule_of_tree, right_node_of, right_edge_of, expression_of, pattern_of};
+ghost use Rattle.gp_step.specs.inside.Edits.{gone, image_of, images_of, next_of};
+ghost use Rattle.gp_step.specs.inside.Edits as edits;
+ghost use Rattle.gp_step.specs.inside.Made.{IsReady, IsRightLabel, label_at, node_of, edge_of, nodes_of, edges_of, kept_pairs, kept_first, kept_of, new_first, new_of};
+
+use gp_eval::{Valued, value};
+use gp_graph::Graph;
+use gp_memory::NoMemory;
+use gp_syntax::{Assignment, Expr, Found, MarkPattern, RightEdge, RightNode, RuleParts};
+use gp_values::{EdgeMark, List, NodeMark};
+use std::alloc::Global;
+
+/// What a node is to carry.
+#[derive(Drop)]
+pub(crate) struct Carried {
+    pub(crate) label: List,
+    pub(crate) mark: NodeMark,
+    pub(crate) root: bool,
+}
+
+/// A node of the interface, by the number of its image, and what it is to carry.
+#[derive(Drop)]
+pub(crate) struct Kept {
+    pub(crate) number: u64,
+    pub(crate) carried: Carried,
+}
+
+/// An edge that is to be made.
+#[derive(Drop)]
+pub(crate) struct MadeEdge {
+    pub(crate) source: u64,
+    pub(crate) target: u64,
+    pub(crate) label: List,
+    pub(crate) mark: EdgeMark,
+}
+
+/// The nodes of the right side: the numbers of their images, in order, and what those of the interface and the new ones
+/// are to carry.
+#[derive(Drop)]
+pub(crate) struct Placed {
+    pub(crate) images: Vec<u64>,
+    pub(crate) kept: Vec<Kept>,
+    pub(crate) added: Vec<Carried>,
+    next: u64,
+}
+
+// The value of a right label, which has one where the match applies.
+fn label_of(
+    alloc: Global,
+    parts: &RuleParts,
+    graph: &Graph,
+    found: &Found,
+    assignment: &Assignment,
+    label: &Expr<u32>,
+) -> Result<List, NoMemory>
+    requires ready { IsReady parts.now graph.now.graph found.now assignment.now }
+    requires label { IsRightLabel parts.now graph.now.graph found.now assignment.now (expression_of label.now) }
+    ensures { IfOk result (λ l. l ≡ label_at parts.now graph.now.graph found.now assignment.now (expression_of label.now)) }
+{
+    match value(alloc, label, assignment, found.nodes(), graph) {
+        Valued::Value(list) => Ok(list),
+        Valued::NoValue(_) => unreachable!(),
+        Valued::NoMemory => Err(NoMemory),
+    }
+}
+
+// The mark that a right item gets, where this mark was found.
+fn mark_of<M: Copy>(pattern: MarkPattern<M>, found: Option<M>, none: M) -> M
+    ensures { result ≡ meant.made_mark (pattern_of pattern) found none }
+{
+    match (pattern, found) {
+        (MarkPattern::Marked(mark), _) => mark,
+        (MarkPattern::Any, Some(mark)) => mark,
+        (MarkPattern::Any, None) => none,
+    }
+}
+
+// The mark of the image of a left node, and whether it is a root.
+fn found_at(graph: &Graph, found: &Found, origin: Option<u32>) -> (Option<NodeMark>, bool)
+    requires { IfSome origin (λ i. i < length found.now.nodes) }
+    ensures mark { result.0 ≡ option_map (λ (y : AnyNode). y.mark) (found_node graph.now.graph found.now origin) }
+    ensures root { result.1 ≡ option_map_or (λ (y : AnyNode). y.root) (found_node graph.now.graph found.now origin) false }
+{
+    match origin {
+        Some(i) => match graph.node(found.nodes()[i as usize]) {
+            Some((_, mark, root)) => (Some(mark), root),
+            None => (None, false),
+        },
+        None => (None, false),
+    }
+}
+
+// Whether the left node is a root.
+fn was_root(parts: &RuleParts, origin: Option<u32>) -> bool
+    requires { IfSome origin (λ i. i < length parts.now.left_nodes) }
+    ensures { result ≡ left_root (rule_of_tree parts.now) origin }
+{
+    match origin {
+        Some(i) => parts.left_nodes.as_slice()[i as usize].root,
+        None => false,
+    }
+}
+
+// What a right node is to carry.
+fn made_node(
+    alloc: Global,
+    parts: &RuleParts,
+    graph: &Graph,
+    found: &Found,
+    assignment: &Assignment,
+    q: &RightNode,
+) -> Result<Carried, NoMemory>
+    requires ready { IsReady parts.now graph.now.graph found.now assignment.now }
+    requires label { IsRightLabel parts.now graph.now.graph found.now assignment.now (expression_of q.now.label) }
+    requires origin { IfSome q.now.origin (λ i. i < length parts.now.left_nodes) }
+    ensures { IfOk result (λ x. node_of x ≡ edits.made_node (rule_of_tree parts.now) graph.now.graph found.now (assigned_of assignment.now) (right_node_of q.now)) }
+{
+    let label = label_of(alloc, parts, graph, found, assignment, &q.label)?;
+    let (found_mark, found_root) = found_at(graph, found, q.origin);
+    let left_root = was_root(parts, q.origin);
+    Ok(Carried {
+        label,
+        mark: mark_of(q.mark, found_mark, NodeMark::None),
+        root: q.root || (found_root && !left_root),
+    })
+}
+
+// Puts one more right node at the end. On refusal it may be there in part.
+fn place(
+    placed: &mut Placed,
+    found: &Found,
+    origin: Option<u32>,
+    carried: Carried,
+) -> Result<(), NoMemory>
+    requires { IfSome origin (λ i. i < length found.now.nodes) }
+    ensures images { OnOk result (placed.new.images.items ≡ placed.old.images.items ++ image_of found.now origin placed.old.next ∷ []) }
+    ensures next { OnOk result (placed.new.next ≡ next_of origin placed.old.next) }
+    ensures kept { OnOk result (kept_pairs placed.new.kept.items ≡ kept_pairs placed.old.kept.items ++ kept_first found.now origin (node_of carried) []) }
+    ensures added { OnOk result (nodes_of placed.new.added.items ≡ nodes_of placed.old.added.items ++ new_first origin (node_of carried) []) }
+{
+    match origin {
+        Some(i) => {
+            let number = found.nodes()[i as usize];
+            placed.images.push(number)?;
+            placed.kept.push(Kept { number, carried })?;
+        }
+        None => {
+            // A graph of 2^64 nodes is not to be had.
+            let next = placed.next.checked_add(1).ok_or(NoMemory)?;
+            placed.images.push(placed.next)?;
+            placed.added.push(carried)?;
+            placed.next = next;
+        }
+    }
+    Ok(())
+}
+
+/// What the right nodes are to carry, and where they are.
+pub(crate) fn made_nodes(
+    alloc: Global,
+    parts: &RuleParts,
+    graph: &Graph,
+    found: &Found,
+    assignment: &Assignment,
+) -> Result<Placed, NoMemory>
+    requires { IsReady parts.now graph.now.graph found.now assignment.now }
+    ensures images { IfOk result (λ p. p.images.items ≡ images_of (rule_of_tree parts.now) graph.now.graph found.now) }
+    ensures kept { IfOk result (λ p. kept_pairs p.kept.items ≡ kept_of found.now (edits.made_node (rule_of_tree parts.now) graph.now.graph found.now (assigned_of assignment.now)) (map right_node_of parts.now.right_nodes)) }
+    ensures added { IfOk result (λ p. nodes_of p.added.items ≡ new_of (edits.made_node (rule_of_tree parts.now) graph.now.graph found.now (assigned_of assignment.now)) (map right_node_of parts.now.right_nodes)) }
+{
+    let (next, _) = graph.next_numbers();
+    let mut placed = Placed {
+        images: Vec::new(alloc),
+        kept: Vec::new(alloc),
+        added: Vec::new(alloc),
+        next,
+    };
+    for q in parts.right_nodes.as_slice() {
+        let carried = made_node(alloc, parts, graph, found, assignment, q)?;
+        place(&mut placed, found, q.origin, carried)?;
+    }
+    Ok(placed)
+}
+
+// The mark of the image of a left edge.
+fn found_mark(graph: &Graph, found: &Found, origin: Option<u32>) -> Option<EdgeMark>
+    requires { IfSome origin (λ i. i < length found.now.edges) }
+    ensures { result ≡ option_map (λ (d : AnyEdge). d.mark) (found_edge graph.now.graph found.now origin) }
+{
+    match origin {
+        Some(i) => match graph.edge(found.edges()[i as usize].number) {
+            Some((_, _, _, mark)) => Some(mark),
+            None => None,
+        },
+        None => None,
+    }
+}
+
+// Whether a right edge begins at the image of its target.
+fn is_exchanged(found: &Found, q: &RightEdge) -> bool
+    requires { IfSome q.now.origin (λ i. i < length found.now.edges) }
+    ensures { result ≡ meant.is_exchanged found.now (right_edge_of q.now) }
+{
+    let reversed = match q.origin {
+        Some(i) => found.edges()[i as usize].reversed,
+        None => false,
+    };
+    q.bidirectional && ((reversed && !q.turned) || (q.turned && !reversed))
+}
+
+// The edge that a right edge makes.
+fn made_edge(
+    alloc: Global,
+    parts: &RuleParts,
+    graph: &Graph,
+    found: &Found,
+    assignment: &Assignment,
+    images: &[u64],
+    q: &RightEdge,
+) -> Result<MadeEdge, NoMemory>
+    requires ready { IsReady parts.now graph.now.graph found.now assignment.now }
+    requires label { IsRightLabel parts.now graph.now.graph found.now assignment.now (expression_of q.now.label) }
+    requires origin { IfSome q.now.origin (λ i. i < length found.now.edges) }
+    requires source { q.now.source < length images.now }
+    requires target { q.now.target < length images.now }
+    ensures { IfOk result (λ d. edge_of d ≡ edits.made_edge (rule_of_tree parts.now) graph.now.graph found.now (assigned_of assignment.now) images.now (right_edge_of q.now)) }
+{
+    let label = label_of(alloc, parts, graph, found, assignment, &q.label)?;
+    let mark = mark_of(q.mark, found_mark(graph, found, q.origin), EdgeMark::None);
+    let source = images[q.source as usize];
+    let target = images[q.target as usize];
+    if is_exchanged(found, q) {
+        Ok(MadeEdge {
+            source: target,
+            target: source,
+            label,
+            mark,
+        })
+    } else {
+        Ok(MadeEdge {
+            source,
+            target,
+            label,
+            mark,
+        })
+    }
+}
+
+/// The edges that the right edges make, between these images of the right nodes.
+pub(crate) fn made_edges(
+    alloc: Global,
+    parts: &RuleParts,
+    graph: &Graph,
+    found: &Found,
+    assignment: &Assignment,
+    images: &[u64],
+) -> Result<Vec<MadeEdge>, NoMemory>
+    requires ready { IsReady parts.now graph.now.graph found.now assignment.now }
+    requires images { length images.now ≡ length parts.now.right_nodes }
+    ensures { IfOk result (λ v. edges_of v.items ≡ map (edits.made_edge (rule_of_tree parts.now) graph.now.graph found.now (assigned_of assignment.now) images.now) (map right_edge_of parts.now.right_edges)) }
+{
+    let mut made = Vec::new(alloc);
+    for q in parts.right_edges.as_slice() {
+        made.push(made_edge(alloc, parts, graph, found, assignment, images, q)?)?;
+    }
+    Ok(made)
+}
+
+// Whether a right node comes from the left node of this place.
+fn is_origin(place: usize, origin: Option<u32>) -> bool
+    ensures { result ≡ places.is_origin place origin }
+{
+    match origin {
+        Some(i) => i as usize == place,
+        None => false,
+    }
+}
+
+// Whether the interface has the left node of this place.
+fn has_in_interface(parts: &RuleParts, place: usize) -> bool
+    ensures { result ≡ is_kept (rule_of_tree parts.now) place }
+{
+    parts
+        .right_nodes
+        .as_slice()
+        .iter()
+        .any(|q| is_origin(place, q.origin))
+}
+
+/// The images of the left nodes that the interface does not have.
+pub(crate) fn gone_nodes(
+    alloc: Global,
+    parts: &RuleParts,
+    nodes: &[u64],
+) -> Result<Vec<u64>, NoMemory>
+    ensures { IfOk result (λ v. v.items ≡ gone (is_kept (rule_of_tree parts.now)) nodes.now) }
+{
+    let mut removed = Vec::new(alloc);
+    for (i, n) in nodes.iter().enumerate() {
+        if !has_in_interface(parts, i) {
+            removed.push(*n)?;
+        }
+    }
+    Ok(removed)
+}
