@@ -91,14 +91,14 @@ fn first_fault_of_names_is_told(rt: HostRuntime) -> Result<(), Fail> {
     Ok(())
 }
 
-// Main = p; r; p = [ r ] r
+// Main = P; r; P = [ r ] r
 fn hiding(alloc: Global) -> Result<[Decl; 3], Fail> {
     let mut local = Items::new(alloc);
     local.push(rule(alloc, b"r")?)?;
     Ok([
-        main_is(alloc, CommandTree::Procedure(name(alloc, b"p")?))?,
+        main_is(alloc, CommandTree::Procedure(name(alloc, b"P")?))?,
         rule(alloc, b"r")?,
-        procedure(alloc, b"p", local, call(alloc, b"r")?)?,
+        procedure(alloc, b"P", local, call(alloc, b"r")?)?,
     ])
 }
 
