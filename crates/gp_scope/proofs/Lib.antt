@@ -1,0 +1,10 @@
+pub mod Outlines
+pub mod Counted
+pub mod Pairs
+pub mod Told
+pub mod Named
+pub mod Numbered
+pub mod Forms
+pub mod Declared
+pub mod Within
+pub mod All_bodies

@@ -1,0 +1,6 @@
+pub mod Outline
+pub mod Names
+pub mod Resolved
+pub mod Fault
+pub mod Bodies
+pub mod inside

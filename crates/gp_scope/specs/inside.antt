@@ -1,0 +1,6 @@
+pub mod Levels
+pub mod Surveys
+pub mod Doubles
+pub mod Commands
+pub mod Declares
+pub mod Numbering

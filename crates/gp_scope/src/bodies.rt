@@ -1,0 +1,138 @@
+//! The bodies of a program text, with numbers in place of names.
+
+ghost use Rattle.std.specs.Prelude.{◌≡◌, ◌+◌, ◌<◌, ◌^◌, [], None, IfOk, OnOk};
+ghost use Rattle.gp_scope.specs.Outline.{outline, named};
+ghost use Rattle.gp_scope.specs.Names.{bodies};
+ghost use Rattle.gp_scope.specs.Fault.{doubled_behind, fault_of_names};
+ghost use Rattle.gp_scope.specs.Bodies.{AreBodies};
+ghost use Rattle.gp_scope.specs.inside.Levels.{scope_of};
+ghost use Rattle.gp_scope.specs.inside.Surveys.{declarations_in};
+ghost use Rattle.gp_scope.specs.inside.Declares.{KeepsOnce, Stands};
+ghost use Rattle.gp_scope.specs.inside.Numbering.{Numbers, numbered_of, with_body, with_bodies};
+
+use crate::declare::level_of;
+use crate::few::declaration_count;
+use crate::level::Level;
+use crate::number::number;
+use crate::survey::{Survey, count_one, is_main};
+use gp_memory::NoMemory;
+use gp_syntax::{Command, CommandTree, Decl, Items, Name};
+use std::alloc::Global;
+
+/// Bodies with numbers in place of names: that of Main, if it is among them, and those of procedures, by their numbers;
+/// and the rules of the sets that they call, by the numbers of the calls.
+#[derive(Drop)]
+pub struct Bodies {
+    pub main: Option<Command>,
+    pub procedures: Vec<Command>,
+    pub sets: Vec<Items<u32>>,
+}
+
+/// The bodies of a program text whose names are in order.
+pub fn bodies_of(alloc: Global, declarations: &[Decl]) -> Result<Bodies, NoMemory>
+    requires { fault_of_names (outline declarations.now) ≡ None }
+    ensures { IfOk result (λ b. AreBodies (outline declarations.now) b) }
+{
+    if declaration_count(declarations).is_none() {
+        return Err(NoMemory);
+    }
+    let top = Survey {
+        rules: 0,
+        procedures: 0,
+        mains: 0,
+    };
+    let mut levels = Vec::new(alloc);
+    levels.push(level_of(alloc, declarations, top)?)?;
+    let none = Bodies {
+        main: None,
+        procedures: Vec::new(alloc),
+        sets: Vec::new(alloc),
+    };
+    with_bodies(alloc, declarations, &mut levels, top, none)
+}
+
+// With the bodies of these declarations, behind so many.
+#[cycle(bodies)]
+fn with_bodies(
+    alloc: Global,
+    declarations: &[Decl],
+    levels: &mut Vec<Level>,
+    first: Survey,
+    done: Bodies,
+) -> Result<Bodies, NoMemory>
+    requires once { doubled_behind [] (outline declarations.now) ≡ None }
+    requires few { first.rules + first.procedures + first.mains + declarations_in (outline declarations.now) < 2 ^ 32 }
+    ensures bodies { IfOk result (λ b. numbered_of b ≡ with_bodies (numbered_of done) (bodies (scope_of levels.old.items) first.rules first.procedures (outline declarations.now))) }
+    ensures levels { OnOk result (levels.new.items ≡ levels.old.items) }
+{
+    let mut at = first;
+    let mut done = done;
+    'each: for declaration in declarations {
+        done = with_own(alloc, declaration, levels, at, done)?;
+        at = at.plus(count_one(declaration));
+    }
+    Ok(done)
+}
+
+// With those of one declaration.
+#[cycle(bodies)]
+fn with_own(
+    alloc: Global,
+    declaration: &Decl,
+    levels: &mut Vec<Level>,
+    at: Survey,
+    done: Bodies,
+) -> Result<Bodies, NoMemory>
+    requires { Stands declaration.now at }
+    ensures bodies { IfOk result (λ b. Numbers declaration.now (scope_of levels.old.items) at.rules at.procedures (numbered_of done) (numbered_of b)) }
+    ensures levels { OnOk result (levels.new.items ≡ levels.old.items) }
+    ensures once { OnOk result (KeepsOnce declaration.now) }
+{
+    match declaration {
+        Decl::Rule(_) => Ok(done),
+        Decl::Procedure {
+            name,
+            declarations,
+            body,
+        } => {
+            let within = at.with_procedure(name);
+            levels.push(level_of(alloc, declarations.as_slice(), within)?)?;
+            let done = with_body(alloc, levels.as_slice(), name, body, done)?;
+            let done = with_bodies(alloc, declarations.as_slice(), levels, within, done)?;
+            levels.pop();
+            Ok(done)
+        }
+    }
+}
+
+// With one body. A second Main is left out.
+fn with_body(
+    alloc: Global,
+    levels: &[Level],
+    name: &Name,
+    body: &CommandTree,
+    done: Bodies,
+) -> Result<Bodies, NoMemory>
+    ensures { IfOk result (λ b. numbered_of b ≡ with_body (numbered_of done) (record { name = name.now; scope = scope_of levels.now; command = named body.now })) }
+{
+    let Bodies {
+        main,
+        mut procedures,
+        mut sets,
+    } = done;
+    let command = number(alloc, levels, body, &mut sets)?;
+    if is_main(name) {
+        let main = main.or(Some(command));
+        return Ok(Bodies {
+            main,
+            procedures,
+            sets,
+        });
+    }
+    procedures.push(command)?;
+    Ok(Bodies {
+        main,
+        procedures,
+        sets,
+    })
+}
