@@ -1,10 +1,15 @@
 -- Chains with places in place of names.
-use Rattle.std.proofs.Common.{◌≡◌, ℕ, zero, suc, ◌&&◌, Bool, true, false, List, [], ◌∷◌, fold, Option, Some, slice_get, refl, sym, ap, subst, ◌∙◌}
+use Rattle.std.proofs.Common.{◌≡◌, ℕ, ℤ, zero, suc, ◌&&◌, Bool, true, false, List, [], ◌∷◌, fold, Option, Some, slice_get, refl, sym, ap, subst, ◌∙◌}
 use Rattle.gp_values.specs.declared.marks.EdgeMark.{EdgeMark}
 use Rattle.gp_values.specs.Names.{Name}
 use Rattle.gp_syntax.specs.declared.expression.Expr.{Expr}
 use Rattle.gp_syntax.specs.declared.expression.Cond.{Cond}
-use Rattle.gp_syntax.specs.Expression.{Expression, Condition, MarkPattern, renamed, renamed_condition}
+use Rattle.std.specs.Borrow.{Bor}
+use Rattle.gp_clauses.specs.declared.shape.Shape.{Shape}
+use Rattle.gp_clauses.specs.declared.shape.Shape.TheVariants as shapes
+use Rattle.gp_clauses.specs.declared.shape.Links.{Links}
+use Rattle.gp_clauses.specs.inside.Facts.{is_numeral}
+use Rattle.gp_syntax.specs.Expression.{Expression, Number, Negated, Condition, MarkPattern, renamed, renamed_condition}
 use Rattle.gp_syntax.specs.Fault.{has_no_operation}
 use Rattle.gp_syntax.specs.Tree.{expression_of}
 use Rattle.gp_syntax.proofs.Told.{both}
@@ -12,10 +17,10 @@ use Rattle.gp_clauses.specs.declared.shape.Operation.{Operation}
 use Rattle.gp_clauses.specs.declared.shape.Operation.TheVariants as operations
 use Rattle.gp_clauses.specs.declared.condition_shape.Connective.{Connective}
 use Rattle.gp_clauses.specs.declared.condition_shape.Connective.TheVariants as connectives
-use Rattle.gp_clauses.specs.inside.Shapes.{applied, with_operand, chain}
+use Rattle.gp_clauses.specs.inside.Shapes.{applied, with_operand, chain, expression_in}
 use Rattle.gp_clauses.specs.inside.ConditionShapes.{NamedCondition, named_condition, connected, with_part, condition_chain}
 use Rattle.gp_check.specs.declared.places.Places.{Places}
-use Rattle.gp_check.specs.inside.Placed.{placed_in, placed_condition_in, IsJoining}
+use Rattle.gp_check.specs.inside.Placed.{placed_in, placed_condition_in, numeral, IsJoining}
 
 renamed_applied : {A B : Type 0} (v n : A → B) (op : Operation) (d e : Expression A) → renamed v n (applied op d e) ≡ applied op (renamed v n d) (renamed v n e)
 renamed_applied v n operations.Plus d e = refl
@@ -57,6 +62,40 @@ plain_chain e (m ∷ ls) h =
     each : ((k : ℕ) (l : Operation × Expr Name) → slice_get ls k ≡ Some l → IsPlain l) → IsJoining m.0 → has_no_operation (expression_of m.1) ≡ true → (k : ℕ) (l : Operation × Expr Name) → slice_get (m ∷ ls) k ≡ Some l → IsPlain l
     each rest j o zero l at = let e : m ≡ l = cc in subst IsPlain e (record { joining = j; operand = o })
     each rest j o (suc k) l at = rest k l at
+
+-- ---- numerals
+
+numeral_applied : {P : Type 0} (op : Operation) (d e : Expression Name) → is_numeral (applied op d e) ≡ true → P
+numeral_applied operations.Plus d e h = absurd cc
+numeral_applied operations.Minus d e h = absurd cc
+numeral_applied operations.Times d e h = absurd cc
+numeral_applied operations.Over d e h = absurd cc
+numeral_applied operations.Dot d e h = absurd cc
+numeral_applied operations.Join d e h = absurd cc
+
+-- a numeral as a chain has no further operands
+pub numeral_chain : (e : Expression Name) (ls : List (Operation × Expr Name)) → is_numeral (chain e ls) ≡ true → (chain e ls ≡ e) × (is_numeral e ≡ true)
+numeral_chain e [] h = (refl, h)
+numeral_chain e (l ∷ ls) h = numeral_applied l.0 e (expression_of l.1) (numeral_chain (with_operand e l) ls h).1
+
+pub not_numeral : (s : Shape) → is_numeral (expression_in s) ≡ true → ((z : Bor ℤ) → s ≡ shapes.Number z → ⊥) → ((e : Bor (Expr Name)) (ls : Links) → s ≡ shapes.Chain e ls → ⊥) → ⊥
+not_numeral (shapes.Number z) h a b = a z refl
+not_numeral (shapes.Text x) h a b = absurd cc
+not_numeral (shapes.Variable x) h a b = absurd cc
+not_numeral (shapes.InDegree x) h a b = absurd cc
+not_numeral (shapes.OutDegree x) h a b = absurd cc
+not_numeral (shapes.Length x) h a b = absurd cc
+not_numeral shapes.Empty h a b = absurd cc
+not_numeral (shapes.Negated e) h a b = absurd cc
+not_numeral (shapes.Chain e ls) h a b = b e ls refl
+
+pub numeral_placed : (p : Places) (e : Expression Name) → is_numeral e ≡ true → numeral (Negated e) ≡ placed_in p (Negated e)
+numeral_placed p (Number z) h = refl
+numeral_placed p other h = absurd cc
+
+pub negated_numeral : (e : Expression Name) → has_no_operation (Negated e) ≡ true → is_numeral e ≡ true
+negated_numeral (Number z) h = refl
+negated_numeral other h = absurd cc
 
 -- ---- conditions
 

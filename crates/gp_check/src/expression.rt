@@ -1,13 +1,12 @@
 //! Expressions and left labels with places in place of names.
 
-ghost use Rattle.std.specs.Prelude.{◌≡◌, ℕ, true, IfOk};
-ghost use Rattle.gp_syntax.specs.Expression.{Negated, renamed};
-ghost use Rattle.gp_values.specs.Names.{Name};
+ghost use Rattle.std.specs.Prelude.{◌≡◌, true, IfOk};
+ghost use Rattle.gp_syntax.specs.Expression.{Number, Negated};
 ghost use Rattle.gp_clauses.specs.inside.Facts.{is_numeral};
 ghost use Rattle.gp_syntax.specs.Fault.{has_no_operation};
 ghost use Rattle.gp_syntax.specs.Tree.{expression_of, label_of};
 ghost use Rattle.gp_clauses.specs.inside.Shapes.{applied};
-ghost use Rattle.gp_check.specs.inside.Placed.{placed_in, IsJoining};
+ghost use Rattle.gp_check.specs.inside.Placed.{placed_in, numeral, IsJoining};
 
 use crate::chains::{dotted_label, joined_label, with_operand};
 use crate::places::Places;
@@ -16,12 +15,30 @@ use gp_memory::NoMemory;
 use gp_syntax::{Boxed, Expr, Name, SimpleLabel};
 use std::alloc::Global;
 
+fn number(z: &i128) -> Expr<u32>
+    ensures { expression_of result ≡ Number z.now }
+{
+    Expr::Number(*z)
+}
+
+fn number_label(z: &i128) -> SimpleLabel
+    ensures { label_of result ≡ Number z.now }
+{
+    SimpleLabel::Number(*z)
+}
+
+fn negated_number(z: &i128) -> SimpleLabel
+    ensures { label_of result ≡ Negated (Number z.now) }
+{
+    SimpleLabel::NegatedNumber(*z)
+}
+
 /// An expression with places in place of names.
 pub fn placed(alloc: Global, places: Places<'_>, e: &Expr<Name>) -> Result<Expr<u32>, NoMemory>
     ensures { IfOk result (λ r. expression_of r ≡ placed_in places.entry (expression_of e.now)) }
 {
     match shape_of(e) {
-        Shape::Number(z) => Ok(Expr::Number(*z)),
+        Shape::Number(z) => Ok(number(z)),
         Shape::Text(text) => Ok(Expr::Text(text.copy(alloc)?)),
         Shape::Variable(x) => Ok(Expr::Variable(places.variable(x)?)),
         Shape::InDegree(n) => Ok(Expr::InDegree(places.node(n)?)),
@@ -62,12 +79,13 @@ fn with_label(
 }
 
 // Minus a numeral.
-fn negated_label(operand: &Expr<Name>) -> Result<SimpleLabel, NoMemory>
+fn negated_label(operand: &Expr<Name>) -> SimpleLabel
     requires { is_numeral (expression_of operand.now) ≡ true }
-    ensures { IfOk result (λ l. (v n : Name → ℕ) → label_of l ≡ renamed v n (Negated (expression_of operand.now))) }
+    ensures { label_of result ≡ numeral (Negated (expression_of operand.now)) }
 {
     match shape_of(operand) {
-        Shape::Number(z) => Ok(SimpleLabel::NegatedNumber(*z)),
+        Shape::Number(z) => negated_number(z),
+        Shape::Chain(first, _) => negated_label(first),
         _ => unreachable!(),
     }
 }
@@ -78,11 +96,11 @@ pub fn label(alloc: Global, places: Places<'_>, e: &Expr<Name>) -> Result<Simple
     ensures { IfOk result (λ l. label_of l ≡ placed_in places.entry (expression_of e.now)) }
 {
     match shape_of(e) {
-        Shape::Number(z) => Ok(SimpleLabel::Number(*z)),
+        Shape::Number(z) => Ok(number_label(z)),
         Shape::Text(text) => Ok(SimpleLabel::Text(text.copy(alloc)?)),
         Shape::Variable(x) => Ok(SimpleLabel::Variable(places.variable(x)?)),
         Shape::Empty => Ok(SimpleLabel::Empty),
-        Shape::Negated(operand) => negated_label(operand),
+        Shape::Negated(operand) => Ok(negated_label(operand)),
         Shape::Chain(first, links) => {
             let mut total = label(alloc, places, first)?;
             'operands: for at in 0..links.len() {

@@ -25,6 +25,10 @@ placed_condition variables nodes c = renamed_condition (place_in variables) (pla
 abbrev pub placed_condition_in : Places → NamedCondition → Condition ℕ (MarkPattern EdgeMark)
 placed_condition_in p c = placed_condition p.variables.now (node_names (side_of p.left.now)) c
 
+-- an expression without names, whatever the names are
+abbrev pub numeral : Expression Name → Expression ℕ
+numeral e = renamed (λ x. 0) (λ x. 0) e
+
 -- an operation that a left label may have
 abbrev pub IsJoining : Operation → Type 0
 IsJoining operations.Dot = Unit {0}
