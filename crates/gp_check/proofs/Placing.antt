@@ -1,5 +1,5 @@
 -- Chains with places in place of names.
-use Rattle.std.proofs.Common.{◌≡◌, ℕ, ℤ, zero, suc, ◌&&◌, Bool, true, false, List, [], ◌∷◌, fold, Option, Some, slice_get, refl, sym, ap, subst, ◌∙◌}
+use Rattle.std.proofs.Common.{◌≡◌, ℕ, ℤ, zero, suc, true, List, [], ◌∷◌, fold, Option, Some, slice_get, refl, ap, subst, ◌∙◌}
 use Rattle.gp_values.specs.declared.marks.EdgeMark.{EdgeMark}
 use Rattle.gp_values.specs.Names.{Name}
 use Rattle.gp_syntax.specs.declared.expression.Expr.{Expr}
@@ -9,7 +9,7 @@ use Rattle.gp_clauses.specs.declared.shape.Shape.{Shape}
 use Rattle.gp_clauses.specs.declared.shape.Shape.TheVariants as shapes
 use Rattle.gp_clauses.specs.declared.shape.Links.{Links}
 use Rattle.gp_clauses.specs.inside.Facts.{is_numeral}
-use Rattle.gp_syntax.specs.Expression.{Expression, Number, Negated, Condition, MarkPattern, renamed, renamed_condition}
+use Rattle.gp_syntax.specs.Expression.{Expression, Number, Negated, Condition, MarkPattern, renamed}
 use Rattle.gp_syntax.specs.Fault.{has_no_operation}
 use Rattle.gp_syntax.specs.Tree.{expression_of}
 use Rattle.gp_syntax.proofs.Told.{both}

@@ -1,5 +1,5 @@
 -- The parts of a rule together, and the clauses together.
-use Rattle.std.proofs.Common.{◌≡◌, ◌&&◌, Bool, true, false, not, List, [], ◌∷◌, map, Option, Some, None, refl, sym, ap, ◌∙◌}
+use Rattle.std.proofs.Common.{◌≡◌, ◌&&◌, Bool, true, false, not, List, [], ◌∷◌, map, Option, Some, None, refl, sym, ◌∙◌}
 use Rattle.std.specs.Prelude.{nat_le, option_map}
 use Rattle.std.specs.Option.{option_or}
 use Rattle.std.specs.List.{list_all}

@@ -65,7 +65,7 @@ fn twice(alloc: Global, name: &str) -> Result<Expr<Name>, Fail> {
     Ok(Expr::Join(first, rest))
 }
 
-fn label(alloc: Global, label: Label) -> Result<Expr<Name>, Fail> {
+fn expression(alloc: Global, label: Label) -> Result<Expr<Name>, Fail> {
     match label {
         Label::Variable(name) => variable(alloc, name),
         Label::Degree(name) => Ok(Expr::InDegree(named(alloc, name)?)),
@@ -76,7 +76,7 @@ fn label(alloc: Global, label: Label) -> Result<Expr<Name>, Fail> {
 
 fn node(alloc: Global, name: &str, at: Label, mark: Option<&str>) -> Result<NodeDecl, Fail> {
     let name = named(alloc, name)?;
-    let label = label(alloc, at)?;
+    let label = expression(alloc, at)?;
     let mark = match mark {
         Some(word) => Some(named(alloc, word)?),
         None => None,

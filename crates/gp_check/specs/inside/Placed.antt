@@ -1,5 +1,5 @@
 -- Parts of a rule with places in place of names.
-use Rattle.std.specs.Prelude.{ℕ, List, map, if◌then◌else◌}
+use Rattle.std.specs.Prelude.{ℕ, List, map}
 use Rattle.gp_values.specs.declared.marks.EdgeMark.{EdgeMark}
 use Rattle.gp_values.specs.Names.{Name, place_of}
 use Rattle.gp_syntax.specs.declared.kinds.VariableType.{VariableType}

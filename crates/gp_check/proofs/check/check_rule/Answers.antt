@@ -1,5 +1,4 @@
 use Rattle.std.proofs.lemmas.Result.{err_from_is_err_and}
-use Rattle.gp_syntax.specs.Checked.{IsChecked}
 use Rattle.gp_syntax.specs.Tree.{declaration_of}
 use Rattle.gp_check.proofs.Wholes.{names_stop, labels_stop, marks_stop, none_stop}
 use Rattle.gp_check.proofs.check.check_rule.Goals as goal

@@ -1,8 +1,7 @@
-use Rattle.std.proofs.Common.{rules, ◌≡◌, ℕ, ◌<◌, fold, refl, sym, ap, ◌∙◌, arith}
+use Rattle.std.proofs.Common.{ℕ, fold, sym, ap, ◌∙◌}
 use Rattle.gp_syntax.specs.Expression.{HasType, HasEdge, HasEdgeWith, Compared, Not}
-use Rattle.gp_syntax.specs.Tree.{expression_of, condition_of, pattern_of}
+use Rattle.gp_syntax.specs.Tree.{condition_of, pattern_of}
 use Rattle.gp_syntax.proofs.Trees.{condition_of-HasType, condition_of-HasEdge, condition_of-HasEdgeWith, condition_of-Compared, condition_of-Not}
-use Rattle.gp_clauses.specs.inside.Size.{condition_size}
 use Rattle.gp_clauses.specs.inside.ConditionShapes.{named_condition}
 use Rattle.gp_clauses.proofs.Walks.{fold_ended}
 use Rattle.gp_check.specs.inside.Placed.{placed_condition_in}

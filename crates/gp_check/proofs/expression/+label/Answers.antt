@@ -1,6 +1,5 @@
-use Rattle.std.proofs.Common.{rules, ◌≡◌, ℕ, ◌<◌, true, fold, refl, sym, ap, ◌∙◌, arith}
+use Rattle.std.proofs.Common.{rules, ◌<◌, fold, sym, ap, ◌∙◌, arith}
 use Rattle.gp_syntax.specs.Expression.{Variable, Text}
-use Rattle.gp_syntax.specs.Fault.{has_no_operation}
 use Rattle.gp_syntax.specs.Tree.{expression_of, label_of}
 use Rattle.gp_syntax.proofs.Trees.{label_of-Text, label_of-Variable, label_of-Empty}
 use Rattle.gp_clauses.specs.inside.Shapes.{operands}

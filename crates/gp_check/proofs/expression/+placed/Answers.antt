@@ -1,4 +1,4 @@
-use Rattle.std.proofs.Common.{rules, ◌≡◌, ℕ, ◌<◌, fold, refl, sym, ap, ◌∙◌, arith}
+use Rattle.std.proofs.Common.{rules, ℕ, ◌<◌, fold, sym, ap, ◌∙◌, arith}
 use Rattle.gp_syntax.specs.Expression.{Negated, Variable, In_degree, Out_degree, Length_of, Text}
 use Rattle.gp_syntax.specs.Tree.{expression_of}
 use Rattle.gp_syntax.proofs.Trees.{expression_of-Text, expression_of-Variable, expression_of-InDegree, expression_of-OutDegree, expression_of-Length, expression_of-Empty, expression_of-Negated}

@@ -2,7 +2,7 @@ use Rattle.std.proofs.Common.{ℕ, ◌∙◌, ap, rules}
 use mir.Val.{SFits}
 use mir.Syntax.{w128}
 use Rattle.std.proofs.lemmas.Int.{to_z-of_z}
-use Rattle.gp_syntax.specs.Expression.{Number, Negated}
+use Rattle.gp_syntax.specs.Expression.{Number}
 use Rattle.gp_syntax.proofs.Trees.{expression_of-Number}
 use Rattle.gp_check.proofs.expression.number.Goals as goal
 

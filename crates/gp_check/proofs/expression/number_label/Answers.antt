@@ -1,8 +1,8 @@
-use Rattle.std.proofs.Common.{ℕ, ◌∙◌, ap, rules}
+use Rattle.std.proofs.Common.{◌∙◌, ap, rules}
 use mir.Val.{SFits}
 use mir.Syntax.{w128}
 use Rattle.std.proofs.lemmas.Int.{to_z-of_z}
-use Rattle.gp_syntax.specs.Expression.{Number, Negated}
+use Rattle.gp_syntax.specs.Expression.{Number}
 use Rattle.gp_syntax.proofs.Trees.{label_of-Number}
 use Rattle.gp_check.proofs.expression.number_label.Goals as goal
 
