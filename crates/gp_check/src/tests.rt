@@ -1,4 +1,4 @@
-use crate::check_rule;
+use crate::{RuleFault, check_rule};
 use gp_syntax::{
     Boxed, Cond, EdgeDecl, Expr, GraphDecl, Items, Name, NodeDecl, RuleDecl, Signed, SumSign,
     VariableGroup, VariableType,
@@ -147,25 +147,32 @@ fn interface(alloc: Global, second: &str) -> Result<Items<Name>, Fail> {
     Ok(interface)
 }
 
-fn sides(alloc: Global, draft: Draft) -> Result<(GraphDecl, GraphDecl), Fail> {
-    let left = GraphDecl {
-        nodes: nodes(alloc, draft.left, "any", draft.nodes)?,
-        edges: edges(alloc, "e", draft.edges)?,
-    };
-    let right = GraphDecl {
-        nodes: nodes(alloc, draft.right, draft.mark, 0)?,
-        edges: edges(alloc, draft.edge, 0)?,
-    };
-    Ok((left, right))
+fn left(alloc: Global, draft: Draft) -> Result<GraphDecl, Fail> {
+    let nodes = nodes(alloc, draft.left, "any", draft.nodes)?;
+    let edges = edges(alloc, "e", draft.edges)?;
+    Ok(GraphDecl { nodes, edges })
+}
+
+fn right(alloc: Global, draft: Draft) -> Result<GraphDecl, Fail> {
+    let nodes = nodes(alloc, draft.right, draft.mark, 0)?;
+    let edges = edges(alloc, draft.edge, 0)?;
+    Ok(GraphDecl { nodes, edges })
+}
+
+fn tests(alloc: Global) -> Result<Cond<Name, Option<Name>>, Fail> {
+    let source = named(alloc, "a")?;
+    Ok(Cond::HasEdge(source, named(alloc, "b")?))
 }
 
 fn rule(alloc: Global, draft: Draft) -> Result<RuleDecl, Fail> {
-    let (left, right) = sides(alloc, draft)?;
+    let name = named(alloc, "r")?;
     let variables = variables(alloc, draft.second)?;
     let interface = interface(alloc, draft.interface)?;
-    let condition = Cond::HasEdge(named(alloc, "a")?, named(alloc, "b")?);
+    let condition = tests(alloc)?;
+    let left = left(alloc, draft)?;
+    let right = right(alloc, draft)?;
     Ok(RuleDecl {
-        name: named(alloc, "r")?,
+        name,
         variables,
         left,
         right,
@@ -174,13 +181,21 @@ fn rule(alloc: Global, draft: Draft) -> Result<RuleDecl, Fail> {
     })
 }
 
+fn is_told(alloc: Global, fault: &RuleFault, wanted: &str) -> Result<bool, Fail> {
+    Ok(format!(in alloc; "{fault}")?.as_str() == wanted)
+}
+
+fn is_answered(alloc: Global, rule: &RuleDecl, wanted: &str) -> Result<bool, Fail> {
+    match check_rule(alloc, rule) {
+        Ok(_) => Ok(wanted == "rule"),
+        Err(fault) => is_told(alloc, &fault, wanted),
+    }
+}
+
 // Whether the answer is this fault, or `rule`.
 fn answers(alloc: Global, draft: Draft, wanted: &str) -> Result<bool, Fail> {
     let rule = rule(alloc, draft)?;
-    match check_rule(alloc, &rule) {
-        Ok(_) => Ok(wanted == "rule"),
-        Err(fault) => Ok(format!(in alloc; "{fault}")?.as_str() == wanted),
-    }
+    is_answered(alloc, &rule, wanted)
 }
 
 #[test]
