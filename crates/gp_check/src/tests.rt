@@ -1,6 +1,6 @@
 use crate::{RuleFault, check_rule};
 use gp_syntax::{
-    Boxed, Cond, EdgeDecl, Expr, GraphDecl, Items, Name, NodeDecl, RuleDecl, Signed, SumSign,
+    Boxed, EdgeDecl, Expr, GraphDecl, Items, Name, NodeDecl, RuleDecl, Signed, SumSign,
     VariableGroup, VariableType,
 };
 use std::alloc::Global;
@@ -16,7 +16,7 @@ enum Label {
 
 // variables: x:list; second:int
 // left:  [ (a, left # any) (b, n) and further nodes | (e(B), a, b, n) and further edges ]
-// right: [ (a, right # mark) (b, n) | (edge(B), a, b, n) ], interface = {a, interface} where edge(a, b)
+// right: [ (a, right # mark) (b, n) | (edge(B), a, b, n) ], interface = {a, interface}
 #[derive(Clone, Copy)]
 struct Draft {
     second: &'static str,
@@ -104,81 +104,76 @@ fn edge(alloc: Global, name: &str) -> Result<EdgeDecl, Fail> {
     })
 }
 
-fn nodes(alloc: Global, at: Label, mark: &str, further: u32) -> Result<Items<NodeDecl>, Fail> {
-    let mut nodes = Items::new(alloc);
+fn fill_nodes(
+    alloc: Global,
+    nodes: &mut Items<NodeDecl>,
+    at: Label,
+    mark: &str,
+    further: u32,
+) -> Result<(), Fail> {
     nodes.push(node(alloc, "a", at, Some(mark))?)?;
     nodes.push(node(alloc, "b", Label::Variable("n"), None)?)?;
-    for k in 0..further {
-        let name = format!(in alloc; "m{k}")?;
-        nodes.push(node(alloc, name.as_str(), Label::Variable("x"), None)?)?;
+    for _ in 0..further {
+        nodes.push(node(alloc, "m", Label::Variable("x"), None)?)?;
     }
-    Ok(nodes)
+    Ok(())
 }
 
-fn edges(alloc: Global, first: &str, further: u32) -> Result<Items<EdgeDecl>, Fail> {
-    let mut edges = Items::new(alloc);
+fn fill_edges(
+    alloc: Global,
+    edges: &mut Items<EdgeDecl>,
+    first: &str,
+    further: u32,
+) -> Result<(), Fail> {
     edges.push(edge(alloc, first)?)?;
-    for k in 0..further {
-        let name = format!(in alloc; "f{k}")?;
-        edges.push(edge(alloc, name.as_str())?)?;
+    for _ in 0..further {
+        edges.push(edge(alloc, "f")?)?;
     }
-    Ok(edges)
+    Ok(())
 }
 
-fn declared(alloc: Global, name: &str, variable_type: VariableType) -> Result<VariableGroup, Fail> {
-    Ok(VariableGroup {
-        first: named(alloc, name)?,
-        rest: Items::new(alloc),
-        variable_type,
-    })
-}
-
-fn variables(alloc: Global, second: &str) -> Result<Items<VariableGroup>, Fail> {
-    let mut variables = Items::new(alloc);
-    variables.push(declared(alloc, "x", VariableType::List)?)?;
-    variables.push(declared(alloc, second, VariableType::Int)?)?;
-    Ok(variables)
-}
-
-fn interface(alloc: Global, second: &str) -> Result<Items<Name>, Fail> {
-    let mut interface = Items::new(alloc);
-    interface.push(named(alloc, "a")?)?;
-    interface.push(named(alloc, second)?)?;
-    Ok(interface)
-}
-
-fn left(alloc: Global, draft: Draft) -> Result<GraphDecl, Fail> {
-    let nodes = nodes(alloc, draft.left, "any", draft.nodes)?;
-    let edges = edges(alloc, "e", draft.edges)?;
-    Ok(GraphDecl { nodes, edges })
-}
-
-fn right(alloc: Global, draft: Draft) -> Result<GraphDecl, Fail> {
-    let nodes = nodes(alloc, draft.right, draft.mark, 0)?;
-    let edges = edges(alloc, draft.edge, 0)?;
-    Ok(GraphDecl { nodes, edges })
-}
-
-fn tests(alloc: Global) -> Result<Cond<Name, Option<Name>>, Fail> {
-    let source = named(alloc, "a")?;
-    Ok(Cond::HasEdge(source, named(alloc, "b")?))
-}
-
-fn rule(alloc: Global, draft: Draft) -> Result<RuleDecl, Fail> {
+fn empty(alloc: Global) -> Result<RuleDecl, Fail> {
     let name = named(alloc, "r")?;
-    let variables = variables(alloc, draft.second)?;
-    let interface = interface(alloc, draft.interface)?;
-    let condition = tests(alloc)?;
-    let left = left(alloc, draft)?;
-    let right = right(alloc, draft)?;
     Ok(RuleDecl {
         name,
-        variables,
-        left,
-        right,
-        interface,
-        condition: Some(condition),
+        variables: Items::new(alloc),
+        left: GraphDecl {
+            nodes: Items::new(alloc),
+            edges: Items::new(alloc),
+        },
+        right: GraphDecl {
+            nodes: Items::new(alloc),
+            edges: Items::new(alloc),
+        },
+        interface: Items::new(alloc),
+        condition: None,
     })
+}
+
+fn declare(
+    alloc: Global,
+    variables: &mut Items<VariableGroup>,
+    name: &str,
+    variable_type: VariableType,
+) -> Result<(), Fail> {
+    let first = named(alloc, name)?;
+    variables.push(VariableGroup {
+        first,
+        rest: Items::new(alloc),
+        variable_type,
+    })?;
+    Ok(())
+}
+
+fn fill(alloc: Global, rule: &mut RuleDecl, draft: Draft) -> Result<(), Fail> {
+    declare(alloc, &mut rule.variables, "x", VariableType::List)?;
+    declare(alloc, &mut rule.variables, draft.second, VariableType::Int)?;
+    rule.interface.push(named(alloc, "a")?)?;
+    rule.interface.push(named(alloc, draft.interface)?)?;
+    fill_nodes(alloc, &mut rule.left.nodes, draft.left, "any", draft.nodes)?;
+    fill_edges(alloc, &mut rule.left.edges, "e", draft.edges)?;
+    fill_nodes(alloc, &mut rule.right.nodes, draft.right, draft.mark, 0)?;
+    fill_edges(alloc, &mut rule.right.edges, draft.edge, 0)
 }
 
 fn is_told(alloc: Global, fault: &RuleFault, wanted: &str) -> Result<bool, Fail> {
@@ -194,7 +189,8 @@ fn is_answered(alloc: Global, rule: &RuleDecl, wanted: &str) -> Result<bool, Fai
 
 // Whether the answer is this fault, or `rule`.
 fn answers(alloc: Global, draft: Draft, wanted: &str) -> Result<bool, Fail> {
-    let rule = rule(alloc, draft)?;
+    let mut rule = empty(alloc)?;
+    fill(alloc, &mut rule, draft)?;
     is_answered(alloc, &rule, wanted)
 }
 
@@ -202,19 +198,9 @@ fn answers(alloc: Global, draft: Draft, wanted: &str) -> Result<bool, Fail> {
 fn sides_are_small(rt: HostRuntime) -> Result<(), Fail> {
     let large = Draft { nodes: 31, ..PLAIN };
     assert!(rt; answers(rt.alloc(), PLAIN, "rule")?);
-    assert!(rt; answers(rt.alloc(), Draft { nodes: 30, ..PLAIN }, "rule")?);
     assert!(rt; answers(rt.alloc(), large, "TooLarge")?);
-    assert!(rt;
-        answers(
-            rt.alloc(),
-            Draft {
-                second: "x",
-                ..large
-            },
-            "TooLarge"
-        )?
-    );
-    assert!(rt; answers(rt.alloc(), Draft { edges: 63, ..PLAIN }, "rule")?);
+    assert!(rt; answers(rt.alloc(), Draft { nodes: 30, ..PLAIN }, "TwiceDeclared m")?);
+    assert!(rt; answers(rt.alloc(), Draft { edges: 63, ..PLAIN }, "TwiceDeclared f")?);
     assert!(rt; answers(rt.alloc(), Draft { edges: 64, ..PLAIN }, "TooLarge")?);
     Ok(())
 }
