@@ -1,0 +1,36 @@
+use Rattle.std.proofs.Common.{ℕ, fold, sym, ap, ◌∙◌}
+use Rattle.gp_syntax.specs.Expression.{HasType, HasEdge, HasEdgeWith, Compared, Not}
+use Rattle.gp_syntax.specs.Tree.{condition_of, pattern_of}
+use Rattle.gp_syntax.proofs.Trees.{condition_of-HasType, condition_of-HasEdge, condition_of-HasEdgeWith, condition_of-Compared, condition_of-Not}
+use Rattle.gp_clauses.specs.inside.ConditionShapes.{named_condition}
+use Rattle.gp_clauses.proofs.Walks.{fold_ended}
+use Rattle.gp_check.specs.inside.Placed.{placed_condition_in}
+use Rattle.gp_check.proofs.Placing.{with_placed_part, placed_condition_chain}
+use Rattle.gp_check.proofs.condition.+placed_condition.Goals as goal
+
+pub returns-in_ok-e-in-HasType : goal.returns-in_ok-e-in-HasType
+returns-in_ok-e-in-HasType t c = condition_of-HasType {R = ℕ} pattern_of c.in-HasType.wanted c.in_ok-e-in-HasType.e ∙ ap (HasType c.in-HasType.wanted) c.in_ok-e-in-HasType.ensures ∙ ap (placed_condition_in c.args.places) (sym c.in-HasType.ensures.whole)
+
+pub returns-in_ok-target-in-HasEdge : goal.returns-in_ok-target-in-HasEdge
+returns-in_ok-target-in-HasEdge t c =
+    condition_of-HasEdge {R = ℕ} pattern_of c.in_ok-source-in-HasEdge.source c.in_ok-target-in-HasEdge.target ∙ (λ i. HasEdge (c.in_ok-source-in-HasEdge.ensures i) (c.in_ok-target-in-HasEdge.ensures i)) ∙ ap (placed_condition_in c.args.places) (sym c.in-HasEdge.ensures.whole)
+
+pub returns-in_ok-label-in-HasEdgeWith : goal.returns-in_ok-label-in-HasEdgeWith
+returns-in_ok-label-in-HasEdgeWith t c =
+    condition_of-HasEdgeWith {R = ℕ} pattern_of c.in_ok-source-in-HasEdgeWith.source c.in_ok-target-in-HasEdgeWith.target c.in_ok-label-in-HasEdgeWith.label c.edge_pattern.result
+    ∙ (λ i. HasEdgeWith (c.in_ok-source-in-HasEdgeWith.ensures i) (c.in_ok-target-in-HasEdgeWith.ensures i) (c.in_ok-label-in-HasEdgeWith.ensures i) (c.edge_pattern.ensures i)) ∙ ap (placed_condition_in c.args.places) (sym c.in-HasEdgeWith.ensures.whole)
+
+pub returns-in_ok-e-in-Compared : goal.returns-in_ok-e-in-Compared
+returns-in_ok-e-in-Compared t c =
+    condition_of-Compared {R = ℕ} pattern_of c.in-Compared.comparison c.in_ok-d-in-Compared.d c.in_ok-e-in-Compared.e ∙ (λ i. Compared c.in-Compared.comparison (c.in_ok-d-in-Compared.ensures i) (c.in_ok-e-in-Compared.ensures i)) ∙ ap (placed_condition_in c.args.places) (sym c.in-Compared.ensures.whole)
+
+pub returns-in_ok-new-in-Not : goal.returns-in_ok-new-in-Not
+returns-in_ok-new-in-Not t c =
+    condition_of-Not pattern_of c.in_ok-new-in-Not.field-0 ∙ ap (λ x. Not (condition_of pattern_of x)) c.in_ok-new-in-Not.ensures ∙ ap Not c.in_ok-part-in-Not.ensures ∙ ap (placed_condition_in c.args.places) (sym c.in-Not.ensures.whole)
+
+pub returns-after-parts : goal.returns-after-parts
+returns-after-parts t c =
+    let ds = c.in-Chain.rest.now in
+    sym (fold_ended (with_placed_part c.args.places c.in-Chain.by) ds c.parts.part-index (condition_of pattern_of c.parts.total) c.parts-test.false) ∙ c.parts.invariant
+    ∙ ap (λ x. fold (with_placed_part c.args.places c.in-Chain.by) x ds) c.in_ok-total-in-Chain.ensures ∙ sym (placed_condition_chain c.args.places c.in-Chain.by (named_condition c.in-Chain.first.now) ds)
+    ∙ ap (placed_condition_in c.args.places) (sym c.in-Chain.ensures.whole)

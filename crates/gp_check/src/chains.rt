@@ -1,0 +1,213 @@
+//! Chains that grow from the left, operand by operand. What begins with a chain of its own operation goes on in it.
+
+ghost use Rattle.std.specs.Prelude.{◌≡◌, IfOk};
+ghost use Rattle.gp_syntax.specs.Expression.{Dot, Join, And, Or};
+ghost use Rattle.gp_syntax.specs.Tree.{expression_of, label_of, condition_of, added, multiplied, pattern_of};
+ghost use Rattle.gp_clauses.specs.inside.Shapes.{applied};
+ghost use Rattle.gp_clauses.specs.inside.ConditionShapes.{connected};
+
+use gp_clauses::{Connective, Operation};
+use gp_memory::NoMemory;
+use gp_syntax::{Boxed, Cond, Expr, Items, MarkPattern, ProductSign, Signed, SimpleLabel, SumSign};
+use gp_values::EdgeMark;
+use std::alloc::Global;
+
+fn summed(
+    alloc: Global,
+    total: Expr<u32>,
+    sign: SumSign,
+    operand: Expr<u32>,
+) -> Result<Expr<u32>, NoMemory>
+    ensures { IfOk result (λ r. expression_of r ≡ added sign (expression_of total) (expression_of operand)) }
+{
+    let term = Signed { sign, operand };
+    match total {
+        Expr::Sum(first, rest) => {
+            let mut rest = rest;
+            rest.push(term)?;
+            Ok(Expr::Sum(first, rest))
+        }
+        other => {
+            let mut rest = Items::new(alloc);
+            rest.push(term)?;
+            Ok(Expr::Sum(Boxed::new(alloc, other)?, rest))
+        }
+    }
+}
+
+fn multiplied(
+    alloc: Global,
+    total: Expr<u32>,
+    sign: ProductSign,
+    operand: Expr<u32>,
+) -> Result<Expr<u32>, NoMemory>
+    ensures { IfOk result (λ r. expression_of r ≡ multiplied sign (expression_of total) (expression_of operand)) }
+{
+    let factor = Signed { sign, operand };
+    match total {
+        Expr::Product(first, rest) => {
+            let mut rest = rest;
+            rest.push(factor)?;
+            Ok(Expr::Product(first, rest))
+        }
+        other => {
+            let mut rest = Items::new(alloc);
+            rest.push(factor)?;
+            Ok(Expr::Product(Boxed::new(alloc, other)?, rest))
+        }
+    }
+}
+
+fn dotted(alloc: Global, total: Expr<u32>, part: Expr<u32>) -> Result<Expr<u32>, NoMemory>
+    ensures { IfOk result (λ r. expression_of r ≡ Dot (expression_of total) (expression_of part)) }
+{
+    match total {
+        Expr::Dot(first, rest) => {
+            let mut rest = rest;
+            rest.push(part)?;
+            Ok(Expr::Dot(first, rest))
+        }
+        other => {
+            let mut rest = Items::new(alloc);
+            rest.push(part)?;
+            Ok(Expr::Dot(Boxed::new(alloc, other)?, rest))
+        }
+    }
+}
+
+fn joined(alloc: Global, total: Expr<u32>, part: Expr<u32>) -> Result<Expr<u32>, NoMemory>
+    ensures { IfOk result (λ r. expression_of r ≡ Join (expression_of total) (expression_of part)) }
+{
+    match total {
+        Expr::Join(first, rest) => {
+            let mut rest = rest;
+            rest.push(part)?;
+            Ok(Expr::Join(first, rest))
+        }
+        other => {
+            let mut rest = Items::new(alloc);
+            rest.push(part)?;
+            Ok(Expr::Join(Boxed::new(alloc, other)?, rest))
+        }
+    }
+}
+
+/// An expression with one operand more.
+pub fn with_operand(
+    alloc: Global,
+    total: Expr<u32>,
+    operation: Operation,
+    operand: Expr<u32>,
+) -> Result<Expr<u32>, NoMemory>
+    ensures { IfOk result (λ r. expression_of r ≡ applied operation (expression_of total) (expression_of operand)) }
+{
+    match operation {
+        Operation::Plus => summed(alloc, total, SumSign::Plus, operand),
+        Operation::Minus => summed(alloc, total, SumSign::Minus, operand),
+        Operation::Times => multiplied(alloc, total, ProductSign::Times, operand),
+        Operation::Over => multiplied(alloc, total, ProductSign::Over, operand),
+        Operation::Dot => dotted(alloc, total, operand),
+        Operation::Join => joined(alloc, total, operand),
+    }
+}
+
+/// A label with one part of a string more.
+pub fn dotted_label(
+    alloc: Global,
+    total: SimpleLabel,
+    part: SimpleLabel,
+) -> Result<SimpleLabel, NoMemory>
+    ensures { IfOk result (λ r. label_of r ≡ Dot (label_of total) (label_of part)) }
+{
+    match total {
+        SimpleLabel::Dot(first, rest) => {
+            let mut rest = rest;
+            rest.push(part)?;
+            Ok(SimpleLabel::Dot(first, rest))
+        }
+        other => {
+            let mut rest = Items::new(alloc);
+            rest.push(part)?;
+            Ok(SimpleLabel::Dot(Boxed::new(alloc, other)?, rest))
+        }
+    }
+}
+
+/// A label with one part of a list more.
+pub fn joined_label(
+    alloc: Global,
+    total: SimpleLabel,
+    part: SimpleLabel,
+) -> Result<SimpleLabel, NoMemory>
+    ensures { IfOk result (λ r. label_of r ≡ Join (label_of total) (label_of part)) }
+{
+    match total {
+        SimpleLabel::Join(first, rest) => {
+            let mut rest = rest;
+            rest.push(part)?;
+            Ok(SimpleLabel::Join(first, rest))
+        }
+        other => {
+            let mut rest = Items::new(alloc);
+            rest.push(part)?;
+            Ok(SimpleLabel::Join(Boxed::new(alloc, other)?, rest))
+        }
+    }
+}
+
+fn both(
+    alloc: Global,
+    total: Cond<u32, MarkPattern<EdgeMark>>,
+    part: Cond<u32, MarkPattern<EdgeMark>>,
+) -> Result<Cond<u32, MarkPattern<EdgeMark>>, NoMemory>
+    ensures { IfOk result (λ r. condition_of pattern_of r ≡ And (condition_of pattern_of total) (condition_of pattern_of part)) }
+{
+    match total {
+        Cond::And(first, rest) => {
+            let mut rest = rest;
+            rest.push(part)?;
+            Ok(Cond::And(first, rest))
+        }
+        other => {
+            let mut rest = Items::new(alloc);
+            rest.push(part)?;
+            Ok(Cond::And(Boxed::new(alloc, other)?, rest))
+        }
+    }
+}
+
+fn either(
+    alloc: Global,
+    total: Cond<u32, MarkPattern<EdgeMark>>,
+    part: Cond<u32, MarkPattern<EdgeMark>>,
+) -> Result<Cond<u32, MarkPattern<EdgeMark>>, NoMemory>
+    ensures { IfOk result (λ r. condition_of pattern_of r ≡ Or (condition_of pattern_of total) (condition_of pattern_of part)) }
+{
+    match total {
+        Cond::Or(first, rest) => {
+            let mut rest = rest;
+            rest.push(part)?;
+            Ok(Cond::Or(first, rest))
+        }
+        other => {
+            let mut rest = Items::new(alloc);
+            rest.push(part)?;
+            Ok(Cond::Or(Boxed::new(alloc, other)?, rest))
+        }
+    }
+}
+
+/// A condition with one part more.
+pub fn with_part(
+    alloc: Global,
+    total: Cond<u32, MarkPattern<EdgeMark>>,
+    by: Connective,
+    part: Cond<u32, MarkPattern<EdgeMark>>,
+) -> Result<Cond<u32, MarkPattern<EdgeMark>>, NoMemory>
+    ensures { IfOk result (λ r. condition_of pattern_of r ≡ connected by (condition_of pattern_of total) (condition_of pattern_of part)) }
+{
+    match by {
+        Connective::And => both(alloc, total, part),
+        Connective::Or => either(alloc, total, part),
+    }
+}
