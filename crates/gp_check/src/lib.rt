@@ -14,6 +14,8 @@ mod expression;
 mod fault;
 mod pattern;
 mod places;
+#[cfg(test)]
+mod tests;
 
 pub use check::check_rule;
 pub use fault::RuleFault;
