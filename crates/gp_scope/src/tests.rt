@@ -16,38 +16,40 @@ fn no_graph(alloc: Global) -> GraphDecl {
     }
 }
 
-fn rule(alloc: Global, bytes: &[u8]) -> Result<Decl, Fail> {
-    Ok(Decl::Rule(RuleDecl {
-        name: name(alloc, bytes)?,
+fn declare_rule(alloc: Global, declarations: &mut Items<Decl>, bytes: &[u8]) -> Result<(), Fail> {
+    let name = name(alloc, bytes)?;
+    declarations.push(Decl::Rule(RuleDecl {
+        name,
         variables: Items::new(alloc),
         left: no_graph(alloc),
         right: no_graph(alloc),
         interface: Items::new(alloc),
         condition: None,
-    }))
+    }))?;
+    Ok(())
 }
 
-fn procedure(
+// With local rules of these names.
+fn declare_procedure(
     alloc: Global,
+    declarations: &mut Items<Decl>,
     bytes: &[u8],
-    declarations: Items<Decl>,
-    body: CommandTree,
-) -> Result<Decl, Fail> {
-    Ok(Decl::Procedure {
-        name: name(alloc, bytes)?,
-        declarations,
-        body,
-    })
-}
-
-fn main_is(alloc: Global, body: CommandTree) -> Result<Decl, Fail> {
-    procedure(alloc, b"Main", Items::new(alloc), body)
-}
-
-fn call(alloc: Global, bytes: &[u8]) -> Result<CommandTree, Fail> {
+    rules: &[&[u8]],
+    called: &[u8],
+) -> Result<(), Fail> {
+    let mut local = Items::new(alloc);
+    for rule in rules {
+        declare_rule(alloc, &mut local, rule)?;
+    }
     let mut names = Items::new(alloc);
-    names.push(name(alloc, bytes)?)?;
-    Ok(CommandTree::Call(names))
+    names.push(name(alloc, called)?)?;
+    let name = name(alloc, bytes)?;
+    declarations.push(Decl::Procedure {
+        name,
+        declarations: local,
+        body: CommandTree::Call(names),
+    })?;
+    Ok(())
 }
 
 fn has_no_main(answer: &Result<(), ScopeFault>) -> bool {
@@ -72,34 +74,20 @@ fn misses(answer: &Result<(), ScopeFault>, bytes: &[u8]) -> bool {
     }
 }
 
+// r; Main = q; r; Main = q: each further declaration brings a fault that is told before the others.
 #[test]
 fn first_fault_of_names_is_told(rt: HostRuntime) -> Result<(), Fail> {
     let alloc = rt.alloc();
-    let rules = [rule(alloc, b"r")?, rule(alloc, b"r")?];
-    assert!(rt; has_no_main(&check_names(alloc, &rules)));
-    let mains = [
-        main_is(alloc, CommandTree::Skip)?,
-        main_is(alloc, CommandTree::Skip)?,
-    ];
-    assert!(rt; has_two_mains(&check_names(alloc, &mains)));
-    let mut declarations = Vec::new(alloc);
-    declarations.push(main_is(alloc, call(alloc, b"q")?)?)?;
-    declarations.push(rule(alloc, b"r")?)?;
+    let mut declarations = Items::new(alloc);
+    declare_rule(alloc, &mut declarations, b"r")?;
+    assert!(rt; has_no_main(&check_names(alloc, declarations.as_slice())));
+    declare_procedure(alloc, &mut declarations, b"Main", &[], b"q")?;
     assert!(rt; misses(&check_names(alloc, declarations.as_slice()), b"q"));
-    declarations.push(rule(alloc, b"r")?)?;
+    declare_rule(alloc, &mut declarations, b"r")?;
     assert!(rt; has_two(&check_names(alloc, declarations.as_slice()), b"r"));
+    declare_procedure(alloc, &mut declarations, b"Main", &[], b"q")?;
+    assert!(rt; has_two_mains(&check_names(alloc, declarations.as_slice())));
     Ok(())
-}
-
-// Main = P; r; P = [ r ] r
-fn hiding(alloc: Global) -> Result<[Decl; 3], Fail> {
-    let mut local = Items::new(alloc);
-    local.push(rule(alloc, b"r")?)?;
-    Ok([
-        main_is(alloc, CommandTree::Procedure(name(alloc, b"P")?))?,
-        rule(alloc, b"r")?,
-        procedure(alloc, b"P", local, call(alloc, b"r")?)?,
-    ])
 }
 
 fn bodies(alloc: Global, declarations: &[Decl]) -> Result<Bodies, ScopeFault> {
@@ -107,27 +95,24 @@ fn bodies(alloc: Global, declarations: &[Decl]) -> Result<Bodies, ScopeFault> {
     Ok(bodies_of(alloc, declarations)?)
 }
 
+// Whether there is one set, of this rule, that Main calls.
+fn calls_alone(bodies: &Result<Bodies, ScopeFault>, rule: u32) -> bool {
+    match bodies {
+        Ok(bodies) => match (&bodies.main, bodies.sets.as_slice()) {
+            (Some(Command::Call(0)), [set]) => set.as_slice() == [rule].as_slice(),
+            _ => false,
+        },
+        Err(_) => false,
+    }
+}
+
+// r; Main = [ r ] r
 #[test]
 fn local_rule_hides_the_outer_one(rt: HostRuntime) -> Result<(), Fail> {
     let alloc = rt.alloc();
-    let declarations = hiding(alloc)?;
-    let right = match bodies(alloc, &declarations) {
-        Ok(
-            Bodies {
-                main: Some(Command::Proc(0)),
-                procedures,
-                sets,
-            },
-        ) => {
-            let one_call = matches!(procedures.as_slice(), [Command::Call(0)]);
-            let inner = match sets.as_slice() {
-                [set] => set.as_slice() == [1].as_slice(),
-                _ => false,
-            };
-            one_call && inner
-        }
-        _ => false,
-    };
-    assert!(rt; right);
+    let mut declarations = Items::new(alloc);
+    declare_rule(alloc, &mut declarations, b"r")?;
+    declare_procedure(alloc, &mut declarations, b"Main", &[b"r"], b"r")?;
+    assert!(rt; calls_alone(&bodies(alloc, declarations.as_slice()), 1));
     Ok(())
 }
