@@ -1,0 +1,5 @@
+//! Program texts.
+#![tactic(auto)]
+
+mod expression;
+mod ranged;
