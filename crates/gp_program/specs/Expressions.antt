@@ -3,7 +3,7 @@ use Rattle.std.specs.Prelude.{ℕ, zero, suc, ℤ, Bool, true, false, List, [], 
 use Rattle.gp_tokens.specs.declared.token.Token.{Token}
 use Rattle.gp_grammar.specs.declared.want.Want.{Want}
 use Rattle.gp_grammar.specs.declared.want.Want.TheVariants as wants
-use Rattle.gp_grammar.specs.Grammar.{Grammar, One, NumberAt, String, Made, At, Repeated, Never, ◌followed_by◌}
+use Rattle.gp_grammar.specs.Grammar.{Grammar, One, NumberAt, String, Made, At, Separated, Never, ◌followed_by◌}
 use Rattle.gp_grammar.specs.Numerals.{signed}
 use Rattle.gp_grammar.specs.Shape.{second_of}
 use Rattle.gp_grammar.specs.Signs.{number_sign, string_sign, open_sign, close_sign, colon, dot, plus, minus, star, slash, empty}
@@ -16,7 +16,7 @@ use Rattle.gp_syntax.specs.declared.expression.ProductSign.TheVariants as produc
 use Rattle.gp_syntax.specs.declared.expression.Expr.{Expr}
 use Rattle.gp_syntax.specs.declared.expression.Expr.TheVariants as e
 use Rattle.gp_program.specs.declared.ranged.Ranged.{Ranged}
-use Rattle.gp_program.specs.Ranges.{whole, with, both, gathered, all_gathered, all_joined}
+use Rattle.gp_program.specs.Ranges.{whole, with, both, gathered, all_joined, chained}
 use Rattle.gp_program.specs.Signs.{indegree_word, outdegree_word, length_word}
 
 abbrev pub Tree : Type 0
@@ -25,21 +25,14 @@ Tree = Expr Name
 abbrev pub behind : {A : Type 0} → Want → Grammar A → Grammar A
 behind sign part = Made second_of (One sign followed_by part)
 
--- part {sign part}
-abbrev pub chain : {A : Type 0} → Want → Grammar A → Grammar (A × List A)
-chain sign part = part followed_by Repeated sign (behind sign part)
-
--- a chain of one is no chain
-abbrev pub chained : {A : Type 0} → (A → List A → A) → Ranged A × List (Ranged A) → Ranged A
-chained make (r, []) = r
-chained make (r, s ∷ rs) = both make r (gathered (s ∷ rs))
-
 -- an operand with its sign
 abbrev pub signed_by : {S : Type 0} → S → Ranged Tree → Ranged (Signed S Tree)
 signed_by {S} sign r = with (λ (x : Tree). record { sign = sign; operand = x }) r
 
-abbrev pub signed_behind : {S : Type 0} → Want → S → Grammar (Ranged Tree) → Grammar (Ranged (Signed S Tree))
-signed_behind sign meant part = Made (signed_by meant) (behind sign part)
+-- operands, of which the first has this sign
+abbrev pub headed : {S : Type 0} → S → List (Ranged (Signed S Tree)) → Ranged (List (Signed S Tree))
+headed head [] = whole []
+headed {S} head (r ∷ rs) = gathered (with (λ (x : Signed S Tree). record { sign = head; operand = x.operand }) r ∷ rs)
 
 -- the first operand is without its sign, and one operand is no chain
 abbrev pub sum_tree : List (Signed SumSign Tree) → Tree
@@ -73,25 +66,25 @@ module _ (operand : Grammar (Ranged Tree)) where
 
   -- Prod = Unary {("*" | "/") Unary}: between two `*` the operands have `/` before them
   unfoldable pub quotients : Grammar (Ranged (List (Signed ProductSign Tree)))
-  quotients = Made all_gathered (Made (signed_by products.Times) unary followed_by Repeated slash (signed_behind slash products.Over unary))
+  quotients = Made (headed products.Times) (Separated slash (Made (signed_by products.Over) unary))
 
   unfoldable pub product : Grammar (Ranged Tree)
-  product = Made (λ x. with product_tree (all_joined x)) (chain star quotients)
+  product = Made (λ rs. with product_tree (all_joined rs)) (Separated star quotients)
 
   -- Sum = Prod {("+" | "-") Prod}: between two `+` the operands have `-` before them
   unfoldable pub differences : Grammar (Ranged (List (Signed SumSign Tree)))
-  differences = Made all_gathered (Made (signed_by sums.Plus) product followed_by Repeated minus (signed_behind minus sums.Minus product))
+  differences = Made (headed sums.Plus) (Separated minus (Made (signed_by sums.Minus) product))
 
   unfoldable pub sum : Grammar (Ranged Tree)
-  sum = Made (λ x. with sum_tree (all_joined x)) (chain plus differences)
+  sum = Made (λ rs. with sum_tree (all_joined rs)) (Separated plus differences)
 
   -- Str = Sum {"." Sum}
   unfoldable pub dots : Grammar (Ranged Tree)
-  dots = Made (chained e.Dot) (chain dot sum)
+  dots = Made (chained e.Empty e.Dot) (Separated dot sum)
 
   -- List = Str {":" Str}
   unfoldable pub joins : Grammar (Ranged Tree)
-  joins = Made (chained e.Join) (chain colon dots)
+  joins = Made (chained e.Empty e.Join) (Separated colon dots)
 
 -- a name of this class
 abbrev pub text_of : Token → Name

@@ -23,13 +23,17 @@ first_past (r ∷ rs) = option_or r.past (first_past rs)
 abbrev pub gathered : {A : Type 0} → List (Ranged A) → Ranged (List A)
 gathered {A} rs = record { tree = map (λ (r : Ranged A). r.tree) rs; past = first_past rs }
 
-abbrev pub all_gathered : {A : Type 0} → Ranged A × List (Ranged A) → Ranged (List A)
-all_gathered (r, rs) = gathered (r ∷ rs)
-
 unfoldable pub joined : {A : Type 0} → List (List A) → List A
 joined [] = []
 joined (xs ∷ xss) = xs ++ joined xss
 
 -- the lists one behind the other
-abbrev pub all_joined : {A : Type 0} → Ranged (List A) × List (Ranged (List A)) → Ranged (List A)
-all_joined (r, rs) = both (λ x xs. x ++ joined xs) r (gathered rs)
+abbrev pub all_joined : {A : Type 0} → List (Ranged (List A)) → Ranged (List A)
+all_joined [] = whole []
+all_joined (r ∷ rs) = both (λ x xs. x ++ joined xs) r (gathered rs)
+
+-- A chain of the first and the further trees; one tree is no chain. Where there is none it is the tree that is given.
+abbrev pub chained : {A : Type 0} → A → (A → List A → A) → List (Ranged A) → Ranged A
+chained none make [] = whole none
+chained none make (r ∷ []) = r
+chained none make (r ∷ s ∷ rs) = both make r (gathered (s ∷ rs))

@@ -1,14 +1,16 @@
 //! Reads expressions, one function for each line of the grammar.
 
-ghost use Rattle.std.specs.Prelude.{◌≡◌, IfOk};
+ghost use Rattle.std.specs.Prelude.{◌≡◌, ◌∷◌, IfOk};
 ghost use Rattle.gp_grammar.specs.inside.Cursor.{Reads, ReadsAs};
 ghost use Rattle.gp_grammar.specs.inside.Reading.{reader_of};
 ghost use Rattle.gp_grammar.specs.Numerals.{integer_of};
+ghost use Rattle.gp_grammar.specs.Grammar.{Made};
 ghost use Rattle.gp_grammar.specs.Signs.{colon, dot, plus, minus, star, slash};
 ghost use Rattle.gp_syntax.specs.declared.expression.Expr.TheVariants as e;
 ghost use Rattle.gp_syntax.specs.declared.expression.SumSign.TheVariants as sums;
 ghost use Rattle.gp_syntax.specs.declared.expression.ProductSign.TheVariants as products;
 ghost use Rattle.gp_program.specs.Expressions as spec;
+ghost use Rattle.gp_program.specs.Ranges.{chained};
 
 use crate::ranged::{Ranged, gather, gather_behind, join, whole};
 use gp_grammar::{Numeral, ReadError, Tokens, Want, repeated_by};
@@ -98,7 +100,7 @@ fn dotted(
     first: Ranged<Expr<Name>>,
     rest: Vec<Ranged<Expr<Name>>>,
 ) -> Result<Ranged<Expr<Name>>, NoMemory>
-    ensures { IfOk result (λ x. x ≡ spec.chained e.Dot (first, rest.items)) }
+    ensures { IfOk result (λ x. x ≡ chained e.Empty e.Dot (first ∷ rest.items)) }
 {
     if rest.is_empty() {
         return Ok(first);
@@ -115,7 +117,7 @@ fn colon_joined(
     first: Ranged<Expr<Name>>,
     rest: Vec<Ranged<Expr<Name>>>,
 ) -> Result<Ranged<Expr<Name>>, NoMemory>
-    ensures { IfOk result (λ x. x ≡ spec.chained e.Join (first, rest.items)) }
+    ensures { IfOk result (λ x. x ≡ chained e.Empty e.Join (first ∷ rest.items)) }
 {
     if rest.is_empty() {
         return Ok(first);
@@ -242,7 +244,7 @@ fn read_quotients(
 {
     let first = signed(ProductSign::Times, read_unary(tokens, room)?);
     let rest = repeated_by(tokens, SLASH, |tokens: &mut Tokens<'_, '_>| -> Result<Ranged<Signed<ProductSign, Expr<Name>>>, ReadError>
-        ensures { Reads (reader_of (spec.signed_behind slash products.Over (spec.unary (spec.operand room))) tokens.old) result tokens.new }
+        ensures { Reads (reader_of (spec.behind slash (Made (spec.signed_by products.Over) (spec.unary (spec.operand room)))) tokens.old) result tokens.new }
     {
         tokens.expect(SLASH)?;
         Ok(signed(ProductSign::Over, read_unary(tokens, room)?))
@@ -279,7 +281,7 @@ fn read_differences(
 {
     let first = signed(SumSign::Plus, read_product(tokens, room)?);
     let rest = repeated_by(tokens, MINUS, |tokens: &mut Tokens<'_, '_>| -> Result<Ranged<Signed<SumSign, Expr<Name>>>, ReadError>
-        ensures { Reads (reader_of (spec.signed_behind minus sums.Minus (spec.product (spec.operand room))) tokens.old) result tokens.new }
+        ensures { Reads (reader_of (spec.behind minus (Made (spec.signed_by sums.Minus) (spec.product (spec.operand room)))) tokens.old) result tokens.new }
     {
         tokens.expect(MINUS)?;
         Ok(signed(SumSign::Minus, read_product(tokens, room)?))

@@ -1,6 +1,6 @@
 //! Trees, with the first numeral that is out of range.
 
-ghost use Rattle.std.specs.Prelude.{◌≡◌, IfOk};
+ghost use Rattle.std.specs.Prelude.{◌≡◌, ◌∷◌, IfOk};
 ghost use Rattle.gp_program.specs.Ranges as spec;
 
 use gp_memory::NoMemory;
@@ -47,7 +47,7 @@ pub(crate) fn gather_behind<T: Drop>(
     first: Ranged<T>,
     rest: Vec<Ranged<T>>,
 ) -> Result<Ranged<Items<T>>, NoMemory>
-    ensures { IfOk result (λ r. r ≡ spec.all_gathered (first, rest.items)) }
+    ensures { IfOk result (λ r. r ≡ spec.gathered (first ∷ rest.items)) }
 {
     let mut trees = Items::new(alloc);
     let Ranged { tree, mut past } = first;
@@ -66,7 +66,7 @@ pub(crate) fn join<T: Drop>(
     first: Ranged<Items<T>>,
     rest: Vec<Ranged<Items<T>>>,
 ) -> Result<Ranged<Items<T>>, NoMemory>
-    ensures { IfOk result (λ r. r ≡ spec.all_joined (first, rest.items)) }
+    ensures { IfOk result (λ r. r ≡ spec.all_joined (first ∷ rest.items)) }
 {
     let Ranged { mut tree, mut past } = first;
     for part in rest {
