@@ -1,3 +1,10 @@
 pub mod Signs
 pub mod Ranges
 pub mod Expressions
+pub mod Conditions
+pub mod Rules
+pub mod Commands
+pub mod Programs
+pub mod Program
+pub mod Laws
+pub mod inside

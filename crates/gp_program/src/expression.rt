@@ -243,12 +243,16 @@ fn read_quotients(
     ensures { Reads (reader_of (spec.quotients (spec.operand room)) tokens.old) result tokens.new }
 {
     let first = signed(ProductSign::Times, read_unary(tokens, room)?);
-    let rest = repeated_by(tokens, SLASH, |tokens: &mut Tokens<'_, '_>| -> Result<Ranged<Signed<ProductSign, Expr<Name>>>, ReadError>
-        ensures { Reads (reader_of (spec.behind slash (Made (spec.signed_by products.Over) (spec.unary (spec.operand room)))) tokens.old) result tokens.new }
-    {
-        tokens.expect(SLASH)?;
-        Ok(signed(ProductSign::Over, read_unary(tokens, room)?))
-    })?;
+    let rest = repeated_by(
+        tokens,
+        SLASH,
+        |tokens: &mut Tokens<'_, '_>| -> Result<Ranged<Signed<ProductSign, Expr<Name>>>, ReadError>
+            ensures { Reads (reader_of (spec.behind slash (Made (spec.signed_by products.Over) (spec.unary (spec.operand room)))) tokens.old) result tokens.new }
+        {
+            tokens.expect(SLASH)?;
+            Ok(signed(ProductSign::Over, read_unary(tokens, room)?))
+        },
+    )?;
     let operands = gather_behind(tokens.alloc(), first, rest)?;
     Ok(operands)
 }
@@ -260,14 +264,24 @@ fn read_product(tokens: &mut Tokens<'_, '_>, room: u64) -> Result<Ranged<Expr<Na
     ensures { Reads (reader_of (spec.product (spec.operand room)) tokens.old) result tokens.new }
 {
     let first = read_quotients(tokens, room)?;
-    let rest = repeated_by(tokens, STAR, |tokens: &mut Tokens<'_, '_>| -> Result<Ranged<Items<Signed<ProductSign, Expr<Name>>>>, ReadError>
-        ensures { Reads (reader_of (spec.behind star (spec.quotients (spec.operand room))) tokens.old) result tokens.new }
-    {
-        tokens.expect(STAR)?;
-        read_quotients(tokens, room)
-    })?;
+    let rest = repeated_by(
+        tokens,
+        STAR,
+        |tokens: &mut Tokens<'_, '_>| -> Result<
+            Ranged<Items<Signed<ProductSign, Expr<Name>>>>,
+            ReadError,
+        >
+            ensures { Reads (reader_of (spec.behind star (spec.quotients (spec.operand room))) tokens.old) result tokens.new }
+        {
+            tokens.expect(STAR)?;
+            read_quotients(tokens, room)
+        },
+    )?;
     let Ranged { tree, past } = join(first, rest)?;
-    Ok(Ranged { tree: product_tree(tokens.alloc(), tree)?, past })
+    Ok(Ranged {
+        tree: product_tree(tokens.alloc(), tree)?,
+        past,
+    })
 }
 
 // Prod {"-" Prod}
@@ -280,12 +294,16 @@ fn read_differences(
     ensures { Reads (reader_of (spec.differences (spec.operand room)) tokens.old) result tokens.new }
 {
     let first = signed(SumSign::Plus, read_product(tokens, room)?);
-    let rest = repeated_by(tokens, MINUS, |tokens: &mut Tokens<'_, '_>| -> Result<Ranged<Signed<SumSign, Expr<Name>>>, ReadError>
-        ensures { Reads (reader_of (spec.behind minus (Made (spec.signed_by sums.Minus) (spec.product (spec.operand room)))) tokens.old) result tokens.new }
-    {
-        tokens.expect(MINUS)?;
-        Ok(signed(SumSign::Minus, read_product(tokens, room)?))
-    })?;
+    let rest = repeated_by(
+        tokens,
+        MINUS,
+        |tokens: &mut Tokens<'_, '_>| -> Result<Ranged<Signed<SumSign, Expr<Name>>>, ReadError>
+            ensures { Reads (reader_of (spec.behind minus (Made (spec.signed_by sums.Minus) (spec.product (spec.operand room)))) tokens.old) result tokens.new }
+        {
+            tokens.expect(MINUS)?;
+            Ok(signed(SumSign::Minus, read_product(tokens, room)?))
+        },
+    )?;
     let operands = gather_behind(tokens.alloc(), first, rest)?;
     Ok(operands)
 }
@@ -297,14 +315,24 @@ fn read_sum(tokens: &mut Tokens<'_, '_>, room: u64) -> Result<Ranged<Expr<Name>>
     ensures { Reads (reader_of (spec.sum (spec.operand room)) tokens.old) result tokens.new }
 {
     let first = read_differences(tokens, room)?;
-    let rest = repeated_by(tokens, PLUS, |tokens: &mut Tokens<'_, '_>| -> Result<Ranged<Items<Signed<SumSign, Expr<Name>>>>, ReadError>
-        ensures { Reads (reader_of (spec.behind plus (spec.differences (spec.operand room))) tokens.old) result tokens.new }
-    {
-        tokens.expect(PLUS)?;
-        read_differences(tokens, room)
-    })?;
+    let rest = repeated_by(
+        tokens,
+        PLUS,
+        |tokens: &mut Tokens<'_, '_>| -> Result<
+            Ranged<Items<Signed<SumSign, Expr<Name>>>>,
+            ReadError,
+        >
+            ensures { Reads (reader_of (spec.behind plus (spec.differences (spec.operand room))) tokens.old) result tokens.new }
+        {
+            tokens.expect(PLUS)?;
+            read_differences(tokens, room)
+        },
+    )?;
     let Ranged { tree, past } = join(first, rest)?;
-    Ok(Ranged { tree: sum_tree(tokens.alloc(), tree)?, past })
+    Ok(Ranged {
+        tree: sum_tree(tokens.alloc(), tree)?,
+        past,
+    })
 }
 
 // Str = Sum {"." Sum}
@@ -314,12 +342,16 @@ fn read_dots(tokens: &mut Tokens<'_, '_>, room: u64) -> Result<Ranged<Expr<Name>
     ensures { Reads (reader_of (spec.dots (spec.operand room)) tokens.old) result tokens.new }
 {
     let first = read_sum(tokens, room)?;
-    let rest = repeated_by(tokens, DOT, |tokens: &mut Tokens<'_, '_>| -> Result<Ranged<Expr<Name>>, ReadError>
-        ensures { Reads (reader_of (spec.behind dot (spec.sum (spec.operand room))) tokens.old) result tokens.new }
-    {
-        tokens.expect(DOT)?;
-        read_sum(tokens, room)
-    })?;
+    let rest = repeated_by(
+        tokens,
+        DOT,
+        |tokens: &mut Tokens<'_, '_>| -> Result<Ranged<Expr<Name>>, ReadError>
+            ensures { Reads (reader_of (spec.behind dot (spec.sum (spec.operand room))) tokens.old) result tokens.new }
+        {
+            tokens.expect(DOT)?;
+            read_sum(tokens, room)
+        },
+    )?;
     let chain = dotted(tokens.alloc(), first, rest)?;
     Ok(chain)
 }
@@ -327,16 +359,23 @@ fn read_dots(tokens: &mut Tokens<'_, '_>, room: u64) -> Result<Ranged<Expr<Name>
 // List = Str {":" Str}
 #[cycle(expression)]
 #[tactic(auto, unfolding(crate::specs::Expressions::joins))]
-pub(crate) fn read_list(tokens: &mut Tokens<'_, '_>, room: u64) -> Result<Ranged<Expr<Name>>, ReadError>
+pub(crate) fn read_list(
+    tokens: &mut Tokens<'_, '_>,
+    room: u64,
+) -> Result<Ranged<Expr<Name>>, ReadError>
     ensures { Reads (reader_of (spec.list room) tokens.old) result tokens.new }
 {
     let first = read_dots(tokens, room)?;
-    let rest = repeated_by(tokens, COLON, |tokens: &mut Tokens<'_, '_>| -> Result<Ranged<Expr<Name>>, ReadError>
-        ensures { Reads (reader_of (spec.behind colon (spec.dots (spec.operand room))) tokens.old) result tokens.new }
-    {
-        tokens.expect(COLON)?;
-        read_dots(tokens, room)
-    })?;
+    let rest = repeated_by(
+        tokens,
+        COLON,
+        |tokens: &mut Tokens<'_, '_>| -> Result<Ranged<Expr<Name>>, ReadError>
+            ensures { Reads (reader_of (spec.behind colon (spec.dots (spec.operand room))) tokens.old) result tokens.new }
+        {
+            tokens.expect(COLON)?;
+            read_dots(tokens, room)
+        },
+    )?;
     let chain = colon_joined(tokens.alloc(), first, rest)?;
     Ok(chain)
 }

@@ -70,7 +70,10 @@ pub(crate) fn join<T: Drop>(
 {
     let Ranged { mut tree, mut past } = first;
     for part in rest {
-        let Ranged { tree: more, past: next } = part;
+        let Ranged {
+            tree: more,
+            past: next,
+        } = part;
         tree.append(more)?;
         past = past.or(next);
     }
