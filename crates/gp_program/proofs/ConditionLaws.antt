@@ -356,7 +356,7 @@ condition_first m n ts rest x h =
 
 -- ---- conditions fit
 
-avoid_both : {A : Type 0} (ws vs : List Want) (g : Grammar A) → AllAvoid ws g → AllAvoid vs g → AllAvoid (ws ++ vs) g
+pub avoid_both : {A : Type 0} (ws vs : List Want) (g : Grammar A) → AllAvoid ws g → AllAvoid vs g → AllAvoid (ws ++ vs) g
 avoid_both [] vs g a b = b
 avoid_both (w ∷ ws) vs g a b = (a.0, avoid_both ws vs g a.1 b)
 

@@ -20,11 +20,11 @@ unfolding unary quotients product differences sum dots joins name argument leaf 
 closed zero = refl
 closed (suc n) = rw (never_empty n, closed n) refl
 
--- what a condition begins with, and a number
+-- what a condition begins with
 abbrev pub heads : List Want
-heads = number_sign ∷ not_word ∷ edge_word ∷ int_word ∷ char_word ∷ string_word ∷ atom_word ∷ []
+heads = not_word ∷ edge_word ∷ int_word ∷ char_word ∷ string_word ∷ atom_word ∷ []
 
-pub operand_avoids : (n : ℕ) → AllAvoid heads (operand n)
+pub operand_avoids : (n : ℕ) → AllAvoid (number_sign ∷ heads) (operand n)
 unfolding name argument leaf nested operand excludes meets same_kind
 operand_avoids zero = search
 operand_avoids (suc n) = search
@@ -73,7 +73,7 @@ unfolding unary quotients product differences sum dots joins excludes meets same
 joins_lacks g p q = search (p, q)
 
 operand_lacks : (n : ℕ) → Lacks bar (operand n) × Lacks close_bracket (operand n)
-unfolding nested operand excludes meets same_kind
+unfolding leaf name argument nested operand excludes meets same_kind
 operand_lacks zero = (tt, tt)
 operand_lacks (suc n) = let f = operand_lacks n in let j = joins_lacks (operand n) f.0 f.1 in search (f, j, leaf_lacks)
 

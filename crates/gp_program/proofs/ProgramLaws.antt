@@ -147,13 +147,12 @@ module _ (m : ℕ) (d : Grammar (Ranged (List Decl))) (f : Fits d) (c : AllAvoid
       avoid_both (wants.ProcedureName ∷ enders (procedure_group m d)) (enders (rules m)) g (a.0, group_follow g a.1) (rules_follow m g a.1.0 (first_avoided rule_enders command_enders g a.1.1))
 
 mutual
-  declarations_fit : (m n : ℕ) → Fits (declarations m n)
   unfolding declarations
+  declarations_fit : (m n : ℕ) → Fits (declarations m n)
   declarations_fit m zero = tt
   declarations_fit m (suc n) = declarations_in_fit m (declarations m n) (declarations_fit m n) (declarations_close m n)
 
   declarations_close : (m n : ℕ) → AllAvoid (enders (declarations m n)) (One close_bracket)
-  unfolding declarations
   declarations_close m zero = tt
   declarations_close m (suc n) = declarations_in_follow m (declarations m n) (declarations_fit m n) (declarations_close m n) (One close_bracket) bracket_follows
 

@@ -29,7 +29,7 @@ module _ (l : Grammar (Ranged Tree)) (p : IsListPart l) where
 
   node_fits : Fits (node l)
   unfolding coord position place flag name node excludes meets same_kind
-  node_fits = let q = label_part l p in let f = q.fits in rw (q.full, q.ends) (search f)
+  node_fits = let q = label_part l p in let f = q.fits in rw q.ends (search f)
 
   node_ends : enders (node l) ≡ []
   unfolding coord position place flag name node
@@ -53,7 +53,7 @@ module _ (l : Grammar (Ranged Tree)) (p : IsListPart l) where
 
   edge_fits : Fits (edge l)
   unfolding flag name edge excludes meets same_kind
-  edge_fits = let q = label_part l p in let f = q.fits in rw (q.full, q.ends) (search f)
+  edge_fits = let q = label_part l p in let f = q.fits in rw q.ends (search f)
 
   edge_ends : enders (edge l) ≡ []
   unfolding flag name edge
@@ -108,7 +108,7 @@ module _ (l : Grammar (Ranged Tree)) (p : IsListPart l) where
   body_avoids = search
 
   body_ends : enders (body l) ≡ []
-  unfolding body
+  unfolding body edges
   body_ends = refl
 
   -- ---- the bar behind a leading position
@@ -146,7 +146,7 @@ module _ (l : Grammar (Ranged Tree)) (p : IsListPart l) where
   graph_fits = let f = body_fits in let b = barred_fits in let a = body_avoids in search (f, b, a)
 
   graph_ends : enders (graph l) ≡ []
-  unfolding coord position body barred graph
+  unfolding coord position nodes edges body barred graph
   graph_ends = refl
 
   -- ---- rules
