@@ -8,15 +8,15 @@ use Rattle.gp_grammar.specs.Grammar.{Grammar, One}
 use Rattle.gp_grammar.specs.Fits.{Fits, Avoids, AllAvoid, enders, nullable}
 use Rattle.gp_grammar.specs.Signs.{exclamation, semicolon, close_sign, open_bracket}
 use Rattle.gp_syntax.specs.declared.tree.CommandTree.{CommandTree}
-use Rattle.gp_program.specs.Signs.{or_word, if_word, then_word, else_word, try_word, skip_word, fail_word, break_word}
-use Rattle.gp_program.specs.Expressions.{name}
+use Rattle.gp_expressions.specs.Signs.{or_word, if_word, then_word, else_word, try_word, skip_word, fail_word, break_word}
+use Rattle.gp_expressions.specs.Expressions.{name}
 use Rattle.gp_program.specs.Commands.{rule_names, bang, repeatable, simple_in, block, part, command, sequence, simple, commands_of}
 
 -- what a simple command does not begin with
 abbrev heads : List Want
 heads = if_word ∷ try_word ∷ open_bracket ∷ []
 
-simple_full : (n : ℕ) → nullable (simple n) ≡ false
+pub simple_full : (n : ℕ) → nullable (simple n) ≡ false
 unfolding simple simple_in repeatable name
 simple_full zero = refl
 simple_full (suc n) = refl

@@ -1,10 +1,6 @@
-pub mod Gathers
-pub mod Operands
-pub mod ListLaws
-pub mod Negations
 pub mod Simples
-pub mod ConditionLaws
 pub mod RuleLaws
 pub mod CommandLaws
 pub mod ProgramLaws
+pub mod Widening
 pub mod Parsing

@@ -8,16 +8,13 @@ use Rattle.gp_parse.specs.Depth.{IsShallow, IsTooDeep, FindsDepth, outside}
 use Rattle.gp_parse.specs.inside.Deep.{too_deep_from}
 use Rattle.gp_parse.proofs.Depths.{finds}
 use Rattle.gp_syntax.specs.declared.tree.Ast.{Ast}
-use Rattle.gp_program.specs.declared.ranged.Ranged.{Ranged}
+use Rattle.gp_expressions.specs.declared.ranged.Ranged.{Ranged}
 use Rattle.gp_program.specs.declared.parse.ParseFault.{ParseFault}
 use Rattle.gp_program.specs.declared.parse.ParseFault.TheVariants as faults
-use Rattle.gp_program.specs.Expressions.{list}
-use Rattle.gp_program.specs.Conditions.{condition}
 use Rattle.gp_program.specs.Programs.{program}
 use Rattle.gp_program.specs.Program.{IsProgram, IsTree, IsPastRange, IsNoProgram, ParsesProgram, place_of_start}
-use Rattle.gp_program.specs.Laws.{TokensHaveOneTree, NoTokensAreBoth, TokensHaveAnAnswer}
+use Rattle.gp_program.specs.Laws.{TokensHaveOneTree, TokensHaveAnAnswer}
 use Rattle.gp_program.specs.inside.Stages.{all_read, read_by, ReadsTree}
-use Rattle.gp_program.proofs.ConditionLaws.{list_pass, condition_meets}
 use Rattle.gp_program.proofs.ProgramLaws.{program_sound, program_again}
 
 read_all : {A : Type 0} (x : Option (A × List Token)) (a : A) → all_read x ≡ Some a → x ≡ Some (a, [])
@@ -55,9 +52,6 @@ refused tokens faults.NoMemory s h = h
 
 pub one_tree : TokensHaveOneTree
 one_tree tokens x y h k = let e = read_again tokens x h in let f = read_again tokens y k in cc
-
-pub never_both : NoTokensAreBoth
-never_both room m n tokens x y h k = let e = list_pass room 0 tokens [] x h in let f = condition_meets m n 0 tokens [] y k in absurd cc
 
 answer_of : (tokens : List Token) (read : Option (Ranged Ast)) → read_by tokens ≡ read → IsShallow tokens → (r : Result Ast ParseFault) × (r ≢ Err faults.NoMemory) × ParsesProgram tokens r
 answer_of tokens None e s = (Err (faults.Syntax 0), (λ h. absurd cc), (s, record { none = none_parsed tokens e; place = omega arith }))

@@ -15,15 +15,15 @@ use Rattle.gp_grammar.proofs.Complete.{all_again}
 use Rattle.gp_grammar.proofs.Sound.{all_sound}
 use Rattle.gp_syntax.specs.declared.tree.Ast.{Ast}
 use Rattle.gp_syntax.specs.declared.tree.Decl.{Decl}
-use Rattle.gp_program.specs.declared.ranged.Ranged.{Ranged}
-use Rattle.gp_program.specs.Signs.{where_word}
-use Rattle.gp_program.specs.Expressions.{name, list}
-use Rattle.gp_program.specs.Conditions.{condition}
+use Rattle.gp_expressions.specs.declared.ranged.Ranged.{Ranged}
+use Rattle.gp_expressions.specs.Signs.{where_word}
+use Rattle.gp_expressions.specs.Expressions.{name, list}
+use Rattle.gp_expressions.specs.Conditions.{condition}
 use Rattle.gp_program.specs.Rules.{rule, rule_with}
 use Rattle.gp_program.specs.Commands.{commands_of}
 use Rattle.gp_program.specs.Programs.{rule_decl, rules, locals, procedure, procedure_group, declarations_in, declarations, program}
-use Rattle.gp_program.proofs.ListLaws.{list_part}
-use Rattle.gp_program.proofs.ConditionLaws.{condition_enders, condition_fits, condition_full, condition_follow, avoid_both}
+use Rattle.gp_expressions.proofs.ListLaws.{list_part}
+use Rattle.gp_expressions.proofs.ConditionLaws.{condition_enders, condition_fits, condition_full, condition_follow, avoid_both}
 use Rattle.gp_program.proofs.RuleLaws.{rule_fits, rule_full, rule_follow}
 use Rattle.gp_program.proofs.CommandLaws.{command_enders, commands_fit, commands_full, commands_follow, commands_avoid}
 
@@ -148,6 +148,7 @@ module _ (m : ℕ) (d : Grammar (Ranged (List Decl))) (f : Fits d) (c : AllAvoid
 
 mutual
   unfolding declarations
+
   declarations_fit : (m n : ℕ) → Fits (declarations m n)
   declarations_fit m zero = tt
   declarations_fit m (suc n) = declarations_in_fit m (declarations m n) (declarations_fit m n) (declarations_close m n)
@@ -163,7 +164,7 @@ program_sound m = all_sound (program m)
 
 program_fits : (m : ℕ) → Fits (program m)
 unfolding program
-program_fits m = declarations_fit m m
+program_fits m = declarations_in_fit m (declarations m m) (declarations_fit m m) (declarations_close m m)
 
 none_at_end : (ws : List Want) → NoneOf ws []
 none_at_end [] = tt

@@ -14,13 +14,13 @@ use Rattle.gp_grammar.proofs.Complete.{strong}
 use Rattle.gp_grammar.proofs.Passing.{passes, want_met, stop_met}
 use Rattle.gp_syntax.specs.declared.tree.NodeDecl.{NodeDecl}
 use Rattle.gp_syntax.specs.declared.tree.GraphDecl.{GraphDecl}
-use Rattle.gp_program.specs.declared.ranged.Ranged.{Ranged}
-use Rattle.gp_program.specs.Signs.{where_word}
-use Rattle.gp_program.specs.Expressions.{Tree, name}
-use Rattle.gp_program.specs.Conditions.{CondTree, mark, label}
+use Rattle.gp_expressions.specs.declared.ranged.Ranged.{Ranged}
+use Rattle.gp_expressions.specs.Signs.{where_word}
+use Rattle.gp_expressions.specs.Expressions.{Tree, name}
+use Rattle.gp_expressions.specs.Conditions.{CondTree, mark, label}
 use Rattle.gp_program.specs.Rules.{coord, position, place, flag, node, edge, nodes, edges, body, two_bars, barred, graph, variable_type, variable_group, variables, interface, where_part, rule_with}
-use Rattle.gp_program.proofs.ListLaws.{IsListPart}
-use Rattle.gp_program.proofs.ConditionLaws.{IsLabelPart, label_part, avoid_both}
+use Rattle.gp_expressions.proofs.ListLaws.{IsListPart}
+use Rattle.gp_expressions.proofs.ConditionLaws.{IsLabelPart, label_part, avoid_both}
 
 module _ (l : Grammar (Ranged Tree)) (p : IsListPart l) where
   label_lacks : Lacks bar (label l) × Lacks close_bracket (label l)

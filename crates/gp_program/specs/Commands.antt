@@ -8,9 +8,9 @@ use Rattle.gp_grammar.specs.Signs.{open_sign, close_sign, open_brace, close_brac
 use Rattle.gp_values.specs.Names.{Name}
 use Rattle.gp_syntax.specs.declared.tree.CommandTree.{CommandTree}
 use Rattle.gp_syntax.specs.declared.tree.CommandTree.TheVariants as commands
-use Rattle.gp_program.specs.Signs.{or_word, if_word, then_word, else_word, try_word, skip_word, fail_word, break_word}
-use Rattle.gp_program.specs.Expressions.{name, inner, behind}
-use Rattle.gp_program.specs.Conditions.{means}
+use Rattle.gp_expressions.specs.Signs.{or_word, if_word, then_word, else_word, try_word, skip_word, fail_word, break_word}
+use Rattle.gp_expressions.specs.Expressions.{name, inner, behind}
+use Rattle.gp_expressions.specs.Conditions.{means}
 
 -- a chain of the first and the further commands; one command is no chain
 abbrev pub grouped : (CommandTree → List CommandTree → CommandTree) → List CommandTree → CommandTree

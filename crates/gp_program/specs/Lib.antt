@@ -1,7 +1,3 @@
-pub mod Signs
-pub mod Ranges
-pub mod Expressions
-pub mod Conditions
 pub mod Rules
 pub mod Commands
 pub mod Programs

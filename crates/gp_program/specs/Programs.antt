@@ -10,9 +10,9 @@ use Rattle.gp_syntax.specs.declared.tree.CommandTree.{CommandTree}
 use Rattle.gp_syntax.specs.declared.tree.RuleDecl.{RuleDecl}
 use Rattle.gp_syntax.specs.declared.tree.Decl.{Decl}
 use Rattle.gp_syntax.specs.declared.tree.Decl.TheVariants as declared
-use Rattle.gp_program.specs.declared.ranged.Ranged.{Ranged}
-use Rattle.gp_program.specs.Ranges.{whole, with, both, gathered, all_joined}
-use Rattle.gp_program.specs.Expressions.{name, inner}
+use Rattle.gp_expressions.specs.declared.ranged.Ranged.{Ranged}
+use Rattle.gp_expressions.specs.Ranges.{whole, with, both, gathered, all_joined}
+use Rattle.gp_expressions.specs.Expressions.{name, inner}
 use Rattle.gp_program.specs.Rules.{rule}
 use Rattle.gp_program.specs.Commands.{commands_of}
 
@@ -58,4 +58,4 @@ ast_of r = with (λ ds. record { declarations = ds }) r
 
 -- Program = {Decl}, with so much room
 unfoldable pub program : ℕ → Grammar (Ranged Ast)
-program room = Made ast_of (declarations room room)
+program room = Made ast_of (declarations_in room (declarations room room))

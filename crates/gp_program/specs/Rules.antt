@@ -17,11 +17,11 @@ use Rattle.gp_syntax.specs.declared.tree.NodeDecl.{NodeDecl}
 use Rattle.gp_syntax.specs.declared.tree.EdgeDecl.{EdgeDecl}
 use Rattle.gp_syntax.specs.declared.tree.GraphDecl.{GraphDecl}
 use Rattle.gp_syntax.specs.declared.tree.RuleDecl.{RuleDecl}
-use Rattle.gp_program.specs.declared.ranged.Ranged.{Ranged}
-use Rattle.gp_program.specs.Ranges.{whole, with, both, gathered}
-use Rattle.gp_program.specs.Signs.{int_word, char_word, string_word, atom_word, list_word, where_word, interface_word, bidirectional_word}
-use Rattle.gp_program.specs.Expressions.{Tree, name, inner, behind, list}
-use Rattle.gp_program.specs.Conditions.{CondTree, label, means, condition}
+use Rattle.gp_expressions.specs.declared.ranged.Ranged.{Ranged}
+use Rattle.gp_expressions.specs.Ranges.{whole, with, both, gathered}
+use Rattle.gp_expressions.specs.Signs.{int_word, char_word, string_word, atom_word, list_word, where_word, interface_word, bidirectional_word}
+use Rattle.gp_expressions.specs.Expressions.{Tree, name, inner, behind, list}
+use Rattle.gp_expressions.specs.Conditions.{CondTree, label, means, condition}
 
 -- ---- positions, of which nothing is kept
 

@@ -6,11 +6,11 @@ ghost use Rattle.gp_grammar.specs.inside.Reading.{reader_of};
 ghost use Rattle.gp_grammar.specs.declared.want.Want.TheVariants as wants;
 ghost use Rattle.gp_grammar.specs.Signs.{semicolon};
 ghost use Rattle.gp_syntax.specs.declared.tree.CommandTree.TheVariants as commands;
-ghost use Rattle.gp_program.specs.Expressions.{behind, name};
-ghost use Rattle.gp_program.specs.Signs.{or_word, then_word};
+ghost use Rattle.gp_expressions.specs.Expressions.{behind, name};
+ghost use Rattle.gp_expressions.specs.Signs.{or_word, then_word};
 ghost use Rattle.gp_program.specs.Commands as spec;
 
-use crate::expression::read_name;
+use gp_expressions::read_name;
 use gp_grammar::{ReadError, Tokens, Want, repeated_by, separated_by};
 use gp_memory::NoMemory;
 use gp_syntax::{Boxed, CommandTree, Items, Name};
@@ -197,7 +197,8 @@ fn read_part(tokens: &mut Tokens<'_, '_>, room: u64, word: Want) -> Result<Comma
         tokens.expect(word)?;
         return read_block(tokens, room);
     }
-    Ok(CommandTree::Skip)
+    let missing = CommandTree::Skip;
+    Ok(missing)
 }
 
 // Com = Block | "if" Block "then" Block ["else" Block] | "try" Block ["then" Block] ["else" Block]

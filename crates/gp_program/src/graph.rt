@@ -3,12 +3,10 @@
 ghost use Rattle.std.specs.Prelude.{◌≡◌};
 ghost use Rattle.gp_grammar.specs.inside.Cursor.{Reads};
 ghost use Rattle.gp_grammar.specs.inside.Reading.{reader_of};
-ghost use Rattle.gp_program.specs.Expressions.{list};
+ghost use Rattle.gp_expressions.specs.Expressions.{list};
 ghost use Rattle.gp_program.specs.Rules as spec;
 
-use crate::condition::read_label;
-use crate::expression::read_name;
-use crate::ranged::{Ranged, gather};
+use gp_expressions::{Ranged, gather, read_label, read_name};
 use gp_grammar::{ReadError, Tokens, Want, repeated_by, stands_before};
 use gp_syntax::{EdgeDecl, GraphDecl, Items, NodeDecl};
 use gp_tokens::{Keyword, Kind, Token};
@@ -58,7 +56,8 @@ fn pass_position(tokens: &mut Tokens<'_, '_>) -> Result<(), ReadError>
 fn pass_place(tokens: &mut Tokens<'_, '_>) -> Result<(), ReadError>
     ensures { Reads (reader_of spec.place tokens.old) result tokens.new }
 {
-    if tokens.begins(LESS) {
+    let placed = tokens.begins(LESS);
+    if placed {
         pass_position(tokens)?;
     }
     Ok(())

@@ -5,7 +5,7 @@ ghost use Rattle.gp_program.specs.Program.{ParsesProgram, place_of_start};
 ghost use Rattle.gp_program.specs.inside.Stages.{ReadsTree};
 
 use crate::program::read_ast;
-use crate::ranged::Ranged;
+use gp_expressions::Ranged;
 use gp_grammar::{ReadError, Tokens};
 use gp_memory::NoMemory as Refused;
 use gp_parse::first_too_deep;

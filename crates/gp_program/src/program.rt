@@ -8,9 +8,8 @@ ghost use Rattle.gp_program.specs.Rules.{rule};
 ghost use Rattle.gp_program.specs.Programs as spec;
 
 use crate::command::read_commands;
-use crate::expression::read_name;
-use crate::ranged::{Ranged, gather, join, whole};
 use crate::rule::read_rule;
+use gp_expressions::{Ranged, gather, join, read_name, whole};
 use gp_grammar::{ReadError, Tokens, Want, repeated_by};
 use gp_memory::NoMemory;
 use gp_syntax::{Ast, Decl, Items};
@@ -155,7 +154,7 @@ fn read_declarations(
 pub(crate) fn read_ast(tokens: &mut Tokens<'_, '_>, room: u64) -> Result<Ranged<Ast>, ReadError>
     ensures { Reads (reader_of (spec.program room) tokens.old) result tokens.new }
 {
-    let declarations = read_declarations(tokens, room, room)?;
+    let declarations = read_declarations_in(tokens, room, room)?;
     Ok(Ranged {
         tree: Ast {
             declarations: declarations.tree,

@@ -4,14 +4,12 @@ ghost use Rattle.gp_grammar.specs.inside.Cursor.{Reads};
 ghost use Rattle.gp_grammar.specs.inside.Reading.{reader_of};
 ghost use Rattle.gp_grammar.specs.declared.want.Want.TheVariants as wants;
 ghost use Rattle.gp_grammar.specs.Signs.{comma};
-ghost use Rattle.gp_program.specs.Conditions.{condition};
-ghost use Rattle.gp_program.specs.Expressions.{behind, name};
+ghost use Rattle.gp_expressions.specs.Conditions.{condition};
+ghost use Rattle.gp_expressions.specs.Expressions.{behind, name};
 ghost use Rattle.gp_program.specs.Rules as spec;
 
-use crate::condition::{CondTree, read_condition};
-use crate::expression::read_name;
 use crate::graph::read_graph;
-use crate::ranged::{Ranged, whole};
+use gp_expressions::{CondTree, Ranged, read_condition, read_name, whole};
 use gp_grammar::{ReadError, Tokens, Want, repeated_by, separated_by};
 use gp_syntax::{Items, Name, RuleDecl, VariableGroup, VariableType};
 use gp_tokens::{Keyword, Kind};

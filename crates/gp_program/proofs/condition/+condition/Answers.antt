@@ -1,6 +1,0 @@
-use Rattle.gp_program.proofs.Negations.{negation_more}
-use Rattle.gp_program.specs.Expressions.{list}
-use Rattle.gp_program.proofs.condition.+condition.Goals as goal
-
-pub read_negation-returns : goal.read_negation-returns
-read_negation-returns t c = rw (negation_more (list c.args.lists) c.args.room c.if-room-eq0.false) c.read_negated.ensures
