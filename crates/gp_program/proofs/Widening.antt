@@ -25,7 +25,7 @@ use Rattle.gp_expressions.specs.Expressions.{Tree, signed_by, behind, unary, quo
 use Rattle.gp_expressions.specs.Conditions.{CondTree, mark, label, comparison, typed, edge_label, edge_test, comparing, test, conjunction, disjunction, in_parentheses, negated_in, negation, condition}
 use Rattle.gp_expressions.proofs.ListLaws.{never_empty}
 use Rattle.gp_expressions.proofs.ConditionLaws.{negation_full}
-use Rattle.gp_program.specs.Rules.{place, flag, node, edge, nodes, edges, body, barred, graph, variables, interface, where_part, rule_with, rule}
+use Rattle.gp_program.specs.Rules.{position, place, flag, node, edge, nodes, edges, body, barred, graph, variables, interface, where_part, rule_with, rule}
 use Rattle.gp_program.specs.Commands.{repeatable, simple_in, block, part, command, sequence, simple, commands_of}
 use Rattle.gp_program.specs.Programs.{rule_decl, rules, locals, procedure, procedure_group, declarations_in, declarations, program}
 use Rattle.gp_program.specs.Program.{IsProgram}
@@ -216,7 +216,7 @@ module _ (k : ℕ) (l m : Grammar (Ranged Tree)) (p : Within k (shape_of l) (sha
 
   graph_within : Within k (shape_of (graph l)) (shape_of (graph m))
   unfolding graph
-  graph_within = made_within k _ _ _ (skip k open_bracket _ _ (either_within k _ _ _ _ (made_within k _ _ _ (then_within k _ _ _ _ (keeps _) (same k _) barred_within)) body_within))
+  graph_within = made_within k _ _ _ (skip k open_bracket _ _ (either_within k _ _ _ _ (made_within k _ _ _ (then_within k _ _ _ _ (keeps position) (same k _) barred_within)) body_within))
 
 rule_within : (k : ℕ) (l m : Grammar (Ranged Tree)) → Within k (shape_of l) (shape_of m) → (c d : Grammar (Ranged CondTree)) → Within k (shape_of c) (shape_of d)
     → Within k (shape_of (rule_with l c)) (shape_of (rule_with m d))
@@ -291,21 +291,21 @@ module _ (a b k : ℕ) (le : k ≤ b) (d e : Grammar (Ranged (List Decl))) (p : 
 no_bracket : {A : Type 0} (S S' : Shape A) → Within 0 (Is open_bracket then S) (Is open_bracket then S')
 no_bracket S S' ts rest x le h = let n : length h.mid < length ts = token_shrinks open_bracket ts h.mid x.0 h.first in absurd (omega arith)
 
-mutual
-  unfolding locals declarations
-  locals_within : (a b k n : ℕ) → k ≤ b → Within k (shape_of (locals (declarations a n))) (shape_of (locals (declarations b k)))
-  locals_within a b zero n le = either_within 0 _ _ _ _ (made_within 0 _ _ _ (no_bracket _ _)) (same 0 _)
-  locals_within a b (suc k) n le =
-      let less : k ≤ b = omega arith in
-      either_within (suc k) _ _ _ _ (made_within (suc k) _ _ _ (behind_within k open_bracket _ _ (then_within k _ _ _ _ (keeps (declarations a n)) (declarations_within a b k n less) (same k _)))) (same (suc k) _)
+locals_within : (a b k n : ℕ) → ((j : ℕ) → suc j ≡ k → Within j (shape_of (declarations a n)) (shape_of (declarations b (suc j)))) → Within k (shape_of (locals (declarations a n))) (shape_of (locals (declarations b k)))
+unfolding locals
+locals_within a b zero n p = either_within 0 _ _ _ _ (made_within 0 _ _ _ (no_bracket _ _)) (same 0 _)
+locals_within a b (suc k) n p =
+    either_within (suc k) _ _ _ _ (made_within (suc k) _ _ _ (behind_within k open_bracket _ _ (then_within k _ _ _ _ (keeps (declarations a n)) (p k refl) (same k _)))) (same (suc k) _)
 
-  declarations_within : (a b k n : ℕ) → k ≤ b → Within k (shape_of (declarations a n)) (shape_of (declarations b (suc k)))
-  declarations_within a b k zero le = λ ts rest x l h. absurd h
-  declarations_within a b k (suc n) le = declarations_in_within a b k le (declarations a n) (declarations b k) (locals_within a b k n le)
+declarations_within : (a b n k : ℕ) → k ≤ b → Within k (shape_of (declarations a n)) (shape_of (declarations b (suc k)))
+unfolding declarations
+declarations_within a b zero k le = λ ts rest x l h. absurd h
+declarations_within a b (suc n) k le =
+    declarations_in_within a b k le (declarations a n) (declarations b k) (locals_within a b k n (λ j e. declarations_within a b n j (omega arith)))
 
 program_within : (b a : ℕ) → Within b (shape_of (program a)) (shape_of (program b))
 unfolding program
-program_within b a = let le : b ≤ b = omega arith in made_within b _ _ _ (declarations_in_within a b b le (declarations a a) (declarations b b) (locals_within a b b a le))
+program_within b a = let le : b ≤ b = omega arith in made_within b _ _ _ (declarations_in_within a b b le (declarations a a) (declarations b b) (locals_within a b b a (λ j e. declarations_within a b a j (omega arith))))
 
 pub programs_have_room : ProgramsHaveRoom
 programs_have_room room tokens x h = let le : length tokens ≤ length tokens = omega arith in program_within (length tokens) room tokens [] x le h
