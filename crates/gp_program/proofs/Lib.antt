@@ -1,6 +1,0 @@
-pub mod Simples
-pub mod RuleLaws
-pub mod CommandLaws
-pub mod ProgramLaws
-pub mod Widening
-pub mod Parsing
