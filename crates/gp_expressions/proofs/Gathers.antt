@@ -1,0 +1,36 @@
+-- Lists of trees, one tree more at a time.
+use Rattle.std.proofs.Common.{◌≡◌, List, [], ◌∷◌, ◌++◌, map, Option, Some, None, refl, sym, ap, append_assoc}
+use Rattle.std.proofs.lemmas.List.{append-nil, map-append}
+use Rattle.std.specs.Option.{option_or}
+use Rattle.gp_expressions.specs.declared.ranged.Ranged.{Ranged}
+use Rattle.gp_expressions.specs.Ranges.{first_past, joined}
+
+none_last : {A : Type 0} (p : Option A) → option_or p None ≡ p
+none_last None = refl
+none_last (Some x) = refl
+
+regroup : {A : Type 0} (p q r : Option A) → option_or (option_or p q) r ≡ option_or p (option_or q r)
+regroup None q r = refl
+regroup (Some x) q r = refl
+
+pub past_more : {A : Type 0} (rs : List (Ranged A)) (r : Ranged A) → first_past (rs ++ r ∷ []) ≡ option_or (first_past rs) r.past
+unfolding first_past
+past_more [] r = none_last r.past
+past_more (x ∷ rs) r = rw (past_more rs r) (sym (regroup x.past (first_past rs) r.past))
+
+pub past_behind : {A : Type 0} (r : Ranged A) (rs : List (Ranged A)) (s : Ranged A) → option_or r.past (first_past (rs ++ s ∷ [])) ≡ option_or (option_or r.past (first_past rs)) s.past
+past_behind r rs s = rw (past_more rs s) (sym (regroup r.past (first_past rs) s.past))
+
+pub joined_more : {A : Type 0} (xss : List (List A)) (ys : List A) → joined (xss ++ ys ∷ []) ≡ joined xss ++ ys
+unfolding joined
+joined_more [] ys = append-nil ys
+joined_more (xs ∷ xss) ys = rw (joined_more xss ys) (simp append_assoc)
+
+pub tree_more : {A B : Type 0} (f : A → B) (now : List B) (xs : List A) (x : A) → now ≡ map f xs → now ++ f x ∷ [] ≡ map f (xs ++ x ∷ [])
+tree_more f now xs x e = rw (e, map-append) refl
+
+pub tree_behind : {A B : Type 0} (f : A → B) (first : B) (now : List B) (xs : List A) (x : A) → now ≡ first ∷ map f xs → now ++ f x ∷ [] ≡ first ∷ map f (xs ++ x ∷ [])
+tree_behind f first now xs x e = rw (e, map-append) refl
+
+pub list_behind : {A B : Type 0} (f : A → List B) (first now : List B) (xs : List A) (x : A) → now ≡ first ++ joined (map f xs) → now ++ f x ≡ first ++ joined (map f (xs ++ x ∷ []))
+list_behind f first now xs x e = rw (e, map-append, joined_more (map f xs) (f x)) (simp append_assoc)

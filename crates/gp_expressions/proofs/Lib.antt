@@ -1,0 +1,6 @@
+pub mod Gathers
+pub mod Operands
+pub mod ListLaws
+pub mod Negations
+pub mod ConditionLaws
+pub mod Exclusion

@@ -1,0 +1,5 @@
+pub mod Signs
+pub mod Ranges
+pub mod Expressions
+pub mod Conditions
+pub mod Laws
