@@ -48,6 +48,10 @@ refused tokens (faults.Syntax k) s h = (s, record { none = none_parsed tokens h.
 refused tokens (faults.NumberRange k) s h = absurd h
 refused tokens faults.NoMemory s h = h
 
+pub shallow : (tokens : List Token) (found : Option ℕ) → FindsDepth tokens (Ok found) → found ≡ None → IsShallow tokens
+shallow tokens None h e = h
+shallow tokens (Some k) h e = absurd cc
+
 -- ---- laws
 
 pub one_tree : TokensHaveOneTree

@@ -65,6 +65,32 @@ fn call_of_one(alloc: Global, name: Name) -> Result<CommandTree, NoMemory>
     Ok(CommandTree::Call(names))
 }
 
+fn if_of(
+    alloc: Global,
+    condition: CommandTree,
+    met: CommandTree,
+    unmet: CommandTree,
+) -> Result<CommandTree, NoMemory>
+    ensures { IfOk result (λ p. p ≡ commands.If condition met unmet) }
+{
+    let condition = Boxed::new(alloc, condition)?;
+    let met = Boxed::new(alloc, met)?;
+    Ok(CommandTree::If(condition, met, Boxed::new(alloc, unmet)?))
+}
+
+fn try_of(
+    alloc: Global,
+    condition: CommandTree,
+    met: CommandTree,
+    unmet: CommandTree,
+) -> Result<CommandTree, NoMemory>
+    ensures { IfOk result (λ p. p ≡ commands.Try condition met unmet) }
+{
+    let condition = Boxed::new(alloc, condition)?;
+    let met = Boxed::new(alloc, met)?;
+    Ok(CommandTree::Try(condition, met, Boxed::new(alloc, unmet)?))
+}
+
 // [RuleName {"," RuleName}]
 #[tactic(auto, unfolding(crate::specs::Commands::rule_names))]
 fn read_rule_names(tokens: &mut Tokens<'_, '_>) -> Result<Items<Name>, ReadError>
@@ -207,26 +233,19 @@ fn read_part(tokens: &mut Tokens<'_, '_>, room: u64, word: Want) -> Result<Comma
 fn read_command(tokens: &mut Tokens<'_, '_>, room: u64) -> Result<CommandTree, ReadError>
     ensures { Reads (reader_of (spec.command (spec.simple room)) tokens.old) result tokens.new }
 {
-    let alloc = tokens.alloc();
     if tokens.eat(Want::Keyword(Keyword::If)) {
         let condition = read_block(tokens, room)?;
         let yes = read_then(tokens, room)?;
         let no = read_part(tokens, room, ELSE)?;
-        return Ok(CommandTree::If(
-            Boxed::new(alloc, condition)?,
-            Boxed::new(alloc, yes)?,
-            Boxed::new(alloc, no)?,
-        ));
+        let command = if_of(tokens.alloc(), condition, yes, no)?;
+        return Ok(command);
     }
     if tokens.eat(Want::Keyword(Keyword::Try)) {
         let condition = read_block(tokens, room)?;
         let yes = read_part(tokens, room, THEN)?;
         let no = read_part(tokens, room, ELSE)?;
-        return Ok(CommandTree::Try(
-            Boxed::new(alloc, condition)?,
-            Boxed::new(alloc, yes)?,
-            Boxed::new(alloc, no)?,
-        ));
+        let command = try_of(tokens.alloc(), condition, yes, no)?;
+        return Ok(command);
     }
     read_block(tokens, room)
 }
