@@ -1,0 +1,6 @@
+pub mod Simples
+pub mod RuleLaws
+pub mod CommandLaws
+pub mod ProgramLaws
+pub mod Widening
+pub mod Parsing

@@ -1,0 +1,275 @@
+//! Reads commands, one function for each line of the grammar.
+
+ghost use Rattle.std.specs.Prelude.{◌≡◌, ◌∷◌, IfOk};
+ghost use Rattle.gp_grammar.specs.inside.Cursor.{Reads};
+ghost use Rattle.gp_grammar.specs.inside.Reading.{reader_of};
+ghost use Rattle.gp_grammar.specs.declared.want.Want.TheVariants as wants;
+ghost use Rattle.gp_grammar.specs.Signs.{semicolon};
+ghost use Rattle.gp_syntax.specs.declared.tree.CommandTree.TheVariants as commands;
+ghost use Rattle.gp_expressions.specs.Expressions.{behind, name};
+ghost use Rattle.gp_expressions.specs.Signs.{or_word, then_word};
+ghost use Rattle.gp_program.specs.Commands as spec;
+
+use gp_expressions::read_name;
+use gp_grammar::{ReadError, Tokens, Want, repeated_by, separated_by};
+use gp_memory::NoMemory;
+use gp_syntax::{Boxed, CommandTree, Items, Name};
+use gp_tokens::{Keyword, Kind};
+use std::alloc::Global;
+
+const OPEN: Want = Want::Kind(Kind::OpenParenthesis);
+
+const CLOSE: Want = Want::Kind(Kind::CloseParenthesis);
+
+const COMMA: Want = Want::Kind(Kind::Comma);
+
+const SEMICOLON: Want = Want::Kind(Kind::Semicolon);
+
+const OR: Want = Want::Keyword(Keyword::Or);
+
+const THEN: Want = Want::Keyword(Keyword::Then);
+
+const ELSE: Want = Want::Keyword(Keyword::Else);
+
+fn choice(
+    alloc: Global,
+    first: CommandTree,
+    rest: Vec<CommandTree>,
+) -> Result<CommandTree, NoMemory>
+    ensures { IfOk result (λ p. p ≡ spec.grouped commands.Or (first ∷ rest.items)) }
+{
+    if rest.is_empty() {
+        return Ok(first);
+    }
+    Ok(CommandTree::Or(Boxed::new(alloc, first)?, Items::from_vec(rest)))
+}
+
+fn sequence(
+    alloc: Global,
+    first: CommandTree,
+    rest: Vec<CommandTree>,
+) -> Result<CommandTree, NoMemory>
+    ensures { IfOk result (λ p. p ≡ spec.grouped commands.Seq (first ∷ rest.items)) }
+{
+    if rest.is_empty() {
+        return Ok(first);
+    }
+    Ok(CommandTree::Seq(Boxed::new(alloc, first)?, Items::from_vec(rest)))
+}
+
+fn call_of_one(alloc: Global, name: Name) -> Result<CommandTree, NoMemory>
+    ensures { IfOk result (λ p. p ≡ spec.call_of_one name) }
+{
+    let mut names = Items::new(alloc);
+    names.push(name)?;
+    Ok(CommandTree::Call(names))
+}
+
+fn if_of(
+    alloc: Global,
+    condition: CommandTree,
+    met: CommandTree,
+    unmet: CommandTree,
+) -> Result<CommandTree, NoMemory>
+    ensures { IfOk result (λ p. p ≡ commands.If condition met unmet) }
+{
+    let condition = Boxed::new(alloc, condition)?;
+    let met = Boxed::new(alloc, met)?;
+    Ok(CommandTree::If(condition, met, Boxed::new(alloc, unmet)?))
+}
+
+fn try_of(
+    alloc: Global,
+    condition: CommandTree,
+    met: CommandTree,
+    unmet: CommandTree,
+) -> Result<CommandTree, NoMemory>
+    ensures { IfOk result (λ p. p ≡ commands.Try condition met unmet) }
+{
+    let condition = Boxed::new(alloc, condition)?;
+    let met = Boxed::new(alloc, met)?;
+    Ok(CommandTree::Try(condition, met, Boxed::new(alloc, unmet)?))
+}
+
+// [RuleName {"," RuleName}]
+#[tactic(auto, unfolding(crate::specs::Commands::rule_names))]
+fn read_rule_names(tokens: &mut Tokens<'_, '_>) -> Result<Items<Name>, ReadError>
+    ensures { Reads (reader_of spec.rule_names tokens.old) result tokens.new }
+{
+    if tokens.begins(Want::RuleName) {
+        let names = separated_by(
+            tokens,
+            COMMA,
+            |tokens: &mut Tokens<'_, '_>| -> Result<Name, ReadError>
+                ensures { Reads (reader_of (name wants.RuleName) tokens.old) result tokens.new }
+            { read_name(tokens, Want::RuleName) },
+        )?;
+        return Ok(Items::from_vec(names));
+    }
+    Ok(Items::new(tokens.alloc()))
+}
+
+// ["!"]
+#[tactic(auto, unfolding(crate::specs::Commands::bang))]
+fn read_bang(tokens: &mut Tokens<'_, '_>) -> Result<bool, ReadError>
+    ensures { Reads (reader_of spec.bang tokens.old) result tokens.new }
+{
+    Ok(tokens.eat(Want::Kind(Kind::Exclamation)))
+}
+
+fn looped(alloc: Global, body: CommandTree, looped: bool) -> Result<CommandTree, NoMemory>
+    ensures { IfOk result (λ p. p ≡ spec.looped (body, looped)) }
+{
+    if looped {
+        return Ok(CommandTree::Loop(Boxed::new(alloc, body)?));
+    }
+    Ok(body)
+}
+
+// "(" ComSeq ")" | RuleName | "{" [RuleName {"," RuleName}] "}" | ProcName, inside so much room.
+#[cycle(command)]
+#[tactic(auto, unfolding(crate::specs::Commands::repeatable))]
+fn read_repeatable(tokens: &mut Tokens<'_, '_>, room: u64) -> Result<CommandTree, ReadError>
+    ensures { Reads (reader_of (spec.repeatable (spec.commands_of room)) tokens.old) result tokens.new }
+{
+    if tokens.eat(OPEN) {
+        let inner = read_commands(tokens, room)?;
+        tokens.expect(CLOSE)?;
+        return Ok(inner);
+    }
+    if tokens.eat(Want::Kind(Kind::OpenBrace)) {
+        let names = read_rule_names(tokens)?;
+        tokens.expect(Want::Kind(Kind::CloseBrace))?;
+        return Ok(CommandTree::Call(names));
+    }
+    if tokens.begins(Want::RuleName) {
+        let name = read_name(tokens, Want::RuleName)?;
+        let call = call_of_one(tokens.alloc(), name)?;
+        return Ok(call);
+    }
+    let name = read_name(tokens, Want::ProcedureName)?;
+    Ok(CommandTree::Procedure(name))
+}
+
+// Simple, inside so much room.
+#[cycle(command)]
+#[tactic(auto, unfolding(crate::specs::Commands::simple_in))]
+fn read_simple_in(tokens: &mut Tokens<'_, '_>, room: u64) -> Result<CommandTree, ReadError>
+    ensures { Reads (reader_of (spec.simple_in (spec.commands_of room)) tokens.old) result tokens.new }
+{
+    if tokens.eat(Want::Keyword(Keyword::Break)) {
+        return Ok(CommandTree::Break);
+    }
+    if tokens.eat(Want::Keyword(Keyword::Skip)) {
+        return Ok(CommandTree::Skip);
+    }
+    if tokens.eat(Want::Keyword(Keyword::Fail)) {
+        return Ok(CommandTree::Fail);
+    }
+    let body = read_repeatable(tokens, room)?;
+    let bang = read_bang(tokens)?;
+    let command = looped(tokens.alloc(), body, bang)?;
+    Ok(command)
+}
+
+#[cycle(command)]
+#[tactic(auto, unfolding(crate::specs::Commands::simple))]
+fn read_simple(tokens: &mut Tokens<'_, '_>, room: u64) -> Result<CommandTree, ReadError>
+    ensures { Reads (reader_of (spec.simple room) tokens.old) result tokens.new }
+{
+    if room == 0 {
+        return Err(tokens.refusal());
+    }
+    read_simple_in(tokens, room - 1)
+}
+
+// Block = Simple {"or" Simple}
+#[cycle(command)]
+#[tactic(auto, unfolding(crate::specs::Commands::block))]
+fn read_block(tokens: &mut Tokens<'_, '_>, room: u64) -> Result<CommandTree, ReadError>
+    ensures { Reads (reader_of (spec.block (spec.simple room)) tokens.old) result tokens.new }
+{
+    let first = read_simple(tokens, room)?;
+    let rest = repeated_by(
+        tokens,
+        OR,
+        |tokens: &mut Tokens<'_, '_>| -> Result<CommandTree, ReadError>
+            ensures { Reads (reader_of (behind or_word (spec.simple room)) tokens.old) result tokens.new }
+        {
+            tokens.expect(OR)?;
+            read_simple(tokens, room)
+        },
+    )?;
+    let block = choice(tokens.alloc(), first, rest)?;
+    Ok(block)
+}
+
+// "then" Block
+#[cycle(command)]
+fn read_then(tokens: &mut Tokens<'_, '_>, room: u64) -> Result<CommandTree, ReadError>
+    ensures { Reads (reader_of (behind then_word (spec.block (spec.simple room))) tokens.old) result tokens.new }
+{
+    tokens.expect(THEN)?;
+    read_block(tokens, room)
+}
+
+// [word Block]
+#[cycle(command)]
+#[tactic(auto, unfolding(crate::specs::Commands::part))]
+fn read_part(tokens: &mut Tokens<'_, '_>, room: u64, word: Want) -> Result<CommandTree, ReadError>
+    ensures { Reads (reader_of (spec.part (spec.simple room) word) tokens.old) result tokens.new }
+{
+    if tokens.begins(word) {
+        tokens.expect(word)?;
+        return read_block(tokens, room);
+    }
+    let missing = CommandTree::Skip;
+    Ok(missing)
+}
+
+// Com = Block | "if" Block "then" Block ["else" Block] | "try" Block ["then" Block] ["else" Block]
+#[cycle(command)]
+#[tactic(auto, unfolding(crate::specs::Commands::command))]
+fn read_command(tokens: &mut Tokens<'_, '_>, room: u64) -> Result<CommandTree, ReadError>
+    ensures { Reads (reader_of (spec.command (spec.simple room)) tokens.old) result tokens.new }
+{
+    if tokens.eat(Want::Keyword(Keyword::If)) {
+        let condition = read_block(tokens, room)?;
+        let yes = read_then(tokens, room)?;
+        let no = read_part(tokens, room, ELSE)?;
+        let command = if_of(tokens.alloc(), condition, yes, no)?;
+        return Ok(command);
+    }
+    if tokens.eat(Want::Keyword(Keyword::Try)) {
+        let condition = read_block(tokens, room)?;
+        let yes = read_part(tokens, room, THEN)?;
+        let no = read_part(tokens, room, ELSE)?;
+        let command = try_of(tokens.alloc(), condition, yes, no)?;
+        return Ok(command);
+    }
+    read_block(tokens, room)
+}
+
+/// ComSeq = Com {";" Com}
+#[cycle(command)]
+#[tactic(auto, unfolding(crate::specs::Commands::sequence))]
+pub(crate) fn read_commands(
+    tokens: &mut Tokens<'_, '_>,
+    room: u64,
+) -> Result<CommandTree, ReadError>
+    ensures { Reads (reader_of (spec.commands_of room) tokens.old) result tokens.new }
+{
+    let first = read_command(tokens, room)?;
+    let rest = repeated_by(
+        tokens,
+        SEMICOLON,
+        |tokens: &mut Tokens<'_, '_>| -> Result<CommandTree, ReadError>
+            ensures { Reads (reader_of (behind semicolon (spec.command (spec.simple room))) tokens.old) result tokens.new }
+        {
+            tokens.expect(SEMICOLON)?;
+            read_command(tokens, room)
+        },
+    )?;
+    let commands = sequence(tokens.alloc(), first, rest)?;
+    Ok(commands)
+}

@@ -1,0 +1,212 @@
+//! Reads the sides of rules, one function for each line of the grammar.
+
+ghost use Rattle.std.specs.Prelude.{◌≡◌};
+ghost use Rattle.gp_grammar.specs.inside.Cursor.{Reads};
+ghost use Rattle.gp_grammar.specs.inside.Reading.{reader_of};
+ghost use Rattle.gp_expressions.specs.Expressions.{list};
+ghost use Rattle.gp_program.specs.Rules as spec;
+
+use gp_expressions::{Ranged, gather, read_label, read_name};
+use gp_grammar::{ReadError, Tokens, Want, repeated_by, stands_before};
+use gp_syntax::{EdgeDecl, GraphDecl, Items, NodeDecl};
+use gp_tokens::{Keyword, Kind, Token};
+
+const OPEN: Want = Want::Kind(Kind::OpenParenthesis);
+
+const CLOSE: Want = Want::Kind(Kind::CloseParenthesis);
+
+const COMMA: Want = Want::Kind(Kind::Comma);
+
+const NUMBER: Want = Want::Kind(Kind::Number);
+
+const BAR: Want = Want::Kind(Kind::Bar);
+
+const CLOSE_BRACKET: Want = Want::Kind(Kind::CloseBracket);
+
+const LESS: Want = Want::Kind(Kind::Less);
+
+// Coord = ["-"] Number ["." Number]
+#[tactic(auto, unfolding(crate::specs::Rules::coord))]
+fn pass_coord(tokens: &mut Tokens<'_, '_>) -> Result<(), ReadError>
+    ensures { Reads (reader_of spec.coord tokens.old) result tokens.new }
+{
+    tokens.eat(Want::Kind(Kind::Minus));
+    tokens.expect(NUMBER)?;
+    if tokens.eat(Want::Kind(Kind::Dot)) {
+        tokens.expect(NUMBER)?;
+    }
+    Ok(())
+}
+
+// Position = "<" Coord "," Coord ">"
+#[tactic(auto, unfolding(crate::specs::Rules::position))]
+fn pass_position(tokens: &mut Tokens<'_, '_>) -> Result<(), ReadError>
+    ensures { Reads (reader_of spec.position tokens.old) result tokens.new }
+{
+    tokens.expect(LESS)?;
+    pass_coord(tokens)?;
+    tokens.expect(COMMA)?;
+    pass_coord(tokens)?;
+    tokens.expect(Want::Kind(Kind::Greater))?;
+    Ok(())
+}
+
+// [Position]
+#[tactic(auto, unfolding(crate::specs::Rules::place))]
+fn pass_place(tokens: &mut Tokens<'_, '_>) -> Result<(), ReadError>
+    ensures { Reads (reader_of spec.place tokens.old) result tokens.new }
+{
+    let placed = tokens.begins(LESS);
+    if placed {
+        pass_position(tokens)?;
+    }
+    Ok(())
+}
+
+// ["(" word ")"]
+#[tactic(auto, unfolding(crate::specs::Rules::flag))]
+fn read_flag(tokens: &mut Tokens<'_, '_>, word: Want) -> Result<bool, ReadError>
+    ensures { Reads (reader_of (spec.flag word) tokens.old) result tokens.new }
+{
+    let flagged = tokens.eat(OPEN);
+    if flagged {
+        tokens.expect(word)?;
+        tokens.expect(CLOSE)?;
+    }
+    Ok(flagged)
+}
+
+// Node = "(" Item ["(" "R" ")"] "," Label [Position] ")"
+#[tactic(auto, unfolding(crate::specs::Rules::node))]
+fn read_node(tokens: &mut Tokens<'_, '_>, lists: u64) -> Result<Ranged<NodeDecl>, ReadError>
+    ensures { Reads (reader_of (spec.node (list lists)) tokens.old) result tokens.new }
+{
+    tokens.expect(OPEN)?;
+    let name = read_name(tokens, Want::Item)?;
+    let root = read_flag(tokens, Want::Keyword(Keyword::Root))?;
+    tokens.expect(COMMA)?;
+    let (label, mark) = read_label(tokens, lists)?;
+    pass_place(tokens)?;
+    tokens.expect(CLOSE)?;
+    Ok(Ranged {
+        tree: NodeDecl {
+            name,
+            root,
+            label: label.tree,
+            mark,
+        },
+        past: label.past,
+    })
+}
+
+// Edge = "(" Item ["(" "B" ")"] "," Item "," Item "," Label ")"
+#[tactic(auto, unfolding(crate::specs::Rules::edge))]
+fn read_edge(tokens: &mut Tokens<'_, '_>, lists: u64) -> Result<Ranged<EdgeDecl>, ReadError>
+    ensures { Reads (reader_of (spec.edge (list lists)) tokens.old) result tokens.new }
+{
+    tokens.expect(OPEN)?;
+    let name = read_name(tokens, Want::Item)?;
+    let bidirectional = read_flag(tokens, Want::Keyword(Keyword::Bidirectional))?;
+    tokens.expect(COMMA)?;
+    let source = read_name(tokens, Want::Item)?;
+    tokens.expect(COMMA)?;
+    let target = read_name(tokens, Want::Item)?;
+    tokens.expect(COMMA)?;
+    let (label, mark) = read_label(tokens, lists)?;
+    tokens.expect(CLOSE)?;
+    Ok(Ranged {
+        tree: EdgeDecl {
+            name,
+            bidirectional,
+            source,
+            target,
+            label: label.tree,
+            mark,
+        },
+        past: label.past,
+    })
+}
+
+#[tactic(auto, unfolding(crate::specs::Rules::nodes))]
+fn read_nodes(tokens: &mut Tokens<'_, '_>, lists: u64) -> Result<Ranged<Items<NodeDecl>>, ReadError>
+    ensures { Reads (reader_of (spec.nodes (list lists)) tokens.old) result tokens.new }
+{
+    let nodes = repeated_by(
+        tokens,
+        OPEN,
+        |tokens: &mut Tokens<'_, '_>| -> Result<Ranged<NodeDecl>, ReadError>
+            ensures { Reads (reader_of (spec.node (list lists)) tokens.old) result tokens.new }
+        { read_node(tokens, lists) },
+    )?;
+    Ok(gather(tokens.alloc(), nodes)?)
+}
+
+#[tactic(auto, unfolding(crate::specs::Rules::edges))]
+fn read_edges(tokens: &mut Tokens<'_, '_>, lists: u64) -> Result<Ranged<Items<EdgeDecl>>, ReadError>
+    ensures { Reads (reader_of (spec.edges (list lists)) tokens.old) result tokens.new }
+{
+    let edges = repeated_by(
+        tokens,
+        OPEN,
+        |tokens: &mut Tokens<'_, '_>| -> Result<Ranged<EdgeDecl>, ReadError>
+            ensures { Reads (reader_of (spec.edge (list lists)) tokens.old) result tokens.new }
+        { read_edge(tokens, lists) },
+    )?;
+    Ok(gather(tokens.alloc(), edges)?)
+}
+
+// {Node} "|" {Edge} "]"
+#[tactic(auto, unfolding(crate::specs::Rules::body))]
+fn read_body(tokens: &mut Tokens<'_, '_>, lists: u64) -> Result<Ranged<GraphDecl>, ReadError>
+    ensures { Reads (reader_of (spec.body (list lists)) tokens.old) result tokens.new }
+{
+    let nodes = read_nodes(tokens, lists)?;
+    tokens.expect(BAR)?;
+    let edges = read_edges(tokens, lists)?;
+    tokens.expect(CLOSE_BRACKET)?;
+    Ok(Ranged {
+        tree: GraphDecl {
+            nodes: nodes.tree,
+            edges: edges.tree,
+        },
+        past: nodes.past.or(edges.past),
+    })
+}
+
+// Whether a bar comes next, and another one before the next closing bracket.
+fn has_two_bars(tokens: &[Token<'_>]) -> bool
+    ensures { result ≡ spec.two_bars tokens.now }
+{
+    match tokens {
+        [first, rest @ ..] => BAR.is_met_by(first) && stands_before(rest, BAR, CLOSE_BRACKET),
+        [] => false,
+    }
+}
+
+// ["|"] {Node} "|" {Edge} "]"
+#[tactic(auto, unfolding(crate::specs::Rules::barred))]
+fn read_barred(tokens: &mut Tokens<'_, '_>, lists: u64) -> Result<Ranged<GraphDecl>, ReadError>
+    ensures { Reads (reader_of (spec.barred (list lists)) tokens.old) result tokens.new }
+{
+    if has_two_bars(tokens.left()) {
+        tokens.expect(BAR)?;
+        return read_body(tokens, lists);
+    }
+    read_body(tokens, lists)
+}
+
+/// Graph = "[" [Position ["|"]] {Node} "|" {Edge} "]"
+#[tactic(auto, unfolding(crate::specs::Rules::graph))]
+pub(crate) fn read_graph(
+    tokens: &mut Tokens<'_, '_>,
+    lists: u64,
+) -> Result<Ranged<GraphDecl>, ReadError>
+    ensures { Reads (reader_of (spec.graph (list lists)) tokens.old) result tokens.new }
+{
+    tokens.expect(Want::Kind(Kind::OpenBracket))?;
+    if tokens.begins(LESS) {
+        pass_position(tokens)?;
+        return read_barred(tokens, lists);
+    }
+    read_body(tokens, lists)
+}

@@ -1,0 +1,164 @@
+//! Reads declarations and programs, one function for each line of the grammar.
+
+ghost use Rattle.std.specs.Prelude.{◌≡◌, IfOk};
+ghost use Rattle.gp_grammar.specs.Grammar.{Made};
+ghost use Rattle.gp_grammar.specs.inside.Cursor.{Reads};
+ghost use Rattle.gp_grammar.specs.inside.Reading.{reader_of};
+ghost use Rattle.gp_program.specs.Rules.{rule};
+ghost use Rattle.gp_program.specs.Programs as spec;
+
+use crate::command::read_commands;
+use crate::rule::read_rule;
+use gp_expressions::{Ranged, gather, join, read_name, whole};
+use gp_grammar::{ReadError, Tokens, Want, repeated_by};
+use gp_memory::NoMemory;
+use gp_syntax::{Ast, Decl, Items};
+use gp_tokens::Kind;
+use std::alloc::Global;
+
+// {RuleDecl}
+#[tactic(auto, unfolding(crate::specs::Programs::rules))]
+fn read_rules(tokens: &mut Tokens<'_, '_>, room: u64) -> Result<Ranged<Items<Decl>>, ReadError>
+    ensures { Reads (reader_of (spec.rules room) tokens.old) result tokens.new }
+{
+    let rules = repeated_by(
+        tokens,
+        Want::RuleName,
+        |tokens: &mut Tokens<'_, '_>| -> Result<Ranged<Decl>, ReadError>
+            ensures { Reads (reader_of (Made spec.rule_decl (rule room)) tokens.old) result tokens.new }
+        {
+            let rule = read_rule(tokens, room)?;
+            Ok(Ranged {
+                tree: Decl::Rule(rule.tree),
+                past: rule.past,
+            })
+        },
+    )?;
+    let rules = gather(tokens.alloc(), rules)?;
+    Ok(rules)
+}
+
+fn procedure_first(
+    alloc: Global,
+    procedure: Ranged<Decl>,
+    rules: Ranged<Items<Decl>>,
+) -> Result<Ranged<Items<Decl>>, NoMemory>
+    ensures { IfOk result (λ r. r ≡ spec.procedure_first (procedure, rules)) }
+{
+    let mut declarations = Items::new(alloc);
+    declarations.push(procedure.tree)?;
+    declarations.append(rules.tree)?;
+    Ok(Ranged {
+        tree: declarations,
+        past: procedure.past.or(rules.past),
+    })
+}
+
+// ["[" {Decl} "]"], inside so much room.
+#[cycle(declaration)]
+#[tactic(auto, unfolding(crate::specs::Programs::locals))]
+fn read_locals(
+    tokens: &mut Tokens<'_, '_>,
+    room: u64,
+    inside: u64,
+) -> Result<Ranged<Items<Decl>>, ReadError>
+    ensures { Reads (reader_of (spec.locals (spec.declarations room inside)) tokens.old) result tokens.new }
+{
+    if tokens.eat(Want::Kind(Kind::OpenBracket)) {
+        let locals = read_declarations(tokens, room, inside)?;
+        tokens.expect(Want::Kind(Kind::CloseBracket))?;
+        return Ok(locals);
+    }
+    Ok(whole(Items::new(tokens.alloc())))
+}
+
+// ProcName "=" ["[" {Decl} "]"] ComSeq, inside so much room.
+#[cycle(declaration)]
+#[tactic(auto, unfolding(crate::specs::Programs::procedure))]
+fn read_procedure(
+    tokens: &mut Tokens<'_, '_>,
+    room: u64,
+    inside: u64,
+) -> Result<Ranged<Decl>, ReadError>
+    ensures { Reads (reader_of (spec.procedure room (spec.declarations room inside)) tokens.old) result tokens.new }
+{
+    let name = read_name(tokens, Want::ProcedureName)?;
+    tokens.expect(Want::Kind(Kind::Equal))?;
+    let locals = read_locals(tokens, room, inside)?;
+    let body = read_commands(tokens, room)?;
+    Ok(Ranged {
+        tree: Decl::Procedure {
+            name,
+            declarations: locals.tree,
+            body,
+        },
+        past: locals.past,
+    })
+}
+
+// A procedure, and the rules between it and the next.
+#[cycle(declaration)]
+#[tactic(auto, unfolding(crate::specs::Programs::procedure_group))]
+fn read_group(
+    tokens: &mut Tokens<'_, '_>,
+    room: u64,
+    inside: u64,
+) -> Result<Ranged<Items<Decl>>, ReadError>
+    ensures { Reads (reader_of (spec.procedure_group room (spec.declarations room inside)) tokens.old) result tokens.new }
+{
+    let procedure = read_procedure(tokens, room, inside)?;
+    let rules = read_rules(tokens, room)?;
+    let group = procedure_first(tokens.alloc(), procedure, rules)?;
+    Ok(group)
+}
+
+// {Decl}, inside so much room.
+#[cycle(declaration)]
+#[tactic(auto, unfolding(crate::specs::Programs::declarations_in))]
+fn read_declarations_in(
+    tokens: &mut Tokens<'_, '_>,
+    room: u64,
+    inside: u64,
+) -> Result<Ranged<Items<Decl>>, ReadError>
+    ensures { Reads (reader_of (spec.declarations_in room (spec.declarations room inside)) tokens.old) result tokens.new }
+{
+    let rules = read_rules(tokens, room)?;
+    let groups = repeated_by(
+        tokens,
+        Want::ProcedureName,
+        |tokens: &mut Tokens<'_, '_>| -> Result<Ranged<Items<Decl>>, ReadError>
+            ensures { Reads (reader_of (spec.procedure_group room (spec.declarations room inside)) tokens.old) result tokens.new }
+        { read_group(tokens, room, inside) },
+    )?;
+    let all = join(rules, groups)?;
+    Ok(all)
+}
+
+#[cycle(declaration)]
+#[tactic(auto, unfolding(crate::specs::Programs::declarations))]
+fn read_declarations(
+    tokens: &mut Tokens<'_, '_>,
+    room: u64,
+    inside: u64,
+) -> Result<Ranged<Items<Decl>>, ReadError>
+    ensures { Reads (reader_of (spec.declarations room inside) tokens.old) result tokens.new }
+{
+    if inside == 0 {
+        return Err(tokens.refusal());
+    }
+    read_declarations_in(tokens, room, inside - 1)
+}
+
+/// Program = {Decl}
+#[tactic(auto, unfolding(crate::specs::Programs::program))]
+pub(crate) fn read_ast(tokens: &mut Tokens<'_, '_>, room: u64) -> Result<Ranged<Ast>, ReadError>
+    ensures { Reads (reader_of (spec.program room) tokens.old) result tokens.new }
+{
+    let declarations = read_declarations_in(tokens, room, room)?;
+    Ok(Ranged {
+        tree: Ast {
+            declarations: declarations.tree,
+        },
+        past: declarations.past,
+    })
+}

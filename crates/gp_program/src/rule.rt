@@ -1,0 +1,142 @@
+//! Reads rules, one function for each line of the grammar.
+
+ghost use Rattle.gp_grammar.specs.inside.Cursor.{Reads};
+ghost use Rattle.gp_grammar.specs.inside.Reading.{reader_of};
+ghost use Rattle.gp_grammar.specs.declared.want.Want.TheVariants as wants;
+ghost use Rattle.gp_grammar.specs.Signs.{comma};
+ghost use Rattle.gp_expressions.specs.Conditions.{condition};
+ghost use Rattle.gp_expressions.specs.Expressions.{behind, name};
+ghost use Rattle.gp_program.specs.Rules as spec;
+
+use crate::graph::read_graph;
+use gp_expressions::{CondTree, Ranged, read_condition, read_name, whole};
+use gp_grammar::{ReadError, Tokens, Want, repeated_by, separated_by};
+use gp_syntax::{Items, Name, RuleDecl, VariableGroup, VariableType};
+use gp_tokens::{Keyword, Kind};
+
+const COMMA: Want = Want::Kind(Kind::Comma);
+
+// Type = "int" | "char" | "string" | "atom" | "list"
+#[tactic(auto, unfolding(crate::specs::Rules::variable_type))]
+fn read_type(tokens: &mut Tokens<'_, '_>) -> Result<VariableType, ReadError>
+    ensures { Reads (reader_of spec.variable_type tokens.old) result tokens.new }
+{
+    if tokens.eat(Want::Keyword(Keyword::Int)) {
+        return Ok(VariableType::Int);
+    }
+    if tokens.eat(Want::Keyword(Keyword::Char)) {
+        return Ok(VariableType::Char);
+    }
+    if tokens.eat(Want::Keyword(Keyword::String)) {
+        return Ok(VariableType::String);
+    }
+    if tokens.eat(Want::Keyword(Keyword::Atom)) {
+        return Ok(VariableType::Atom);
+    }
+    tokens.expect(Want::Keyword(Keyword::List))?;
+    Ok(VariableType::List)
+}
+
+// Vars = Var {"," Var} ":" Type
+#[tactic(auto, unfolding(crate::specs::Rules::variable_group))]
+fn read_group(tokens: &mut Tokens<'_, '_>) -> Result<VariableGroup, ReadError>
+    ensures { Reads (reader_of spec.variable_group tokens.old) result tokens.new }
+{
+    let first = read_name(tokens, Want::Variable)?;
+    let rest = repeated_by(
+        tokens,
+        COMMA,
+        |tokens: &mut Tokens<'_, '_>| -> Result<Name, ReadError>
+            ensures { Reads (reader_of (behind comma (name wants.Variable)) tokens.old) result tokens.new }
+        {
+            tokens.expect(COMMA)?;
+            read_name(tokens, Want::Variable)
+        },
+    )?;
+    tokens.expect(Want::Kind(Kind::Colon))?;
+    let variable_type = read_type(tokens)?;
+    Ok(VariableGroup {
+        first,
+        rest: Items::from_vec(rest),
+        variable_type,
+    })
+}
+
+// [Vars {";" Vars}]
+#[tactic(auto, unfolding(crate::specs::Rules::variables))]
+fn read_variables(tokens: &mut Tokens<'_, '_>) -> Result<Items<VariableGroup>, ReadError>
+    ensures { Reads (reader_of spec.variables tokens.old) result tokens.new }
+{
+    if tokens.begins(Want::Variable) {
+        let groups = separated_by(tokens, Want::Kind(Kind::Semicolon), read_group)?;
+        return Ok(Items::from_vec(groups));
+    }
+    Ok(Items::new(tokens.alloc()))
+}
+
+// [Item {"," Item}]
+#[tactic(auto, unfolding(crate::specs::Rules::interface))]
+fn read_interface(tokens: &mut Tokens<'_, '_>) -> Result<Items<Name>, ReadError>
+    ensures { Reads (reader_of spec.interface tokens.old) result tokens.new }
+{
+    if tokens.begins(Want::Item) {
+        let names = separated_by(
+            tokens,
+            COMMA,
+            |tokens: &mut Tokens<'_, '_>| -> Result<Name, ReadError>
+                ensures { Reads (reader_of (name wants.Item) tokens.old) result tokens.new }
+            { read_name(tokens, Want::Item) },
+        )?;
+        return Ok(Items::from_vec(names));
+    }
+    Ok(Items::new(tokens.alloc()))
+}
+
+// ["where" Cond]
+#[tactic(auto, unfolding(crate::specs::Rules::where_part))]
+fn read_where(tokens: &mut Tokens<'_, '_>, room: u64) -> Result<Ranged<Option<CondTree>>, ReadError>
+    ensures { Reads (reader_of (spec.where_part (condition room room)) tokens.old) result tokens.new }
+{
+    if tokens.eat(Want::Keyword(Keyword::Where)) {
+        let condition = read_condition(tokens, room, room)?;
+        return Ok(Ranged {
+            tree: Some(condition.tree),
+            past: condition.past,
+        });
+    }
+    Ok(whole(None))
+}
+
+/// RuleDecl = RuleName "(" [Vars {";" Vars}] ")" Graph "=>" Graph "interface" "=" "{" [Item {"," Item}] "}" ["where" Cond]
+#[tactic(auto, unfolding(crate::specs::Rules::rule_with))]
+pub(crate) fn read_rule(
+    tokens: &mut Tokens<'_, '_>,
+    room: u64,
+) -> Result<Ranged<RuleDecl>, ReadError>
+    ensures { Reads (reader_of (spec.rule room) tokens.old) result tokens.new }
+{
+    let name = read_name(tokens, Want::RuleName)?;
+    tokens.expect(Want::Kind(Kind::OpenParenthesis))?;
+    let variables = read_variables(tokens)?;
+    tokens.expect(Want::Kind(Kind::CloseParenthesis))?;
+    let left = read_graph(tokens, room)?;
+    tokens.expect(Want::Kind(Kind::Arrow))?;
+    let right = read_graph(tokens, room)?;
+    tokens.expect(Want::Keyword(Keyword::Interface))?;
+    tokens.expect(Want::Kind(Kind::Equal))?;
+    tokens.expect(Want::Kind(Kind::OpenBrace))?;
+    let interface = read_interface(tokens)?;
+    tokens.expect(Want::Kind(Kind::CloseBrace))?;
+    let condition = read_where(tokens, room)?;
+    Ok(Ranged {
+        tree: RuleDecl {
+            name,
+            variables,
+            left: left.tree,
+            right: right.tree,
+            interface,
+            condition: condition.tree,
+        },
+        past: left.past.or(right.past.or(condition.past)),
+    })
+}
