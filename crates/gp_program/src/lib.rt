@@ -13,7 +13,5 @@ pub mod laws;
 mod parse;
 mod program;
 mod rule;
-#[cfg(test)]
-mod tests;
 
 pub use parse::{ParseFault, parse_program};
