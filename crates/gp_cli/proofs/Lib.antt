@@ -1,8 +1,7 @@
-pub mod Choices
-pub mod Constants
-pub mod Making
-pub mod Steps
-pub mod Numerals
-pub mod Replies
+pub mod Bits
 pub mod Completeness
-pub mod Outcomes
+pub mod Faults
+pub mod Loads
+pub mod Pieces
+pub mod Runs
+pub mod Written

@@ -1,42 +1,24 @@
 -- What the top call may answer, and why.
-use Rattle.std.specs.Prelude.{◌≡◌, ◌≢◌, ◌⊎◌, ℕ, ◌^◌, ◌≤◌, ◌<◌, Bool, List, [], ◌∷◌, ◌++◌, length, take, slice_get, Option, Some, None, codes}
-use Rattle.std.specs.Fmt.{decimal}
+use Rattle.std.specs.Prelude.{◌≡◌, ◌≢◌, ◌⊎◌, ℕ, ◌^◌, ◌≤◌, ◌<◌, Bool, true, false, List, [], ◌∷◌, ◌++◌, length, map, take, slice_get, Option, Some, None}
+use Rattle.std.specs.Option.{option_map_or}
 use Rattle.gp_io.specs.Outside.{Content, Rose, HasFile, LacksFile, Gains}
 use Rattle.gp_values.specs.Names.{Name}
 use Rattle.gp_values.specs.Graph.{Graph}
-use Rattle.gp_syntax.specs.Step.{HasApplying}
-use Rattle.gp_syntax.specs.Run.{Program, Item, Gives, Fails, At, AtTurn, Run, counted}
-use Rattle.gp_parse.specs.Program.{IsProgramText}
+use Rattle.gp_syntax.specs.declared.kinds.NumberKind.{NumberKind}
+use Rattle.gp_syntax.specs.Declaration.{Declaration}
+use Rattle.gp_syntax.specs.Run.{Program, Item, Ending, Gives, Fails, At, Run, counted}
+use Rattle.gp_system.specs.Ended.{MayGoOn, HasFaultyCall}
+use Rattle.gp_reader.specs.declared.fault.ProgramFault.{ProgramFault}
+use Rattle.gp_reader.specs.Program.{IsProgramText, IsFaultyText, declared_rules}
 use Rattle.gp_hostfile.specs.declared.fault.HostFault.{HostFault}
 use Rattle.gp_hostfile.specs.Host.{IsHostText, IsHostFault}
-use Rattle.gp_hostfile.specs.GraphText.{IsGraphText}
-use Rattle.gp_cli.specs.CommandLine.{Command, command_of}
-use Rattle.gp_cli.specs.FaultLines.{IsHostLine}
+use Rattle.gp_words.specs.CommandLine.{Command, command_of}
+use Rattle.gp_cli.specs.Choices.{AreSeeded}
+use Rattle.gp_cli.specs.Texts.{Said, graph, failed, usage, long_program, bad_program, long_host, bad_host, bound_spent, number_fault, unread, Shows}
 
 -- the greatest number of bytes of a file
 abbrev pub limit : ℕ
 limit = 2 ^ 28
-
-abbrev pub usage : List ℕ
-usage = codes "usage: gp2 run PROGRAM HOST [--bound N]" ++ 10 ∷ []
-
-abbrev pub fail_text : List ℕ
-fail_text = codes "fail" ++ 10 ∷ []
-
-abbrev pub bound_text : ℕ → List ℕ
-bound_text bound = codes "bound " ++ decimal bound ++ 10 ∷ []
-
-abbrev pub program_too_long : List ℕ
-program_too_long = codes "program: TooLong" ++ 10 ∷ []
-
-abbrev pub program_not_yet : List ℕ
-program_not_yet = codes "program: NotYet" ++ 10 ∷ []
-
-abbrev pub host_too_long : List ℕ
-host_too_long = codes "host: TooLong" ++ 10 ∷ []
-
-abbrev pub read_text : Name → List ℕ
-read_text name = codes "read: " ++ name ++ 10 ∷ []
 
 -- a count of faults before the call and now
 pub record Count : Type 0 where
@@ -46,19 +28,12 @@ pub record Count : Type 0 where
 abbrev pub HasRisen : Count → Type 0
 HasRisen count = Rose count.before count.now
 
--- the file of that name has at most the limit of bytes, and they are a program
-pub record HasProgram (content : Option Content) (name : Name) (p : Program) : Type 0 where
-  pub bytes : List ℕ
-  pub file : HasFile content name bytes
-  pub short : length bytes ≤ limit
-  pub text : IsProgramText bytes p
+-- ---- files
 
--- they are a host graph
-pub record HasHost (content : Option Content) (name : Name) (g : Graph) : Type 0 where
-  pub bytes : List ℕ
+-- the file of that name has these bytes, at most the limit of them
+pub record HasBytes (content : Option Content) (name : Name) (bytes : List ℕ) : Type 0 where
   pub file : HasFile content name bytes
   pub short : length bytes ≤ limit
-  pub text : IsHostText bytes g
 
 -- the file has more bytes than the limit
 pub record HasLongFile (content : Option Content) (name : Name) : Type 0 where
@@ -66,59 +41,78 @@ pub record HasLongFile (content : Option Content) (name : Name) : Type 0 where
   pub file : HasFile content name bytes
   pub long : limit < length bytes
 
--- the file has at most the limit of bytes, and they are no program that is accepted
-pub record HasOtherProgram (content : Option Content) (name : Name) : Type 0 where
-  pub bytes : List ℕ
-  pub file : HasFile content name bytes
-  pub short : length bytes ≤ limit
-  pub no_text : (p : Program) → IsProgramText bytes p → ⊥
-
--- the file has at most the limit of bytes, they are no host, and this line names their first fault
-pub record HasHostFault (content : Option Content) (name : Name) (line : List ℕ) : Type 0 where
-  pub bytes : List ℕ
-  pub file : HasFile content name bytes
-  pub short : length bytes ≤ limit
-  pub fault : HostFault
-  pub is_fault : IsHostFault bytes fault
-  pub is_line : IsHostLine bytes fault line
-
 -- the file cannot be read: the count of the files' faults rose, or the known content lacks it
 pub data CannotRead (content : Option Content) (files : Count) (name : Name) : Type 0 where
   risen : HasRisen files → CannotRead content files name
   lacking : LacksFile content name → CannotRead content files name
 
--- some rule of the set that the call names has a match that applies
-pub record CanStep (p : Program) (call : ℕ) (h : Graph) : Type 0 where
-  pub set : List ℕ
-  pub is_set : slice_get p.sets call ≡ Some set
-  pub applying : HasApplying p.rules set h
+-- its bytes are this program, whose rules have these names
+pub record HasProgram (content : Option Content) (name : Name) (p : Program) (rule_names : List Name) : Type 0 where
+  pub bytes : List ℕ
+  pub has : HasBytes content name bytes
+  pub text : IsProgramText bytes p
+  pub names : rule_names ≡ map (λ (d : Declaration). d.name) (declared_rules text.tree)
 
--- What is answered where no write fails: a status, the bytes on out, and the bytes on err. The order is: words, program
--- read, program, host read, host, run.
-pub data Replies (words : List Name) (content : Option Content) (files : Count) : ℕ → List ℕ → List ℕ → Type 0 where
-  -- GP 2's rules give this graph to that program on that host, with no more items counted than may be
-  gives : {k : Command} {p : Program} {g h : Graph} {picks : List Bool} {t : List Item} {text : List ℕ} →
-      command_of words ≡ Some k → HasProgram content k.program p → HasHost content k.host g →
-      Run p p.main g picks t (Gives h) → counted t ≤ k.bound → IsGraphText h text → Replies words content files 0 text []
+-- its bytes are this host graph
+pub record HasHost (content : Option Content) (name : Name) (g : Graph) : Type 0 where
+  pub bytes : List ℕ
+  pub has : HasBytes content name bytes
+  pub text : IsHostText bytes g
+
+-- ---- when an answer is true
+
+-- what is answered in place of a program
+pub data StopsAtProgram (content : Option Content) (files : Count) (name : Name) : Said → Type 0 where
+  program_is_long : HasLongFile content name → StopsAtProgram content files name long_program
+  program_is_bad : {bytes : List ℕ} {f : ProgramFault} → HasBytes content name bytes → IsFaultyText bytes f → StopsAtProgram content files name (bad_program f)
+  program_is_unread : CannotRead content files name → StopsAtProgram content files name (unread name)
+
+-- and in place of a host
+pub data StopsAtHost (content : Option Content) (files : Count) (name : Name) : Said → Type 0 where
+  host_is_long : HasLongFile content name → StopsAtHost content files name long_host
+  host_is_bad : {bytes : List ℕ} {f : HostFault} → HasBytes content name bytes → IsHostFault bytes f → StopsAtHost content files name (bad_host bytes f)
+  host_is_unread : CannotRead content files name → StopsAtHost content files name (unread name)
+
+-- GP 2's rules lead from the host so: with the choices of the seed, and with no more items counted than may be
+pub record RunsTo (k : Command) (p : Program) (g : Graph) (t : List Item) (x : Ending) : Type 0 where
+  pub picks : List Bool
+  pub run : Run p p.main g picks t x
+  pub seeded : AreSeeded k.seed picks
+  pub within : counted t ≤ k.bound
+
+-- what the program comes to on the host
+pub data Comes (k : Command) (p : Program) (rule_names : List Name) (g : Graph) : Said → Type 0 where
+  -- they give this graph
+  gives : {h : Graph} {t : List Item} → RunsTo k p g t (Gives h) → Comes k p rule_names g (graph t h)
   -- they give fail
-  fails : {k : Command} {p : Program} {g h : Graph} {picks : List Bool} {t : List Item} →
-      command_of words ≡ Some k → HasProgram content k.program p → HasHost content k.host g →
-      Run p p.main g picks t (Fails h) → counted t ≤ k.bound → Replies words content files 1 fail_text []
-  -- all items that may be counted are, and the run stands before a turn of a loop
-  bound_at_turn : {k : Command} {p : Program} {g h : Graph} {picks : List Bool} {t : List Item} →
-      command_of words ≡ Some k → HasProgram content k.program p → HasHost content k.host g →
-      Run p p.main g picks t (AtTurn h) → counted t ≡ k.bound → Replies words content files 5 [] (bound_text k.bound)
-  -- or before a call that can make a step
-  bound_at_call : {k : Command} {p : Program} {g h : Graph} {picks : List Bool} {t : List Item} {call : ℕ} →
-      command_of words ≡ Some k → HasProgram content k.program p → HasHost content k.host g →
-      Run p p.main g picks t (At call h) → CanStep p call h → counted t ≡ k.bound → Replies words content files 5 [] (bound_text k.bound)
-  bad_words : command_of words ≡ None → Replies words content files 2 [] usage
-  long_program : {k : Command} → command_of words ≡ Some k → HasLongFile content k.program → Replies words content files 3 [] program_too_long
-  other_program : {k : Command} → command_of words ≡ Some k → HasOtherProgram content k.program → Replies words content files 3 [] program_not_yet
-  long_host : {k : Command} {p : Program} → command_of words ≡ Some k → HasProgram content k.program p → HasLongFile content k.host → Replies words content files 4 [] host_too_long
-  bad_host : {k : Command} {p : Program} {line : List ℕ} → command_of words ≡ Some k → HasProgram content k.program p → HasHostFault content k.host line → Replies words content files 4 [] line
-  no_program : {k : Command} → command_of words ≡ Some k → CannotRead content files k.program → Replies words content files 8 [] (read_text k.program)
-  no_host : {k : Command} {p : Program} → command_of words ≡ Some k → HasProgram content k.program p → CannotRead content files k.host → Replies words content files 8 [] (read_text k.host)
+  fails : {h : Graph} {t : List Item} → RunsTo k p g t (Fails h) → Comes k p rule_names g (failed t)
+  -- all items that may be counted are, and the run stands before a turn of a loop, or before a call of which some match
+  -- applies
+  is_spent : (h : Graph) {t : List Item} {x : Ending} → RunsTo k p g t x → MayGoOn p h x → counted t ≡ k.bound → Comes k p rule_names g (bound_spent k.bound)
+  -- the run stands before a call, and the rule of that name, one of its set, has a faulty match of this kind
+  is_faulty : {h : Graph} {t : List Item} {call rule : ℕ} {name : Name} {kind : NumberKind} → RunsTo k p g t (At call h) → HasFaultyCall p call rule kind h →
+      slice_get rule_names rule ≡ Some name → Comes k p rule_names g (number_fault name kind)
+
+-- The order is: words, program read, program, host read, host, run.
+pub data IsTrue (words : List Name) (content : Option Content) (files : Count) : Said → Type 0 where
+  of_words : command_of words ≡ None → IsTrue words content files usage
+  of_program : {k : Command} {said : Said} → command_of words ≡ Some k → StopsAtProgram content files k.program said → IsTrue words content files said
+  of_host : {k : Command} {p : Program} {rule_names : List Name} {said : Said} → command_of words ≡ Some k → HasProgram content k.program p rule_names →
+      StopsAtHost content files k.host said → IsTrue words content files said
+  of_run : {k : Command} {p : Program} {rule_names : List Name} {g : Graph} {said : Said} → command_of words ≡ Some k → HasProgram content k.program p rule_names →
+      HasHost content k.host g → Comes k p rule_names g said → IsTrue words content files said
+
+-- ---- what is written
+
+-- the words ask for the journal
+abbrev pub asks_journal : List Name → Bool
+asks_journal words = option_map_or (λ (k : Command). k.journal) (command_of words) false
+
+-- a true answer with its status, and its bytes on out and on err
+pub record Replies (words : List Name) (content : Option Content) (files : Count) (status : ℕ) (o e : List ℕ) : Type 0 where
+  pub said : Said
+  pub is_true : IsTrue words content files said
+  pub shows : Shows (asks_journal words) said status o e
 
 -- What the top call answers: a reply, whole; want of memory, and then nothing; or, where the count of a sink rose on
 -- which the reply has bytes, what went out before that write failed and a beginning of its text. Out is written before
@@ -143,10 +137,10 @@ pub record IsSilent (out_old out_new err_old err_new : Option (List ℕ)) (statu
   pub gains_out : Gains out_old out_new []
   pub gains_err : Gains err_old err_new []
 
--- Where the files' content is known, valid words, a program and a host, with no fault of a device, give a graph, fail or
--- the spent bound, or want of memory.
+-- Where the files' content is known, valid words, a program and a host, with no fault of a device, give a graph, fail,
+-- the spent bound or a number fault, or want of memory.
 abbrev pub Completes : List Name → Option Content → Count → Count → Count → ℕ → Type 0
 Completes words content files out err status =
-    (held : Content) (k : Command) (p : Program) (g : Graph) → content ≡ Some held → command_of words ≡ Some k →
-    HasProgram content k.program p → HasHost content k.host g →
-    (HasRisen files → ⊥) → (HasRisen out → ⊥) → (HasRisen err → ⊥) → (status ≡ 0) ⊎ (status ≡ 1) ⊎ (status ≡ 5) ⊎ (status ≡ 7)
+    (held : Content) (k : Command) (p : Program) (rule_names : List Name) (g : Graph) → content ≡ Some held → command_of words ≡ Some k →
+    HasProgram content k.program p rule_names → HasHost content k.host g →
+    (HasRisen files → ⊥) → (HasRisen out → ⊥) → (HasRisen err → ⊥) → (status ≡ 0) ⊎ (status ≡ 1) ⊎ (status ≡ 5) ⊎ (status ≡ 6) ⊎ (status ≡ 7)

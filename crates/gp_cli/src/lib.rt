@@ -2,23 +2,24 @@
 //!
 //! Call `gp2_main`. It is handed the words of the command line, or that memory was refused for them, and any files and
 //! sinks (`gp_io`); it answers the status of the process. What it may write, with which status and why, is
-//! `specs/Answer`, over the command line of `specs/CommandLine` and the lines of `specs/FaultLines`.
-//! Inside it: `words` reads the command line, `load` the two files, `run` calls the rule by `matching` and `step` and
-//! notes the items, `show` makes the text of the outcome, and `deliver` writes. All text is made before the first write.
+//! `specs/Answer`, over the command line of gp_words, the texts of `specs/Texts` and the lines of `specs/HostLines`.
+//! Inside it: `gp_words` reads the words, `files` the two files, `run` runs the program, `texts` makes the texts of the
+//! answer, and `deliver` writes. All text is made before the first write.
 #![tactic(auto)]
 
+mod choices;
 mod deliver;
-mod fault_line;
-mod load;
-mod matching;
+mod files;
+mod host_line;
 mod reply;
+#[cfg(test)]
+mod row_tests;
 mod run;
-mod show;
+mod said;
 mod status;
-mod step;
 #[cfg(test)]
 mod tests;
+mod texts;
 mod top;
-mod words;
 
 pub use top::gp2_main;

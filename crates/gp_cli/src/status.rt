@@ -18,6 +18,8 @@ pub(crate) enum Status {
     Host,
     /// As many items were counted as may be, and the run goes on.
     Bound,
+    /// A match is faulty.
+    Number,
     /// Memory was refused.
     NoMemory,
     /// A file cannot be read.
@@ -38,6 +40,7 @@ impl Status {
             Status::Program => 3,
             Status::Host => 4,
             Status::Bound => 5,
+            Status::Number => 6,
             Status::NoMemory => 7,
             Status::Read => 8,
             Status::Write => 9,

@@ -30,22 +30,27 @@ const GROW: &str =
 
 const TWO_ONES: &str = "[ (a, 1) (b, 1) (c, 2) | ]";
 
-const USAGE: &str = "2\t\tusage: gp2 run PROGRAM HOST [--bound N]\n";
+const USAGE: &str = "2\t\tusage: gp2 run PROGRAM HOST [--bound N] [--seed N] [--journal]\n";
 
 // After how many bytes the first write on each sink fails, where it does.
 #[derive(Clone, Copy)]
-struct Cuts {
+pub(crate) struct Cuts {
     out: Option<u64>,
     err: Option<u64>,
 }
 
-const NO_CUTS: Cuts = Cuts {
+pub(crate) const NO_CUTS: Cuts = Cuts {
     out: None,
     err: None,
 };
 
 // Files p and h of these texts.
-fn two_files(alloc: Global, program: &str, host: &str, failing: &[u64]) -> Result<MemFiles, Fail> {
+pub(crate) fn two_files(
+    alloc: Global,
+    program: &str,
+    host: &str,
+    failing: &[u64],
+) -> Result<MemFiles, Fail> {
     let mut files = Vec::new(alloc);
     files.push((
         String::from_str(alloc, "p")?,
@@ -70,7 +75,7 @@ fn sink(alloc: Global, cut: Option<u64>) -> Result<MemSink, Fail> {
 }
 
 // The status of the words on the files, what is on out, and what is on err, with a tab between each two.
-fn answer(
+pub(crate) fn answer(
     rt: &HostRuntime,
     words: &[&str],
     files: &mut MemFiles,
@@ -193,20 +198,79 @@ fn loops_end_or_spend_their_bound(rt: HostRuntime) -> Result<(), Fail> {
     Ok(())
 }
 
+const PROGRAMS: [(&str, &str); 16] = [
+    ("", "NoMain"),
+    ("$", "BadByte 0"),
+    ("/*", "OpenComment 0"),
+    ("Main = skip!", "Syntax line 1"),
+    ("Main = skip\n;", "Syntax line 2"),
+    ("Main = skip Main = skip", "TwoMains"),
+    ("Main = f", "Unknown f"),
+    ("Main = P P = P", "Recursive P"),
+    ("Main = break", "StrayBreak"),
+    ("Main = (if break then skip)!", "StrayBreak"),
+    (
+        "Main = one one() [ | ] => [ | ] interface = {} one() [ | ] => [ | ] interface = {}",
+        "TwoRules one",
+    ),
+    (
+        "Main = skip r(x,y:list) [ (n0, x:y) | ] => [ | ] interface = {}",
+        "rule r: NotSimple",
+    ),
+    (
+        "Main = skip r(x:list) [ (n0, 1) | ] => [ (n0, x) | ] interface = {n0}",
+        "rule r: Unbound x",
+    ),
+    (
+        "Main = skip r() [ | ] => [ | ] interface = {n1}",
+        "rule r: BadInterface n1",
+    ),
+    (
+        "Main = skip\nr() [ (n0, 170141183460469231731687303715884105728) | ] => [ | ] interface = {}",
+        "NumberRange line 2",
+    ),
+    ("Main = break F = g", "Unknown g"),
+];
+
 #[test]
-fn texts_past_the_language_are_refused(rt: HostRuntime) -> Result<(), Fail> {
-    let programs = [
-        "Main = skip",
-        "Main = make make() [ | ] => [ (n0, 0) | ] interface = {} x",
-        "Main = make!! make() [ | ] => [ (n0, 0) | ] interface = {}",
-        "Main = make made() [ | ] => [ (n0, 0) | ] interface = {}",
-        "Main = make make() [ | ] => [ (n0, 0) (n0, 1) | ] interface = {}",
-        "Main = make make() [ | ] => [ (n0, 0) | ] interface = {n0}",
-    ];
-    for program in programs {
-        let mut files = two_files(rt.alloc(), program, "[ | ]", &[])?;
+fn refused_programs_have_their_lines(rt: HostRuntime) -> Result<(), Fail> {
+    let alloc = rt.alloc();
+    for (program, fault) in PROGRAMS {
+        let mut files = two_files(alloc, program, "[ | ]", &[])?;
         let found = answer(&rt, &["run", "p", "h"], &mut files, NO_CUTS)?;
-        assert_eq!(rt; found.as_slice(), b"3\t\tprogram: NotYet\n".as_slice());
+        let mut line = Vec::from_slice(alloc, b"3\t\tprogram: ")?;
+        line.extend_from_slice(fault.as_bytes())?;
+        line.push(b'\n')?;
+        assert_eq!(rt; found.as_slice(), line.as_slice());
+    }
+    Ok(())
+}
+
+// Main is `skip` between so many parentheses.
+fn nested(alloc: Global, depth: usize) -> Result<String, Fail> {
+    let mut text = String::from_str(alloc, "Main = ")?;
+    for _ in 0..depth {
+        text.push('(')?;
+    }
+    text.push_str("skip")?;
+    for _ in 0..depth {
+        text.push(')')?;
+    }
+    Ok(text)
+}
+
+#[test]
+fn parentheses_are_nested_64_deep_at_most(rt: HostRuntime) -> Result<(), Fail> {
+    let alloc = rt.alloc();
+    let rows = [
+        (64, "0\t[\n|\n]\n\t"),
+        (65, "3\t\tprogram: TooDeep line 1\n"),
+    ];
+    for (depth, shown) in rows {
+        let program = nested(alloc, depth)?;
+        let mut files = two_files(alloc, &program, "[ | ]", &[])?;
+        let found = answer(&rt, &["run", "p", "h"], &mut files, NO_CUTS)?;
+        assert_eq!(rt; found.as_slice(), shown.as_bytes());
     }
     Ok(())
 }
@@ -249,20 +313,12 @@ fn refused_hosts_have_their_lines(rt: HostRuntime) -> Result<(), Fail> {
 
 #[test]
 fn other_words_are_refused(rt: HostRuntime) -> Result<(), Fail> {
-    let rows: [&[&str]; 13] = [
+    let rows: [&[&str]; 5] = [
         &[],
-        &["run"],
         &["run", "p"],
-        &["walk", "p", "h"],
-        &["run", "-p", "h"],
-        &["run", "p", "--bound"],
-        &["run", "p", "h", "--bound"],
-        &["run", "p", "h", "--limit", "5"],
-        &["run", "p", "h", "--bound", ""],
-        &["run", "p", "h", "--bound", "+5"],
-        &["run", "p", "h", "--bound", "5x"],
+        &["run", "p", "h", "--workers", "0"],
         &["run", "p", "h", "--bound", "1099511627777"],
-        &["run", "p", "h", "--bound", "5", "5"],
+        &["demo", "tree", "19", "0"],
     ];
     for words in rows {
         let mut files = two_files(rt.alloc(), MAKE, "[ | ]", &[])?;

@@ -1,43 +1,85 @@
 //! The top call.
 
-ghost use Rattle.std.specs.Prelude.{◌≡◌, ◌≤◌, map, string_bytes, IfOk, OnErr};
-ghost use Rattle.gp_cli.specs.Answer.{Replies, Answered, Completes, IsSilent};
+ghost use Rattle.std.specs.Prelude.{◌≡◌, ◌++◌, List, map, string_bytes, option_map, false, IfOk, OnErr};
+ghost use Rattle.std.specs.Option.{option_map_or};
+ghost use Rattle.gp_values.specs.Names.{Name as AnyName};
+ghost use Rattle.gp_words.specs.CommandLine as spec;
+ghost use Rattle.gp_words.specs.Told.{command_now};
+ghost use Rattle.gp_cli.specs.Answer.{IsTrue, Replies, Answered, Completes, IsSilent};
+ghost use Rattle.gp_cli.specs.Texts.{Shows};
 ghost use Rattle.gp_cli.specs.inside.Parts.{RunsFiles};
 ghost use Rattle.gp_cli.specs.inside.Statuses.{status_code};
+ghost use Rattle.gp_cli.specs.inside.Told.{said_of};
 
 use crate::deliver::deliver;
-use crate::load::{load_host, load_program};
-use crate::reply::{Reply, Stop, on_err};
-use crate::show::run;
+use crate::files::{load_host, load_program};
+use crate::reply::Reply;
+use crate::run::run;
+use crate::said::{Said, Stop};
 use crate::status::Status;
-use crate::words::{Command, command_of};
+use crate::texts::reply_of;
 use gp_io::{Files, Sink};
 use gp_memory::NoMemory;
+use gp_reader::laws::texts_have_one_fault;
+use gp_words::{Command, command_of};
 use std::alloc::{AllocGlobal, Global};
 
-const USAGE: &[u8] = b"usage: gp2 run PROGRAM HOST [--bound N]\n";
-
-fn run_files<F: Files>(alloc: Global, command: Command<'_>, files: &mut F) -> Result<Reply, Stop>
-    ensures { RunsFiles (F.content files.old) (record { before = F.faults files.old; now = F.faults files.new })
-        (record { program = command.entry.program.now; host = command.entry.host.now; bound = command.entry.bound }) result }
+// What the files of a command come to.
+fn said_by_files<'a, F: Files>(
+    alloc: Global,
+    command: Command<'a>,
+    files: &mut F,
+) -> Result<Said<'a>, Stop<'a>>
+    ensures { RunsFiles (F.content files.old) (record { before = F.faults files.old; now = F.faults files.new }) (command_now command.entry) result }
 {
     let program = load_program(alloc, files, command.program)?;
     let graph = load_host(alloc, files, command.host)?;
-    Ok(run(alloc, &program, graph, command.bound)?)
+    Ok(run(alloc, &program, graph, &command)?)
+}
+
+// What the words and the files come to.
+fn said_by<'a, F: Files>(
+    alloc: Global,
+    command: Option<Command<'a>>,
+    files: &mut F,
+) -> Result<Said<'a>, NoMemory>
+    ensures { IfOk result (λ s. (words : List AnyName) → option_map command_now command.entry ≡ spec.command_of words →
+        IsTrue words (F.content files.old) (record { before = F.faults files.old; now = F.faults files.new }) (said_of s)) }
+{
+    match command {
+        None => Ok(Said::Usage),
+        Some(command) => match said_by_files(alloc, command, files) {
+            Ok(said) => Ok(said),
+            Err(Stop::Said(said)) => Ok(said),
+            Err(Stop::NoMemory) => Err(NoMemory),
+        },
+    }
+}
+
+// Whether the command asks for the journal.
+fn asks(command: Option<Command<'_>>) -> bool
+    ensures { result ≡ option_map_or (λ k. k.journal) (option_map command_now command.entry) false }
+{
+    match command {
+        None => false,
+        Some(command) => command.journal,
+    }
+}
+
+// The texts of an answer, which is let go.
+fn texts_of(alloc: Global, asked: bool, said: Said<'_>) -> Result<Reply, NoMemory>
+    ensures { IfOk result (λ r. Shows asked (said_of said.entry) (status_code r.status) (r.journal.items ++ r.result.items) r.err.items) }
+{
+    reply_of(alloc, asked, &said)
 }
 
 fn reply_to<F: Files>(alloc: Global, words: &[String], files: &mut F) -> Result<Reply, NoMemory>
     ensures { IfOk result (λ r. Replies (map string_bytes words.now) (F.content files.old) (record { before = F.faults files.old; now = F.faults files.new })
-        (status_code r.status) r.out.items r.err.items) }
+        (status_code r.status) (r.journal.items ++ r.result.items) r.err.items) }
 {
-    match command_of(words) {
-        None => Ok(on_err(alloc, Status::Words, USAGE)?),
-        Some(command) => match run_files(alloc, command, files) {
-            Ok(reply) => Ok(reply),
-            Err(Stop::Answered(reply)) => Ok(reply),
-            Err(Stop::NoMemory) => Err(NoMemory),
-        },
-    }
+    let command = command_of(alloc, words)?;
+    let said = said_by(alloc, command, files)?;
+    texts_of(alloc, asks(command), said)
 }
 
 // Answers these words: all text is made before the first write.
@@ -58,6 +100,7 @@ fn answer_words<F: Files, O: Sink, E: Sink>(
         (record { before = O.faults out.old; now = O.faults out.new })
         (record { before = E.faults err.old; now = E.faults err.new }) result }
 {
+    texts_have_one_fault();
     match reply_to(alloc, words, files) {
         Ok(reply) => deliver(&reply, out, err),
         Err(NoMemory) => Status::NoMemory.code(),

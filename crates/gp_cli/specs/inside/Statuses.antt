@@ -10,6 +10,7 @@ status_code statuses.Words = 2
 status_code statuses.Program = 3
 status_code statuses.Host = 4
 status_code statuses.Bound = 5
+status_code statuses.Number = 6
 status_code statuses.NoMemory = 7
 status_code statuses.Read = 8
 status_code statuses.Write = 9

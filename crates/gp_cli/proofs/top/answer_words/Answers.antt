@@ -1,4 +1,4 @@
-use Rattle.gp_cli.proofs.Replies.{delivered, silent}
+use Rattle.gp_cli.proofs.Written.{delivered, silent}
 use Rattle.gp_cli.proofs.Completeness.{completes}
 use Rattle.gp_cli.proofs.top.answer_words.Goals as goal
 
@@ -6,7 +6,7 @@ pub returns-in-Ok-clause-answered : goal.returns-in-Ok-clause-answered
 returns-in-Ok-clause-answered g c = delivered c.in-Ok.ensures c.deliver.ensures
 
 pub returns-in-Ok-clause-complete : goal.returns-in-Ok-clause-complete
-returns-in-Ok-clause-complete g c = completes (delivered c.in-Ok.ensures c.deliver.ensures).answer
+returns-in-Ok-clause-complete g c = completes c.texts_have_one_fault.ensures.none (delivered c.in-Ok.ensures c.deliver.ensures).answer
 
 pub returns-in-Err-clause-answered : goal.returns-in-Err-clause-answered
 returns-in-Err-clause-answered g c = rw c.code.ensures (silent _ _)

@@ -1,4 +1,4 @@
-use Rattle.gp_cli.proofs.Replies.{nothing_written}
+use Rattle.gp_cli.proofs.Written.{nothing_written}
 use Rattle.gp_cli.proofs.top.gp2_main.Goals as goal
 
 pub returns-in-Err-clause-refused : goal.returns-in-Err-clause-refused

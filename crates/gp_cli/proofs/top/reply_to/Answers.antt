@@ -1,14 +1,14 @@
-use Rattle.gp_cli.specs.Answer.{bad_words}
-use Rattle.gp_cli.proofs.Replies.{replies}
+use Rattle.std.proofs.Common.{map}
+use Rattle.std.specs.Prelude.{string_bytes}
+use Rattle.std.proofs.lemmas.Result.{IfOk-weaker}
+use Rattle.gp_cli.specs.inside.Told.{said_of}
 use Rattle.gp_cli.proofs.top.reply_to.Goals as goal
 
-pub returns-in_ok-on_err-in-None : goal.returns-in_ok-on_err-in-None
-returns-in_ok-on_err-in-None g c =
-    let r = c.in_ok-on_err-in-None.ensures in
-    rw (r.status, r.out, r.err) (bad_words c.in-None.ensures)
-
-pub returns-in-Ok : goal.returns-in-Ok
-returns-in-Ok g c = replies c.in-Some.ensures c.in-Ok.ensures
-
-pub returns-in-Err-Answered : goal.returns-in-Err-Answered
-returns-in-Err-Answered g c = replies c.in-Some.ensures (rw c.in-Err-Answered.field-0-is at c.in-Err-Answered.ensures)
+pub returns : goal.returns
+returns g c = IfOk-weaker c.texts_of.result _ _
+    (λ r h. record {
+      said = said_of c.in_ok-said.said;
+      is_true = c.in_ok-said.ensures (map string_bytes c.args.words.now) c.in_ok-command.ensures;
+      shows = rw (c.asks.ensures, c.in_ok-command.ensures) at h;
+    })
+    c.texts_of.ensures

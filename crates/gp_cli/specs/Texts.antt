@@ -1,0 +1,73 @@
+-- What is answered, and the status and the texts that tell it.
+use Rattle.std.specs.Prelude.{ℕ, Bool, if◌then◌else◌, List, [], ◌++◌, codes}
+use Rattle.std.specs.Fmt.{decimal}
+use Rattle.gp_values.specs.Names.{Name}
+use Rattle.gp_values.specs.Graph.{Graph}
+use Rattle.gp_syntax.specs.declared.kinds.NumberKind.{NumberKind}
+use Rattle.gp_syntax.specs.declared.kinds.NumberKind.TheVariants as kinds
+use Rattle.gp_syntax.specs.Run.{Item}
+use Rattle.gp_trace.specs.TraceText.{trace_text}
+use Rattle.gp_reader.specs.declared.fault.ProgramFault.{ProgramFault}
+use Rattle.gp_reader.specs.FaultLines.{line_of}
+use Rattle.gp_hostfile.specs.declared.fault.HostFault.{HostFault}
+use Rattle.gp_hostfile.specs.GraphText.{IsGraphText}
+use Rattle.gp_cli.specs.HostLines.{IsHostLine}
+
+-- an answer, apart from its text
+pub data Said : Type 0 where
+  -- the trace of a run, and the graph that it gives
+  graph : List Item → Graph → Said
+  failed : List Item → Said
+  usage : Said
+  long_program : Said
+  bad_program : ProgramFault → Said
+  long_host : Said
+  -- the bytes of the host's file, and their fault
+  bad_host : List ℕ → HostFault → Said
+  bound_spent : ℕ → Said
+  -- the name of the rule
+  number_fault : Name → NumberKind → Said
+  -- the name of the file
+  unread : Name → Said
+
+abbrev pub usage_text : List ℕ
+usage_text = codes "usage: gp2 run PROGRAM HOST [--bound N] [--seed N] [--journal]\n"
+
+abbrev pub fail_text : List ℕ
+fail_text = codes "fail\n"
+
+abbrev pub program_too_long : List ℕ
+program_too_long = codes "program: TooLong\n"
+
+abbrev pub host_too_long : List ℕ
+host_too_long = codes "host: TooLong\n"
+
+abbrev pub bound_text : ℕ → List ℕ
+bound_text bound = codes "bound " ++ decimal bound ++ codes "\n"
+
+abbrev pub kind_text : NumberKind → List ℕ
+kind_text kinds.PastBits = codes "past-128-bits"
+kind_text kinds.ZeroDivisor = codes "zero-divisor"
+
+abbrev pub number_text : Name → NumberKind → List ℕ
+number_text rule kind = codes "number " ++ rule ++ codes " " ++ kind_text kind ++ codes "\n"
+
+abbrev pub read_text : Name → List ℕ
+read_text name = codes "read: " ++ name ++ codes "\n"
+
+-- the trace, where the journal is asked for
+abbrev pub journal_text : Bool → List Item → List ℕ
+journal_text asked t = if asked then trace_text t else []
+
+-- The status of an answer, its bytes on out, and its bytes on err.
+pub data Shows (asked : Bool) : Said → ℕ → List ℕ → List ℕ → Type 0 where
+  graph_shown : {t : List Item} {h : Graph} {text : List ℕ} → IsGraphText h text → Shows asked (graph t h) 0 (journal_text asked t ++ text) []
+  fail_shown : {t : List Item} → Shows asked (failed t) 1 (journal_text asked t ++ fail_text) []
+  usage_shown : Shows asked usage 2 [] usage_text
+  long_program_shown : Shows asked long_program 3 [] program_too_long
+  bad_program_shown : {f : ProgramFault} → Shows asked (bad_program f) 3 [] (line_of f)
+  long_host_shown : Shows asked long_host 4 [] host_too_long
+  bad_host_shown : {bytes : List ℕ} {f : HostFault} {line : List ℕ} → IsHostLine bytes f line → Shows asked (bad_host bytes f) 4 [] line
+  bound_shown : {bound : ℕ} → Shows asked (bound_spent bound) 5 [] (bound_text bound)
+  number_shown : {rule : Name} {kind : NumberKind} → Shows asked (number_fault rule kind) 6 [] (number_text rule kind)
+  unread_shown : {name : Name} → Shows asked (unread name) 8 [] (read_text name)

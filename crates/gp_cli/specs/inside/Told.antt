@@ -1,0 +1,48 @@
+-- The answer that a value of the code is.
+use Rattle.gp_syntax.specs.Run as meant
+use Rattle.gp_journal.specs.Journal.{items_of}
+use Rattle.gp_cli.specs.declared.said.Said.{Said}
+use Rattle.gp_cli.specs.declared.said.Said.TheVariants as code
+use Rattle.gp_cli.specs.Texts as texts
+use Rattle.std.specs.Prelude.{ℕ}
+use Rattle.std.specs.declared.vec.Vec.{Vec}
+use Rattle.std.specs.declared.alloc.Global.{Global}
+use Rattle.gp_reader.specs.declared.fault.ProgramFault.{ProgramFault}
+use Rattle.gp_reader.specs.declared.fault.ProgramFault.TheVariants as program
+use Rattle.gp_hostfile.specs.declared.fault.HostFault.{HostFault}
+use Rattle.gp_hostfile.specs.declared.fault.HostFault.TheVariants as host
+use Rattle.gp_cli.specs.declared.said.Stop.{Stop}
+use Rattle.gp_cli.specs.declared.said.Stop.TheVariants as stops
+
+abbrev pub said_of : Said → texts.Said
+said_of (code.Graph j) = texts.graph (items_of j.items) j.trail.graph
+said_of (code.Fail j) = texts.failed (items_of j.items)
+said_of code.Usage = texts.usage
+said_of code.LongProgram = texts.long_program
+said_of (code.BadProgram f) = texts.bad_program f
+said_of code.LongHost = texts.long_host
+said_of (code.BadHost bytes f) = texts.bad_host bytes.items f
+said_of (code.Bound n) = texts.bound_spent n
+said_of (code.Number name kind) = texts.number_fault name kind
+said_of (code.Unread name) = texts.unread name.now
+
+-- what is answered of a fault of a program; want of memory is none
+abbrev pub program_refused : ProgramFault → Stop
+program_refused (program.Lex e) = stops.Said (code.BadProgram (program.Lex e))
+program_refused (program.TooDeep line) = stops.Said (code.BadProgram (program.TooDeep line))
+program_refused (program.Syntax line) = stops.Said (code.BadProgram (program.Syntax line))
+program_refused (program.NumberRange line) = stops.Said (code.BadProgram (program.NumberRange line))
+program_refused (program.Scope e) = stops.Said (code.BadProgram (program.Scope e))
+program_refused (program.Rule name e) = stops.Said (code.BadProgram (program.Rule name e))
+program_refused program.NoMemory = stops.NoMemory
+
+-- of a host of these bytes
+abbrev pub host_refused : Vec ℕ Global → HostFault → Stop
+host_refused bytes (host.Lex e) = stops.Said (code.BadHost bytes (host.Lex e))
+host_refused bytes (host.Syntax k) = stops.Said (code.BadHost bytes (host.Syntax k))
+host_refused bytes (host.NumberRange at) = stops.Said (code.BadHost bytes (host.NumberRange at))
+host_refused bytes (host.TwoNodes name) = stops.Said (code.BadHost bytes (host.TwoNodes name))
+host_refused bytes (host.TwoEdges name) = stops.Said (code.BadHost bytes (host.TwoEdges name))
+host_refused bytes (host.NoSuchEnd name) = stops.Said (code.BadHost bytes (host.NoSuchEnd name))
+host_refused bytes (host.WrongMark name) = stops.Said (code.BadHost bytes (host.WrongMark name))
+host_refused bytes host.NoMemory = stops.NoMemory

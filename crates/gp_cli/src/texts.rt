@@ -1,0 +1,178 @@
+//! The text of an answer.
+
+ghost use Rattle.std.specs.Prelude.{◌≡◌, ◌++◌, [], IfOk, codes};
+ghost use Rattle.std.specs.Fmt.{decimal};
+ghost use Rattle.gp_hostfile.specs.GraphText.{IsGraphText};
+ghost use Rattle.gp_reader.specs.FaultLines.{line_of};
+ghost use Rattle.gp_cli.specs.Texts.{Shows, graph, failed, kind_text, number_text, bound_text, read_text, journal_text};
+ghost use Rattle.gp_cli.specs.inside.Statuses.{status_code};
+ghost use Rattle.gp_cli.specs.inside.Told.{said_of};
+ghost use Rattle.gp_journal.specs.Journal.{items_of};
+
+use crate::host_line::host_line;
+use crate::reply::Reply;
+use crate::said::Said;
+use crate::status::Status;
+use gp_graph::Graph;
+use gp_hostfile::write_graph;
+use gp_journal::Journal;
+use gp_memory::NoMemory;
+use gp_reader::ProgramFault;
+use gp_syntax::{Name, NumberKind};
+use gp_trace::write_trace;
+use itoa::Buffer;
+use std::alloc::Global;
+
+const USAGE: &[u8] = b"usage: gp2 run PROGRAM HOST [--bound N] [--seed N] [--journal]\n";
+
+fn bound_text(alloc: Global, bound: u64) -> Result<Vec<u8>, NoMemory>
+    ensures { IfOk result (λ v. v.items ≡ bound_text bound) }
+{
+    let mut text = Vec::from_slice(alloc, b"bound ")?;
+    text.extend_from_slice(Buffer::new().format(bound).as_bytes())?;
+    text.push(b'\n')?;
+    Ok(text)
+}
+
+fn kind_text(kind: NumberKind) -> &'static [u8]
+    ensures { result.now ≡ kind_text kind }
+{
+    match kind {
+        NumberKind::PastBits => b"past-128-bits",
+        NumberKind::ZeroDivisor => b"zero-divisor",
+    }
+}
+
+fn number_text(alloc: Global, rule: &Name, kind: NumberKind) -> Result<Vec<u8>, NoMemory>
+    ensures { IfOk result (λ v. v.items ≡ number_text rule.now kind) }
+{
+    let mut text = Vec::from_slice(alloc, b"number ")?;
+    text.extend_from_slice(rule.as_bytes())?;
+    text.push(b' ')?;
+    text.extend_from_slice(kind_text(kind))?;
+    text.push(b'\n')?;
+    Ok(text)
+}
+
+fn read_text(alloc: Global, name: &str) -> Result<Vec<u8>, NoMemory>
+    ensures { IfOk result (λ v. v.items ≡ read_text name.now) }
+{
+    let mut text = Vec::from_slice(alloc, b"read: ")?;
+    text.extend_from_slice(name.as_bytes())?;
+    text.push(b'\n')?;
+    Ok(text)
+}
+
+fn program_line(alloc: Global, fault: &ProgramFault) -> Result<Vec<u8>, NoMemory>
+    ensures { IfOk result (λ v. v.items ≡ line_of fault.now) }
+{
+    let mut line = Vec::new(alloc);
+    fault.write_line(alloc, &mut line)?;
+    Ok(line)
+}
+
+fn graph_text(alloc: Global, graph: &Graph) -> Result<Vec<u8>, NoMemory>
+    ensures { IfOk result (λ v. IsGraphText graph.now.graph v.items) }
+{
+    let mut text = Vec::new(alloc);
+    write_graph(alloc, graph, &mut text)?;
+    Ok(text)
+}
+
+// The trace, where the journal is asked for.
+fn journal_text(alloc: Global, asked: bool, journal: &Journal) -> Result<Vec<u8>, NoMemory>
+    ensures { IfOk result (λ v. v.items ≡ journal_text asked (items_of journal.now.items)) }
+{
+    let mut text = Vec::new(alloc);
+    if asked {
+        write_trace(alloc, journal.items(), &mut text)?;
+    }
+    Ok(text)
+}
+
+// An answer on standard error alone.
+fn on_err(alloc: Global, status: Status, err: Vec<u8>) -> Reply
+    ensures status { result.status ≡ status }
+    ensures journal { result.journal.items ≡ [] }
+    ensures text { result.result.items ≡ [] }
+    ensures err { result.err.items ≡ err.items }
+{
+    Reply {
+        status,
+        journal: Vec::new(alloc),
+        result: Vec::new(alloc),
+        err,
+    }
+}
+
+// An answer on standard output alone.
+fn on_out(alloc: Global, status: Status, journal: Vec<u8>, text: Vec<u8>) -> Reply
+    ensures status { result.status ≡ status }
+    ensures journal { result.journal.items ≡ journal.items }
+    ensures text { result.result.items ≡ text.items }
+    ensures err { result.err.items ≡ [] }
+{
+    Reply {
+        status,
+        journal,
+        result: text,
+        err: Vec::new(alloc),
+    }
+}
+
+// A graph with its trace.
+fn graph_reply(alloc: Global, asked: bool, journal: &Journal) -> Result<Reply, NoMemory>
+    ensures { IfOk result (λ r. Shows asked (graph (items_of journal.now.items) journal.now.trail.graph) (status_code r.status) (r.journal.items ++ r.result.items) r.err.items) }
+{
+    let trace = journal_text(alloc, asked, journal)?;
+    let text = graph_text(alloc, journal.graph())?;
+    Ok(on_out(alloc, Status::Graph, trace, text))
+}
+
+fn fail_reply(alloc: Global, asked: bool, journal: &Journal) -> Result<Reply, NoMemory>
+    ensures { IfOk result (λ r. Shows asked (failed (items_of journal.now.items)) (status_code r.status) (r.journal.items ++ r.result.items) r.err.items) }
+{
+    let trace = journal_text(alloc, asked, journal)?;
+    let text = Vec::from_slice(alloc, b"fail\n")?;
+    Ok(on_out(alloc, Status::Fail, trace, text))
+}
+
+// The bytes of a text.
+fn constant(alloc: Global, text: &[u8]) -> Result<Vec<u8>, NoMemory>
+    ensures { IfOk result (λ v. v.items ≡ text.now) }
+{
+    Ok(Vec::from_slice(alloc, text)?)
+}
+
+/// The texts of an answer, with the journal where it is asked for.
+pub(crate) fn reply_of(alloc: Global, asked: bool, said: &Said<'_>) -> Result<Reply, NoMemory>
+    ensures { IfOk result (λ r. Shows asked (said_of said.now) (status_code r.status) (r.journal.items ++ r.result.items) r.err.items) }
+{
+    match said {
+        Said::Graph(journal) => graph_reply(alloc, asked, journal),
+        Said::Fail(journal) => fail_reply(alloc, asked, journal),
+        Said::Usage => Ok(on_err(alloc, Status::Words, constant(alloc, USAGE)?)),
+        Said::LongProgram => {
+            let text = constant(alloc, b"program: TooLong\n")?;
+            Ok(on_err(alloc, Status::Program, text))
+        }
+        Said::BadProgram(fault) => {
+            let line = program_line(alloc, fault)?;
+            Ok(on_err(alloc, Status::Program, line))
+        }
+        Said::LongHost => {
+            let text = constant(alloc, b"host: TooLong\n")?;
+            Ok(on_err(alloc, Status::Host, text))
+        }
+        Said::BadHost(bytes, fault) => {
+            let line = host_line(alloc, bytes, fault)?;
+            Ok(on_err(alloc, Status::Host, line))
+        }
+        Said::Bound(bound) => Ok(on_err(alloc, Status::Bound, bound_text(alloc, *bound)?)),
+        Said::Number(rule, kind) => {
+            let text = number_text(alloc, rule, *kind)?;
+            Ok(on_err(alloc, Status::Number, text))
+        }
+        Said::Unread(name) => Ok(on_err(alloc, Status::Read, read_text(alloc, name)?)),
+    }
+}

@@ -1,0 +1,4 @@
+pub mod Program
+pub mod FaultLines
+pub mod Laws
+pub mod inside

@@ -1,0 +1,31 @@
+//! What holds of program texts. Each function calls laws alone: its contract is the law.
+
+ghost use Rattle.gp_reader.specs.Laws.{TextsHaveAnAnswer, TextsHaveNoFault, TextsHaveOneFault, TextsHaveOneProgram};
+
+use gp_program::laws::{tokens_have_an_answer, tokens_have_one_tree};
+use gp_resolve::laws::fault_is_unique;
+use gp_tokens::laws::tokens_are_the_cut;
+
+/// A text without a fault is that of a program.
+pub fn texts_have_an_answer()
+    ensures { TextsHaveAnAnswer }
+{
+    tokens_are_the_cut();
+    tokens_have_an_answer();
+}
+
+/// A text is that of at most one program.
+pub fn texts_have_one_program()
+    ensures { TextsHaveOneProgram }
+{
+    tokens_have_one_tree();
+}
+
+/// A text of a program has no fault, and another text has one at most, but for the line of Syntax.
+pub fn texts_have_one_fault()
+    ensures none { TextsHaveNoFault }
+    ensures one { TextsHaveOneFault }
+{
+    tokens_have_one_tree();
+    fault_is_unique();
+}

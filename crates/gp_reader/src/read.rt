@@ -1,0 +1,88 @@
+//! Program texts.
+
+ghost use Rattle.std.specs.Prelude.{IfOk};
+ghost use Rattle.gp_reader.specs.Program.{IsRefusal, ReadsProgram, ReadsRules};
+ghost use Rattle.gp_reader.specs.inside.Stages.{IsLine, IsParsed, IsTurned, ReadsScoped, ReadsTree};
+
+use crate::fault::ProgramFault;
+use crate::rules::checked_rules;
+use gp_memory::NoMemory;
+use gp_program::{ParseFault, parse_program};
+use gp_resolve::{Scoped, resolve};
+use gp_syntax::{Ast, Items, Program, Rule};
+use gp_tokens::{Token, lex, line_of_token};
+use std::alloc::Global;
+
+/// The program of a text. Any other text is answered with its first fault.
+pub fn read_program(alloc: Global, bytes: &[u8]) -> Result<Program, ProgramFault>
+    ensures { ReadsProgram bytes.now result }
+{
+    let scoped = scoped_text(alloc, bytes)?;
+    let rules = checked_rules(alloc, scoped.rules())?;
+    Ok(scoped.finish(rules))
+}
+
+/// The rules of a program's text, in its order, without its commands.
+pub fn read_rules(alloc: Global, bytes: &[u8]) -> Result<Items<Rule>, ProgramFault>
+    ensures { ReadsRules bytes.now result }
+{
+    let scoped = scoped_text(alloc, bytes)?;
+    checked_rules(alloc, scoped.rules())
+}
+
+// A text without a fault of names or calls, or one before.
+fn scoped_text(alloc: Global, bytes: &[u8]) -> Result<Scoped, ProgramFault>
+    ensures { ReadsScoped bytes.now result }
+{
+    let tree = tree_of_text(alloc, bytes)?;
+    Ok(resolve(alloc, tree)?)
+}
+
+// The tree of a text. Its tokens are let go.
+fn tree_of_text(alloc: Global, bytes: &[u8]) -> Result<Ast, ProgramFault>
+    ensures { ReadsTree bytes.now result }
+{
+    let tokens = lex(alloc, bytes)?;
+    tree_of_tokens(alloc, bytes, &tokens)
+}
+
+// The tree of the tokens of a text.
+fn tree_of_tokens(alloc: Global, bytes: &[u8], tokens: &[Token<'_>]) -> Result<Ast, ProgramFault>
+    ensures { IsParsed bytes.now tokens.now result }
+{
+    match parse_program(alloc, tokens) {
+        Ok(tree) => Ok(tree),
+        Err(fault) => Err(fault_of_text(alloc, bytes, fault)?),
+    }
+}
+
+// The fault of a text by that of its tokens: with a line in place of a token's number.
+fn fault_of_text(alloc: Global, bytes: &[u8], fault: ParseFault) -> Result<ProgramFault, NoMemory>
+    ensures { IfOk result (λ e. IsTurned bytes.now fault e) }
+{
+    match fault {
+        ParseFault::TooDeep(place) => {
+            let line = line(alloc, bytes, place)?;
+            Ok(ProgramFault::TooDeep { line })
+        }
+        ParseFault::Syntax(place) => {
+            let line = line(alloc, bytes, place)?;
+            Ok(ProgramFault::Syntax { line })
+        }
+        ParseFault::NumberRange(place) => {
+            let line = line(alloc, bytes, place)?;
+            Ok(ProgramFault::NumberRange { line })
+        }
+        ParseFault::NoMemory => Err(NoMemory),
+    }
+}
+
+// The line of a token of a text that has tokens.
+fn line(alloc: Global, bytes: &[u8], place: u64) -> Result<u64, NoMemory>
+    ensures { IfOk result (λ line. IsLine bytes.now place line) }
+{
+    match line_of_token(alloc, bytes, place) {
+        Ok(line) => Ok(line),
+        Err(_) => Err(NoMemory),
+    }
+}

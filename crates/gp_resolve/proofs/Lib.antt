@@ -1,0 +1,10 @@
+pub mod Each
+pub mod Chains
+pub mod Breaks
+pub mod Named
+pub mod Numbers
+pub mod Programs
+pub mod Faults
+pub mod Own_names
+pub mod Joined
+pub mod Takes

@@ -1,0 +1,5 @@
+pub mod Searches
+pub mod Nodes
+pub mod Sessions
+pub mod Runs
+pub mod Systems

@@ -1,0 +1,223 @@
+-- What a session tells after each call.
+use Rattle.std.proofs.Common.{◌≡◌, ℕ, suc, ◌+◌, ◌-◌, ◌<◌, ◌≤◌, ◌%◌, List, [], ◌∷◌, ◌++◌, map, length, take, slice_get, slice_index, slice_index_or, Contains, All, Option, Some, None, refl, sym, ap, subst, ◌∙◌, arith, add-one}
+use Rattle.std.specs.Prelude.{Result, Ok, Err, OnOk, IfOk}
+use Rattle.std.specs.Option.{option_map_or}
+use Rattle.std.proofs.Math.Nat.{mod-one}
+use Rattle.std.proofs.Math.Seq.{take-suc}
+use Rattle.std.proofs.lemmas.Option.{get_or_from_slice_get, slice_get_within, slice_get-get_or}
+use Rattle.std.proofs.lemmas.List.Elements.{All-push}
+use Rattle.std.proofs.lemmas.List.{map-append, length-map, length-reverse}
+use Rattle.gp_values.specs.Graph.{Graph, IsGraph}
+use Rattle.gp_syntax.specs.declared.command.ProgramParts.{ProgramParts}
+use Rattle.gp_syntax.specs.declared.rule.RuleParts.{RuleParts}
+use Rattle.gp_syntax.specs.Scoped.{IsScoped}
+use Rattle.gp_syntax.specs.declared.found.Item.{Item}
+use Rattle.gp_syntax.specs.declared.found.Item.TheVariants as items
+use Rattle.gp_syntax.specs.declared.kinds.NumberKind.{NumberKind}
+use Rattle.gp_syntax.specs.Rule.{Rule, Found}
+use Rattle.gp_syntax.specs.Share.{first_node, Barren}
+use Rattle.gp_syntax.specs.Step.{Applies, Step, CallsTo, Blocked}
+use Rattle.gp_syntax.specs.Run as meant
+use Rattle.gp_syntax.specs.Run.{Program, Call, Stepped, Turned, Back, Gives, Fails, At, live, live_from, counted, Run, call_steps, call_fails, call_stands}
+use Rattle.gp_syntax.specs.Replay.{StepsTo}
+use Rattle.gp_syntax.specs.Tree.{rule_of_tree, program_of_tree, item_of}
+use Rattle.gp_syntax.specs.WellFormed.{IsWellFormed}
+use Rattle.gp_unify.proofs.Candidates.{one_step}
+use Rattle.gp_step.proofs.Afters.{applying_steps}
+use Rattle.gp_journal.specs.Trail.{Trail, root_of, led_by, back_by, rooted}
+use Rattle.gp_journal.specs.Leads.{AppliesBy, Led}
+use Rattle.gp_journal.specs.Journal.{Journal, IsJournalOf, items_of, with_step, with_mark, with_back}
+use Rattle.gp_journal.proofs.Replays.{rooted_back}
+use Rattle.gp_journal.proofs.Stacks.{along, all_replay}
+use Rattle.gp_run.specs.Engine.{View, IsReplay, Adds, MakesCall, IsSpent, HasFaulty, HasCalled, HasTurned, HasMarked, TakesBack}
+use Rattle.gp_run.specs.declared.engine.Called.TheVariants as called
+use Rattle.gp_run.specs.declared.engine.Turned.TheVariants as turned
+use Rattle.gp_run.proofs.Leads.{adds-nothing}
+use Rattle.gp_search.specs.declared.sought.Sought.{Sought}
+use Rattle.gp_search.specs.declared.sought.Sought.TheVariants as answers
+use Rattle.gp_plan.specs.declared.operation.Operation.{Operation}
+use Rattle.gp_plan.specs.Plan.{plan_of}
+use Rattle.gp_system.specs.Sought.{HasSought, IsOfSet}
+use Rattle.gp_system.specs.inside.Viewed.{Shown, view_of, HasSoughtCall, AppliesForCall}
+
+abbrev pub shown : ProgramParts → Journal → ℕ → Shown
+shown p j l = record { program = p; journal = j; left = l }
+
+-- ---- calls
+
+pub stands_here : (c : ℕ) (s : Shown) → MakesCall (Call c) (view_of s) (view_of s) (At c s.journal.trail.graph)
+stands_here c s = record { trace = []; makes = record { run = call_stands; adds = adds-nothing (view_of s) }; room = refl }
+
+pub spent_here : (c : ℕ) (s : Shown) (m : Found) → AppliesForCall (program_of_tree s.program) c s.journal.trail.graph m → s.left ≡ 0 → IsSpent c (view_of s)
+spent_here c s m a e = record {
+  set = a.set;
+  is_set = a.is_set;
+  none_left = e;
+  applies = record { found = m; in_set = a.found.in_set; rule = a.found.rule; is_rule = a.found.is_rule; applies = a.found.holds };
+}
+
+pub applies_by : (p : Program) (c : ℕ) (g : Graph) (m : Found) → AppliesForCall p c g m → AppliesBy p.rules g m
+applies_by p c g m a = record { rule = a.found.rule; is_rule = a.found.is_rule; applies = a.found.holds }
+
+well_formed_at : (rules : List Rule) (i : ℕ) (r : Rule) → All IsWellFormed rules → slice_get rules i ≡ Some r → IsWellFormed r
+well_formed_at rules i r w e = subst IsWellFormed (get_or_from_slice_get rules i r r e) (w i r (slice_get_within rules i r e))
+
+steps_on : (rules : List Rule) (set : List ℕ) (g : Graph) (m : Found) → All IsWellFormed rules → IsGraph g → IsOfSet rules set 1 0 m (λ r. Applies r g m) → CallsTo rules set g m (led_by (slice_get rules m.rule) g m)
+steps_on rules set g m w whole a = record {
+  in_set = a.in_set;
+  rule = a.rule;
+  is_rule = a.is_rule;
+  step = subst (λ (o : Option Rule). Step a.rule g m (led_by o g m)) (sym a.is_rule) (applying_steps a.rule g m (well_formed_at rules m.rule a.rule w a.is_rule) whole a.holds);
+}
+
+adds_item : (p : ProgramParts) (j k : Journal) (i : Item) (l n : ℕ) → root_of k.trail ≡ root_of j.trail → k.items ≡ j.items ++ i ∷ [] → n + counted (item_of i ∷ []) ≡ l → Adds (view_of (shown p j l)) (view_of (shown p k n)) (item_of i ∷ [])
+adds_item p j k i l n e f h = record { program = refl; first = e; items = ap (λ (is : List Item). map item_of is) f ∙ map-append item_of j.items (i ∷ []); left = h }
+
+call_stepped : (p : ProgramParts) (c : ℕ) (j : Journal) (l n : ℕ) (m : Found) → All IsWellFormed (map rule_of_tree p.rules) → IsGraph j.trail.graph → AppliesForCall (program_of_tree p) c j.trail.graph m → n + 1 ≡ l
+    → MakesCall (Call c) (view_of (shown p j l)) (view_of (shown p (with_step (map rule_of_tree p.rules) j m) n)) (Gives (with_step (map rule_of_tree p.rules) j m).trail.graph)
+call_stepped p c j l n m w whole a e = record {
+  trace = Stepped m ∷ [];
+  makes = record {
+    run = call_steps a.is_set (steps_on (map rule_of_tree p.rules) a.set j.trail.graph m w whole a.found);
+    adds = adds_item p j (with_step (map rule_of_tree p.rules) j m) (items.Step m) l n refl refl e;
+  };
+  room = refl;
+}
+
+pub stepped_here : (s : Shown) (p : ProgramParts) (j k : Journal) (c l : ℕ) (m : Found) → shown p j l ≡ s → All IsWellFormed (map rule_of_tree p.rules) → IsGraph j.trail.graph → AppliesForCall (program_of_tree s.program) c s.journal.trail.graph m → 0 < l
+    → k ≡ with_step (map rule_of_tree p.rules) j m → MakesCall (Call c) (view_of s) (view_of (shown p k (l - 1))) (Gives k.trail.graph)
+stepped_here s p j k c l m e w whole a pos f =
+    subst (λ (x : Journal). MakesCall (Call c) (view_of s) (view_of (shown p x (l - 1))) (Gives x.trail.graph)) (sym f)
+    (subst (λ (x : Shown). MakesCall (Call c) (view_of x) (view_of (shown p (with_step (map rule_of_tree p.rules) j m) (l - 1))) (Gives (with_step (map rule_of_tree p.rules) j m).trail.graph)) e
+    (call_stepped p c j l (l - 1) m w whole (subst (λ (x : Shown). AppliesForCall (program_of_tree x.program) c x.journal.trail.graph m) (sym e) a) (omega arith)))
+
+-- ---- one share is all
+
+mod_one : (n : ℕ) → n % 1 ≡ 0
+mod_one n = mod-one n
+
+share_one : (o : Option ℕ) (xs : List ℕ) → option_map_or (λ i. slice_index xs i % 1) o 0 ≡ 0
+share_one None xs = refl
+share_one (Some i) xs = mod_one (slice_index xs i)
+
+blocked : (rules : List Rule) (set : List ℕ) (g : Graph) → Barren rules set 1 0 g → Blocked rules set g
+blocked rules set g b = record {
+  none_applies = λ i r m c e a. b.none_applies i r m c e (share_one (first_node r) m.nodes) a;
+  none_faulty = λ i r m kind c e a. b.none_faulty i r m kind c e (share_one (first_node r) m.nodes) a;
+}
+
+pub blocked_here : (c : ℕ) (s : Shown) → HasSoughtCall (program_of_tree s.program) c s.journal.trail.graph answers.Barren → MakesCall (Call c) (view_of s) (view_of s) (Fails s.journal.trail.graph)
+blocked_here c s a = record { trace = []; makes = record { run = call_fails a.is_set (blocked (program_of_tree s.program).rules a.set s.journal.trail.graph a.sought); adds = adds-nothing (view_of s) }; room = refl }
+
+pub faulty_here : (c k : ℕ) (s : Shown) (m : Found) (kind : NumberKind) → k ≡ m.rule → HasSoughtCall (program_of_tree s.program) c s.journal.trail.graph (answers.Faulty m kind) → MakesCall (Call c) (view_of s) (view_of s) (At c s.journal.trail.graph) × HasFaulty c k kind (view_of s)
+faulty_here c k s m kind e a = (
+  stands_here c s,
+  subst (λ (i : ℕ). HasFaulty c i kind (view_of s)) (sym e)
+      (record { set = a.set; is_set = a.is_set; in_set = a.sought.0.in_set; the_rule = a.sought.0.rule; is_rule = a.sought.0.is_rule; found = m; faulty = a.sought.0.holds }),
+)
+
+pub applies_here : (p : Program) (c : ℕ) (g : Graph) (m : Found) → HasSoughtCall p c g (answers.Applies m) → AppliesForCall p c g m
+applies_here p c g m a = record { set = a.set; is_set = a.is_set; found = a.sought }
+
+-- ---- marks, and taking back
+
+as_high : (rules : List Rule) (fs : List Found) (g : Graph) (bs : List Graph) → Led rules fs g bs → length fs ≡ length bs
+as_high rules [] g [] s = refl
+as_high rules [] g (b ∷ bs) s = absurd s
+as_high rules (f ∷ fs) g [] s = absurd s
+as_high rules (f ∷ fs) g (b ∷ bs) s = ap suc (as_high rules fs b bs s.1)
+
+pub live_depth : (rules : List Rule) (j : Journal) → IsJournalOf rules j → length (live (items_of j.items)) ≡ length j.trail.before
+live_depth rules j w =
+    let k = along rules (items_of j.items) (rooted j.trail) j.trail [] w tt in
+    ap (λ (ms : List Found). length ms) k.live ∙ length-reverse k.found ∙ as_high rules k.found j.trail.graph j.trail.before k.stack
+
+one_end : (rules : List Rule) (ms : List Found) (g h k : Graph) → All IsWellFormed rules → StepsTo rules g ms h → StepsTo rules g ms k → h ≡ k
+one_end rules [] g h k w a b = a ∙ sym b
+one_end rules (m ∷ ms) g h k w a b =
+    let same_rule : b.1 ≡ a.1 = let x : Some b.1 ≡ Some a.1 = sym b.2 ∙ a.2 in cc in
+    let step : Step a.1 g m b.0 = subst (λ (r : Rule). Step r g m b.0) same_rule b.3 in
+    let same : b.0 ≡ a.0 = one_step a.1 g m b.0 a.0 (well_formed_at rules m.rule a.1 w a.2) step a.3 in
+    one_end rules ms a.0 h k w a.4 (subst (λ (x : Graph). StepsTo rules x ms k) same b.4)
+
+pub replays_here : (p : ProgramParts) (j : Journal) (l : ℕ) → IsJournalOf (map rule_of_tree p.rules) j → IsReplay (view_of (shown p j l))
+replays_here p j l w = (all_replay.journals (map rule_of_tree p.rules) j w).whole
+
+marked_here : (p : ProgramParts) (j : Journal) (l n : ℕ) → IsJournalOf (map rule_of_tree p.rules) j → n ≡ length j.trail.before → HasMarked n (view_of (shown p j l)) (view_of (shown p (with_mark j) l))
+marked_here p j l n w e = record { live_steps = e ∙ sym (live_depth (map rule_of_tree p.rules) j w); replays = replays_here p j l w; view = refl }
+
+pub marks : {E : Type 0} (r : Result ℕ E) (s : Shown) (p : ProgramParts) (j k : Journal) (l : ℕ) → shown p j l ≡ s → IsJournalOf (map rule_of_tree p.rules) j → OnOk r (k ≡ with_mark j) → IfOk r (λ n. n ≡ length j.trail.before)
+    → IfOk r (λ n. HasMarked n (view_of s) (view_of (shown p k l)))
+marks (Ok n) s p j k l e w a b = subst (λ (x : Shown). HasMarked n (view_of x) (view_of (shown p k l))) e (subst (λ (x : Journal). HasMarked n (view_of (shown p j l)) (view_of (shown p x l))) (sym a) (marked_here p j l n w b))
+marks (Err x) s p j k l e w a b = tt
+
+pub low_enough : (s : Shown) (p : ProgramParts) (j : Journal) (l mark : ℕ) → shown p j l ≡ s → IsJournalOf (map rule_of_tree p.rules) j → mark ≤ length (live (view_of s).items) → mark ≤ length j.trail.before
+low_enough s p j l mark e w h = subst (λ (n : ℕ). mark ≤ n) (live_depth (map rule_of_tree p.rules) j w) (subst (λ (x : Shown). mark ≤ length (live (view_of x).items)) (sym e) h)
+
+back_here : (p : ProgramParts) (j : Journal) (l mark d : ℕ) → All IsWellFormed (map rule_of_tree p.rules) → IsJournalOf (map rule_of_tree p.rules) j → IsJournalOf (map rule_of_tree p.rules) (with_back (d - mark) j) → d ≡ length j.trail.before → 1 ≤ j.backs
+    → TakesBack mark (view_of (shown p j l)) (view_of (shown p (with_back (d - mark) j) l))
+back_here p j l mark d w before later e room =
+    let rules = map rule_of_tree p.rules in
+    let same : root_of (back_by (d - mark) j.trail) ≡ root_of j.trail = ap (λ (t : Trail). t.graph) (rooted_back (d - mark) j.trail) in
+    let deep : d ≡ length (live (items_of j.items)) = e ∙ sym (live_depth rules j before) in
+    record {
+      adds = subst (λ (i : ℕ). Adds (view_of (shown p j l)) (view_of (shown p (with_back (d - mark) j) l)) (Back (i - mark) ∷ [])) deep (adds_item p j (with_back (d - mark) j) (items.Back (d - mark)) l l same refl (omega arith));
+      room = omega arith;
+      graph = λ h a. one_end rules (live (items_of (with_back (d - mark) j).items)) (root_of j.trail) (back_by (d - mark) j.trail).graph h w
+          (subst (λ (x : Graph). StepsTo rules x (live (items_of (with_back (d - mark) j).items)) (back_by (d - mark) j.trail).graph) same (all_replay.journals rules (with_back (d - mark) j) later).whole.steps) a.steps;
+    }
+
+pub backs : (s : Shown) (p : ProgramParts) (j k : Journal) (l mark d : ℕ) → shown p j l ≡ s → All IsWellFormed (map rule_of_tree p.rules) → IsJournalOf (map rule_of_tree p.rules) j → IsJournalOf (map rule_of_tree p.rules) k → d ≡ length j.trail.before → 1 ≤ s.journal.backs → k ≡ with_back (d - mark) j
+    → TakesBack mark (view_of s) (view_of (shown p k l))
+backs s p j k l mark d e w before later f room h =
+    subst (λ (x : Shown). TakesBack mark (view_of x) (view_of (shown p k l))) e
+    (subst (λ (x : Journal). TakesBack mark (view_of (shown p j l)) (view_of (shown p x l))) (sym h)
+    (back_here p j l mark d w before (subst (IsJournalOf (map rule_of_tree p.rules)) h later) f (subst (λ (x : Shown). 1 ≤ x.journal.backs) (sym e) room)))
+
+-- ---- the set of a call
+
+pub set_here : (p q : ProgramParts) (sets : List (List ℕ)) (x set : List ℕ) (c : ℕ) → q ≡ p → sets ≡ q.sets → x ≡ slice_index_or sets c x → set ≡ x → c < length p.sets → slice_get p.sets c ≡ Some set
+set_here p q sets x set c e f g h l =
+    let same : sets ≡ p.sets = f ∙ ap (λ (z : ProgramParts). z.sets) e in
+    slice_get-get_or p.sets c x l ∙ ap (λ (y : List ℕ). Some y) (ap (λ (zs : List (List ℕ)). slice_index_or zs c x) (sym same) ∙ sym g ∙ sym h)
+
+same_default : (set : List ℕ) (k d : ℕ) → k < length set → slice_index_or set k d ≡ slice_index_or set k (slice_index_or set k d)
+same_default set k d l = sym (get_or_from_slice_get set k (slice_index_or set k d) (slice_index_or set k d) (slice_get-get_or set k d l))
+
+pub set_within : (p q : ProgramParts) (set : List ℕ) (rules : List RuleParts) (c : ℕ) → q ≡ p → rules ≡ q.rules → IsScoped (program_of_tree q) → slice_get p.sets c ≡ Some set → All (λ k. k < length rules) set
+set_within p q set rules c e f w h k d l =
+    let there : Contains q.sets set = subst (λ (z : ProgramParts). Contains z.sets set) (sym e) (c, slice_get_within p.sets c set h, get_or_from_slice_get p.sets c set set h) in
+    let one : slice_index_or set k (slice_index_or set k d) ≡ slice_index_or set k d = sym (same_default set k d l) in
+    let low : slice_index_or set k d < length (map rule_of_tree q.rules) = w.rules set (slice_index_or set k d) there (k, l, one) in
+    let long = length-map q.rules rule_of_tree in
+    let same : length rules ≡ length q.rules = ap (λ (rs : List RuleParts). length rs) f in
+    omega arith
+
+pub sought_here : (p q : ProgramParts) (s : Shown) (j : Journal) (l : ℕ) (set : List ℕ) (rules : List RuleParts) (c : ℕ) (g : Graph) (x : Sought) → shown p j l ≡ s → q ≡ p → rules ≡ q.rules → slice_get p.sets c ≡ Some set → g ≡ j.trail.graph
+    → HasSought (map rule_of_tree rules) set 1 0 g x → HasSoughtCall (program_of_tree s.program) c s.journal.trail.graph x
+sought_here p q s j l set rules c g x e f h i k w =
+    subst (λ (y : Shown). HasSoughtCall (program_of_tree y.program) c y.journal.trail.graph x) e
+    (record {
+      set = set;
+      is_set = i;
+      sought = subst (λ (z : Graph). HasSought (map rule_of_tree p.rules) set 1 0 z x) k (subst (λ (rs : List RuleParts). HasSought (map rule_of_tree rs) set 1 0 g x) (h ∙ ap (λ (z : ProgramParts). z.rules) f) w);
+    })
+
+-- ---- plans
+
+pub one_plan_more : (rules : List RuleParts) (n : ℕ) (r : RuleParts) (plans more : List (List Operation)) (p : List Operation) → n < length rules → r ≡ slice_index_or rules n r → plans ≡ map plan_of (map rule_of_tree (take n rules)) → All IsWellFormed (map rule_of_tree (take n rules))
+    → p ≡ plan_of (rule_of_tree r) → IsWellFormed (rule_of_tree r) → more ≡ plans ++ p ∷ [] → (more ≡ map plan_of (map rule_of_tree (take (n + 1) rules))) × All IsWellFormed (map rule_of_tree (take (n + 1) rules))
+one_plan_more rules n r plans more p l e a w f v h =
+    let taken : take (n + 1) rules ≡ take n rules ++ r ∷ [] = rw add-one (take-suc rules n r l ∙ ap (λ z. take n rules ++ z ∷ []) (sym e)) in
+    let trees : map rule_of_tree (take (n + 1) rules) ≡ map rule_of_tree (take n rules) ++ rule_of_tree r ∷ [] = ap (map rule_of_tree) taken ∙ map-append rule_of_tree (take n rules) (r ∷ []) in (
+      h ∙ ap (λ (ps : List (List Operation)). ps ++ p ∷ []) a ∙ ap (λ (o : List Operation). map plan_of (map rule_of_tree (take n rules)) ++ o ∷ []) f ∙ sym (ap (map plan_of) trees ∙ map-append plan_of (map rule_of_tree (take n rules)) (rule_of_tree r ∷ [])),
+      subst (All IsWellFormed) (sym trees) (All-push IsWellFormed (map rule_of_tree (take n rules)) (rule_of_tree r) w v),
+    )
+
+-- ---- a turn whose call is blocked
+
+failed_graph : {program : Program} {c : ℕ} {g h : Graph} {t : List meant.Item} → Run program (Call c) g [] t (Fails h) → h ≡ g
+failed_graph (call_fails s b) = refl
+
+pub same_graph : (c : ℕ) (w x y : View) → HasTurned turned.Made w x → HasCalled c called.Blocked x y → y.graph ≡ w.graph
+same_graph c w x y a m = failed_graph m.makes.run ∙ a.graph

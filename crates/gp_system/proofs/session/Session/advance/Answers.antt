@@ -1,0 +1,17 @@
+use Rattle.std.proofs.Common.{◌∙◌, List, map, ap, sym, subst, arith}
+use Rattle.gp_values.specs.Graph.{IsGraph}
+use Rattle.gp_syntax.specs.declared.command.ProgramParts.{ProgramParts}
+use Rattle.gp_syntax.specs.declared.rule.RuleParts.{RuleParts}
+use Rattle.gp_syntax.specs.Tree.{rule_of_tree}
+use Rattle.gp_journal.specs.Journal.{with_step}
+use Rattle.gp_system.specs.inside.Viewed.{Shown}
+use Rattle.gp_system.proofs.Sessions.{stands_here, spent_here, stepped_here}
+use Rattle.gp_system.proofs.session.Session.advance.Goals as goal
+
+pub returns-then-self-eq0 : goal.returns-then-self-eq0
+returns-then-self-eq0 c = (stands_here c.args.call c.args.self.now, spent_here c.args.call c.args.self.now c.args.found.now c.requires (ap (λ (s : Shown). s.left) (sym c.self.view_is) ∙ c.if-self-eq0.true))
+
+pub returns-in-Ok : goal.returns-in-Ok
+returns-in-Ok c =
+    stepped_here c.args.self.now c.self.inside.program.now c.self.inside.journal c.step.new.self c.args.call c.self.inside.left c.args.found.now c.self.view_is c.self.invariant.well_formed (subst IsGraph c.graph.ensures c.next_numbers-sound.ensures.sound) c.requires (omega (arith, c.if-self-eq0.false))
+    (c.in-Ok.ensures.ok ∙ ap (λ (rs : List RuleParts). with_step (map rule_of_tree rs) c.self.inside.journal c.args.found.now) (c.as_slice.ensures ∙ ap (λ (p : ProgramParts). p.rules) c.parts.ensures.value))

@@ -1,0 +1,4 @@
+pub mod Sought
+pub mod Ended
+pub mod Gp
+pub mod inside

@@ -1,0 +1,5 @@
+-- What only bodies and proofs need.
+pub mod Among
+pub mod Viewed
+pub mod Planned
+pub mod Laws

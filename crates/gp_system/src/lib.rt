@@ -1,0 +1,25 @@
+//! The rules of a program as what makes its steps, and runs of programs on host graphs.
+//!
+//! Call `execute` with a program, a host graph, a bound and a `Chooser`: the outcome has the journal of a run
+//! (`specs/Ended`), whose items are those that were really made. `Session` is the engine behind it, for who runs
+//! `gp_run::run` by hand, and `seek_set` the search for the rules of a set (`specs/Sought`). `Gp` is the same rules as an
+//! `opt_system::System`, whose goals are calls (`specs/Gp`): it keeps the laws of a system. Nothing here waits.
+#![tactic(auto)]
+
+mod answer;
+mod goal;
+mod gp;
+mod outcome;
+mod running;
+mod seeking;
+mod session;
+pub mod sharing;
+#[cfg(test)]
+mod tests;
+
+pub use goal::{CallGoal, Fault};
+pub use gp::Gp;
+pub use outcome::Outcome;
+pub use running::execute;
+pub use seeking::seek_set;
+pub use session::Session;

@@ -1,0 +1,34 @@
+//! A run of a program on a host graph.
+
+ghost use Rattle.gp_syntax.specs.Tree.{program_of_tree};
+ghost use Rattle.gp_system.specs.Ended.{HasEnded};
+
+use crate::outcome::Outcome;
+use crate::session::Session;
+use gp_graph::Graph;
+use gp_run::{Chooser, Finish, run};
+use gp_syntax::Program;
+use std::alloc::Global;
+
+/// Runs the program on the host graph, with at most so many steps and turns. The answers of `or` are the chooser's.
+pub fn execute<C: Chooser>(
+    alloc: Global,
+    program: &Program,
+    host: Graph,
+    bound: u64,
+    chooser: &mut C,
+) -> Outcome
+    ensures { HasEnded C.answer C.next (program_of_tree program.now) host.graph bound (C.state chooser.old) (C.state chooser.new) result }
+{
+    let mut session = match Session::new(alloc, program, host, bound) {
+        Ok(session) => session,
+        Err(_) => return Outcome::NoMemory,
+    };
+    match run(&(), program, &mut session, chooser) {
+        Finish::Graph => Outcome::Graph(session.into_journal()),
+        Finish::Fail => Outcome::Fail(session.into_journal()),
+        Finish::Bound => Outcome::Bound(session.into_journal()),
+        Finish::Fault(rule, kind) => Outcome::Fault(session.into_journal(), rule, kind),
+        Finish::NoMemory => Outcome::NoMemory,
+    }
+}
