@@ -86,6 +86,17 @@ pub(crate) fn answer(
     for word in words {
         given.push(String::from_str(alloc, word)?)?;
     }
+    answer_given(rt, given, files, cuts)
+}
+
+// The same of owned words.
+pub(crate) fn answer_given(
+    rt: &HostRuntime,
+    given: Vec<String>,
+    files: &mut MemFiles,
+    cuts: Cuts,
+) -> Result<Vec<u8>, Fail> {
+    let alloc = rt.alloc();
     let mut out = sink(alloc, cuts.out)?;
     let mut err = sink(alloc, cuts.err)?;
     let status = gp2_main(rt, Ok(given), files, &mut out, &mut err);
