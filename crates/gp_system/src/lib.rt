@@ -7,9 +7,12 @@
 #![tactic(auto)]
 
 mod answer;
+mod crew;
+mod crew_session;
 mod goal;
 mod gp;
 mod outcome;
+mod pursuit;
 mod running;
 mod seeking;
 mod session;
@@ -17,6 +20,8 @@ pub mod sharing;
 #[cfg(test)]
 mod tests;
 
+pub use crew::Crew;
+pub use crew_session::CrewSession;
 pub use goal::{CallGoal, Fault};
 pub use gp::Gp;
 pub use outcome::Outcome;
