@@ -3,3 +3,5 @@ pub mod Nodes
 pub mod Sessions
 pub mod Runs
 pub mod Systems
+pub mod Pursuits
+pub mod Endings

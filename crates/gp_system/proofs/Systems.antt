@@ -123,7 +123,7 @@ verdict_there sets rules c set g m r v e f h w a = subst (IsVerdictOf (verdict_o
 -- ---- searches
 
 module _ (law : (r : Rule) (g : Graph) (m : Found) → IsWellFormed r → IsJudged r g m) (s : RuleSystem) (w : All IsWellFormed (rules_of s)) where
-  there : (goal : CallGoal) (set : List ℕ) (g : Graph) (m : Found) (r : Rule) → slice_get s.sets goal.call ≡ Some set → Contains set m.rule → slice_get (rules_of s) m.rule ≡ Some r → judged_in (slice_get s.sets goal.call) (rules_of s) g m ≡ with_rule m.rule (judged r g m)
+  pub there : (goal : CallGoal) (set : List ℕ) (g : Graph) (m : Found) (r : Rule) → slice_get s.sets goal.call ≡ Some set → Contains set m.rule → slice_get (rules_of s) m.rule ≡ Some r → judged_in (slice_get s.sets goal.call) (rules_of s) g m ≡ with_rule m.rule (judged r g m)
   there goal set g m r e c f = ap (λ (o : Option (List ℕ)). judged_in o (rules_of s) g m) e ∙ judged_there (rules_of s) set g m r (has_contains set m.rule c) f
 
   shared : (m : Found) (r : Rule) (share : ℕ) → slice_get (rules_of s) m.rule ≡ Some r → share_of r m (s.further + 1) ≡ share → share_in (rules_of s) (s.further + 1) m ≡ share

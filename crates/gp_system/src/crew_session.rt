@@ -63,6 +63,13 @@ fn called(ending: Ending<Fault>) -> Called
     }
 }
 
+impl<'a, P> CrewSession<'a, P> {
+    // Whether the call goes to the crew.
+    fn is_wide(&self, call: u32) -> bool {
+        self.system.is_wide(call, self.session.graph(), self.crew.fan)
+    }
+}
+
 impl<'a, P: Pace + Sync> CrewSession<'a, P> {
     /// At the beginning of a run of the program on the host by this crew.
     pub fn new(
@@ -92,11 +99,6 @@ impl<'a, P: Pace + Sync> CrewSession<'a, P> {
         ensures of_rules { IsJournalOf (map rule_of_tree self.entry.program.rules) result }
     {
         self.session.into_journal()
-    }
-
-    // Whether the call goes to the crew.
-    fn is_wide(&self, call: u32) -> bool {
-        self.system.is_wide(call, self.session.graph(), self.crew.fan)
     }
 
     // Lets the crew pursue the call. After a refusal nothing of the run is left.
