@@ -1,9 +1,9 @@
 //! How deep tokens are nested.
 
 ghost use Rattle.std.specs.Prelude.{◌≡◌, ◌<◌, ◌^◌};
-ghost use Rattle.gp_parse.specs.Depth.{FindsDepth, outside};
-ghost use Rattle.gp_parse.specs.inside.Deep.{GivesPlace, too_deep_from};
-ghost use Rattle.gp_parse.specs.Depth as spec;
+ghost use Rattle.gp_program.specs.Depth.{FindsDepth, outside};
+ghost use Rattle.gp_program.specs.inside.Deep.{GivesPlace, too_deep_from};
+ghost use Rattle.gp_program.specs.Depth as spec;
 
 use gp_memory::NoMemory;
 use gp_tokens::{Keyword, Kind, Token};

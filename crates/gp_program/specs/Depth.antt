@@ -7,9 +7,9 @@ use Rattle.gp_tokens.specs.declared.token.Kind.{Kind}
 use Rattle.gp_tokens.specs.declared.token.Kind.TheVariants as k
 use Rattle.gp_tokens.specs.declared.token.Token.{Token}
 use Rattle.gp_tokens.specs.Words.{is_word}
-use Rattle.gp_parse.specs.declared.depth.Role.{Role}
-use Rattle.gp_parse.specs.declared.depth.Role.TheVariants as role
-use Rattle.gp_parse.specs.declared.depth.Run.{Run}
+use Rattle.gp_program.specs.declared.depth.Role.{Role}
+use Rattle.gp_program.specs.declared.depth.Role.TheVariants as role
+use Rattle.gp_program.specs.declared.depth.Run.{Run}
 
 -- a token of this kind, where it is told whether it is the word `not`
 abbrev pub role_by : Kind → Bool → Role

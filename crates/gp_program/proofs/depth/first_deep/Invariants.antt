@@ -1,8 +1,8 @@
 use Rattle.std.proofs.Common.{◌≡◌, ◌+◌, ◌≤◌, length, reverse, sum}
 use Rattle.std.specs.Prelude.{option_map}
-use Rattle.gp_parse.specs.Depth.{outside}
-use Rattle.gp_parse.specs.inside.Deep.{too_deep_from}
-use Rattle.gp_parse.proofs.depth.first_deep.Given as goal
+use Rattle.gp_program.specs.Depth.{outside}
+use Rattle.gp_program.specs.inside.Deep.{too_deep_from}
+use Rattle.gp_program.proofs.depth.first_deep.Given as goal
 
 abbrev pub invariant-each : goal.invariant-each
 invariant-each l = record {

@@ -3,7 +3,7 @@ use Rattle.std.specs.Prelude.{◌≡◌, ℕ, suc, ◌+◌, if◌then◌else◌,
 use Rattle.gp_memory.specs.declared.refusal.NoMemory.{NoMemory}
 use Rattle.gp_memory.specs.Free.{Free}
 use Rattle.gp_tokens.specs.declared.token.Token.{Token}
-use Rattle.gp_parse.specs.Depth.{Nesting, behind}
+use Rattle.gp_program.specs.Depth.{Nesting, behind}
 
 -- behind tokens of this nesting
 abbrev pub too_deep_from : Nesting → List Token → Option ℕ
