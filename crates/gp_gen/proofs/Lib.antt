@@ -1,1 +1,4 @@
 pub mod Examples
+pub mod Drawing
+pub mod NodeLines
+pub mod Grids

@@ -1,3 +1,4 @@
 pub mod Host
 pub mod Texts
 pub mod Rows
+pub mod inside
