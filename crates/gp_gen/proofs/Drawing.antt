@@ -1,5 +1,6 @@
 -- Edges that are written one after another.
 use Rattle.std.proofs.Common.{◌≡◌, ℕ, zero, suc, ◌+◌, List, [], ◌∷◌, ◌++◌, length, map, refl, sym, ap, ap₂, ◌∙◌, append_assoc, append-nil, arith}
+use Rattle.std.proofs.lemmas.List.{length-append}
 use Rattle.std.specs.Prelude.{Result, Ok, Err, OnOk}
 use Rattle.std.specs.List.{zip}
 use Rattle.rand_core.specs.Steps.{first_words}
@@ -24,10 +25,6 @@ module _ {A : Type 0} (edge : A × ℕ → HostEdge) where
       ap (λ l. line ++ l) (lines_of_both (i + 1) xs ys (pcg32 s).1 ∙ ap (λ k. drawn_lines edge (i + 1) xs (pcg32 s).1 ++ drawn_lines edge k ys (after (length xs) (pcg32 s).1)) e)
       ∙ sym (append_assoc line (drawn_lines edge (i + 1) xs (pcg32 s).1) (drawn_lines edge (i + suc (length xs)) ys (after (length xs) (pcg32 s).1)))
 
-  length_of_both : (xs ys : List A) → length (xs ++ ys) ≡ length xs + length ys
-  length_of_both [] ys = omega arith
-  length_of_both (x ∷ xs) ys = omega (arith, length_of_both xs ys)
-
   -- no edges
   pub draws_none : (i : ℕ) (text : List ℕ) (s : Lcg) → Draws edge [] i text text s s
   unfolding drawn_lines after
@@ -48,7 +45,7 @@ module _ {A : Type 0} (edge : A × ℕ → HostEdge) where
         second.written ∙ ap₂ (λ k (w : Lcg). mid ++ drawn_lines edge k ys w) number first.taken ∙ ap (λ l. l ++ drawn_lines edge (i + length xs) ys (after (length xs) s)) first.written
         ∙ append_assoc old (drawn_lines edge i xs s) (drawn_lines edge (i + length xs) ys (after (length xs) s))
         ∙ ap (λ l. old ++ l) (sym (lines_of_both i xs ys s)) ∙ ap (λ l. old ++ drawn_lines edge i l s) (sym items);
-    taken = second.taken ∙ ap (after (length ys)) first.taken ∙ after_both (length xs) (length ys) s ∙ ap (λ k. after k s) (sym (ap length items ∙ length_of_both xs ys));
+    taken = second.taken ∙ ap (after (length ys)) first.taken ∙ after_both (length xs) (length ys) s ∙ ap (λ k. after k s) (sym (ap length items ∙ length-append xs ys));
   }
 
   -- the lines are those of the edges that the words give

@@ -1,10 +1,11 @@
 -- The neighbours in the first columns of a row, and in the first rows of a grid.
-use Rattle.std.proofs.Common.{◌≡◌, ℕ, zero, suc, ◌+◌, ◌*◌, ◌-◌, ◌%◌, ◌==◌, List, [], ◌∷◌, ◌++◌, length, map, refl, sym, ap, ◌∙◌, append-nil, arith}
-use Rattle.std.proofs.lemmas.List.FromFn.{map-range_with_len_more, length-map-range_with_len}
+use Rattle.std.proofs.Common.{◌≡◌, ℕ, zero, suc, ◌+◌, ◌*◌, ◌-◌, ◌%◌, ◌==◌, List, [], ◌∷◌, ◌++◌, length, map, sym, ap, ◌∙◌, append-nil, arith}
+use Rattle.std.proofs.lemmas.List.FromFn.{length-range_with_len, map-range_with_len_more, length-map-range_with_len}
+use Rattle.std.proofs.lemmas.List.{length-append}
 use Rattle.std.proofs.lemmas.Grind.{flat_map-append}
-use Rattle.std.specs.Prelude.{flat_map, if◌then◌else◌, None}
+use Rattle.std.specs.Prelude.{flat_map, if◌then◌else◌}
 use Rattle.std.specs.List.{range_with_len}
-use Rattle.gp_gen.specs.Host.{numbers_below, row_pairs, column_pairs, grid_edge}
+use Rattle.gp_gen.specs.Host.{numbers_below, row_pairs, column_pairs, plain_edge, grid_edge}
 
 -- ---- within a row
 
@@ -33,27 +34,18 @@ number_more n =
     let from : 0 + n ≡ n = omega arith in
     ap numbers_below more ∙ more_from 0 n ∙ ap (λ k. numbers_below n ++ k ∷ []) from
 
--- so many numbers
-numbers_counted : (a n : ℕ) → length (range_with_len a n) ≡ n
-numbers_counted a zero = refl
-numbers_counted a (suc n) = ap suc (numbers_counted (a + 1) n)
-
 pub count_below : (n : ℕ) → n ≡ 0 + length (numbers_below n)
-count_below n = omega (arith, numbers_counted 0 n)
+count_below n = omega (arith, length-range_with_len 0 n)
 
 -- one row more
 pub row_more : {A : Type 0} (row : ℕ → List A) (r : ℕ) → flat_map row (numbers_below (r + 1)) ≡ flat_map row (numbers_below r) ++ row r
 row_more row r = ap (flat_map row) (number_more r) ∙ flat_map-append row (numbers_below r) (r ∷ []) ∙ ap (λ l. flat_map row (numbers_below r) ++ l) (append-nil (row r))
 
-length_of_both : {A : Type 0} (xs ys : List A) → length (xs ++ ys) ≡ length xs + length ys
-length_of_both [] ys = omega arith
-length_of_both (x ∷ xs) ys = omega (arith, length_of_both xs ys)
-
 -- rows of the same length
 rows_from : {A : Type 0} (row : ℕ → List A) (width : ℕ) → ((r : ℕ) → length (row r) ≡ width) → (a rows : ℕ) → length (flat_map row (range_with_len a rows)) ≡ rows * width
 rows_from row width each a zero = omega arith
 rows_from row width each a (suc rows) =
-    omega (arith, length_of_both (row a) (flat_map row (range_with_len (a + 1) rows)), each a, rows_from row width each (a + 1) rows)
+    omega (arith, length-append (row a) (flat_map row (range_with_len (a + 1) rows)), each a, rows_from row width each (a + 1) rows)
 
 pub rows_counted : (n rows : ℕ) → rows * (n - 1) ≡ 0 + length (flat_map (row_pairs n) (numbers_below rows))
 rows_counted n rows = sym (rows_from (row_pairs n) (n - 1) (λ r. length-map-range_with_len _ 0 (n - 1)) 0 rows) ∙ omega arith
@@ -63,8 +55,8 @@ columns_of_rows_counted n first rows = ap (λ k. first + k) (sym (rows_from (col
 
 -- ---- the direction of an edge
 
-pub turned : (small great word : ℕ) → word % 2 ≡ 1 → record { source = great; target = small; label = None } ≡ grid_edge ((small, great), word)
-turned small great word odd = sym (ap (λ k. if k == 1 then record { source = great; target = small; label = None } else record { source = small; target = great; label = None }) odd)
+pub turned : (small great word : ℕ) → word % 2 ≡ 1 → plain_edge great small ≡ grid_edge ((small, great), word)
+turned small great word odd = sym (ap (λ k. if k == 1 then plain_edge great small else plain_edge small great) odd)
 
-pub straight : (small great word : ℕ) → (word % 2 ≡ 1 → ⊥) → record { source = small; target = great; label = None } ≡ grid_edge ((small, great), word)
+pub straight : (small great word : ℕ) → (word % 2 ≡ 1 → ⊥) → plain_edge small great ≡ grid_edge ((small, great), word)
 straight small great word even = grind arith

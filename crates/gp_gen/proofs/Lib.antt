@@ -2,3 +2,4 @@ pub mod Examples
 pub mod Drawing
 pub mod NodeLines
 pub mod Grids
+pub mod Whole

@@ -1,6 +1,12 @@
-//! Worked examples of the definitions. Each function does nothing: its contract is the examples.
+//! What holds of the hosts of demo workloads, and worked examples. Each function does nothing: its contract is the law.
 
+ghost use Rattle.gp_gen.specs.Laws.{HostsAreWhole};
 ghost use Rattle.gp_gen.specs.Rows.{ClosureExamples, ColourExamples, TreeExample};
+
+/// A host has so many nodes, numbered from 0 on, and so many edges, each from a node to a node.
+pub fn hosts_are_whole()
+    ensures { HostsAreWhole }
+{}
 
 /// The rings of one and of two nodes.
 pub fn closure_examples()
