@@ -1,7 +1,7 @@
 //! The edges of hosts.
 
 ghost use Rattle.std.specs.Prelude.{◌≡◌, ◌+◌, ◌-◌, ◌*◌, ◌<◌, ◌≤◌, ◌++◌, [], ◌∷◌, flat_map, OnOk};
-ghost use Rattle.gp_gen.specs.Host.{IsSize, seeded, numbers_below, ring_edge, row_pairs, column_pairs, grid_pairs, grid_edge, host_edges};
+ghost use Rattle.gp_gen.specs.Host.{IsSize, numbers_below, ring_edge, row_pairs, column_pairs, grid_pairs, grid_edge, host_edges};
 ghost use Rattle.gp_gen.specs.Texts.{edge_lines};
 ghost use Rattle.gp_gen.specs.inside.Draws.{Draws};
 

@@ -1,6 +1,6 @@
 //! The nodes of hosts.
 
-ghost use Rattle.std.specs.Prelude.{◌≡◌, ◌++◌, ◌≤◌, ◌*◌, map, flat_map, OnOk};
+ghost use Rattle.std.specs.Prelude.{◌≡◌, ◌++◌, map, flat_map, OnOk};
 ghost use Rattle.gp_gen.specs.Host.{IsSize, numbers_below, plain_node, grid_node, host_nodes};
 ghost use Rattle.gp_gen.specs.Texts.{node_line};
 
