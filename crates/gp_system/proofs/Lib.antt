@@ -5,3 +5,4 @@ pub mod Runs
 pub mod Systems
 pub mod Pursuits
 pub mod Endings
+pub mod Crews

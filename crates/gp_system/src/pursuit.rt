@@ -2,6 +2,7 @@
 
 ghost use Rattle.std.specs.Prelude.{◌≡◌, ◌<◌, ◌^◌, ◌++◌, All, OnOk, IfOk, length, map, drop, take, vec_len};
 ghost use Rattle.gp_syntax.specs.Tree.{rule_of_tree};
+ghost use Rattle.gp_syntax.specs.WellFormed.{IsWellFormed};
 ghost use Rattle.gp_journal.specs.Trail.{Trail as AnyTrail};
 ghost use Rattle.gp_journal.specs.Leads.{Leads};
 ghost use Rattle.gp_journal.specs.Journal.{items_of, noted};
@@ -57,6 +58,7 @@ fn bring(rules: &[Rule], missing: &[Item], replica: &mut Trail) -> Result<(), No
 
 // The same for each of them.
 fn bring_all(rules: &[Rule], missing: &[Item], trail: &Trail, replicas: Vec<Trail>) -> Result<Vec<Trail>, NoMemory>
+    requires well_formed { All IsWellFormed (map rule_of_tree rules.now) }
     requires way { All (λ t. Leads (map rule_of_tree rules.now) (items_of missing.now) t trail.now) replicas.items }
     requires settled { trail.now.caught ≡ 0 }
     ensures all { IfOk result (λ v. All (λ t. t ≡ trail.now) v.items) }
@@ -79,6 +81,7 @@ pub(crate) fn brought(
     missing: &[Item],
     replicas: Vec<Trail>,
 ) -> Result<Vec<Trail>, NoMemory>
+    requires well_formed { All IsWellFormed (map rule_of_tree rules.now) }
     requires way { All (λ t. Leads (map rule_of_tree rules.now) (items_of missing.now) t trail.now) replicas.items }
     requires settled { trail.now.caught ≡ 0 }
     requires few { vec_len replicas < 2 ^ 32 }
