@@ -17,6 +17,7 @@ mod label;
 pub mod laws;
 mod name;
 mod rule;
+pub mod sharing;
 #[cfg(test)]
 mod tests;
 mod tree;
