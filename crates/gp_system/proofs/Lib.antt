@@ -3,3 +3,4 @@ pub mod Nodes
 pub mod Sessions
 pub mod Runs
 pub mod Systems
+pub mod Crossing
