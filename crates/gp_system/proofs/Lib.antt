@@ -6,3 +6,4 @@ pub mod Systems
 pub mod Pursuits
 pub mod Endings
 pub mod Crews
+pub mod Crossing
