@@ -54,15 +54,15 @@ pub fn execute<C: Chooser, P: Pace + Sync, R: Threads + Wait + Sync>(
     if crew.workers < 2 {
         return execute_alone(alloc, program, host, crew.bound, chooser);
     }
-    let mut session = match CrewSession::new(alloc, program, host, crew, pace) {
-        Ok(session) => session,
+    let mut crewed = match CrewSession::new(alloc, program, host, crew, pace) {
+        Ok(crewed) => crewed,
         Err(_) => return Outcome::NoMemory,
     };
-    match run(rt, program, &mut session, chooser) {
-        Finish::Graph => Outcome::Graph(session.into_journal()),
-        Finish::Fail => Outcome::Fail(session.into_journal()),
-        Finish::Bound => Outcome::Bound(session.into_journal()),
-        Finish::Fault(rule, kind) => Outcome::Fault(session.into_journal(), rule, kind),
+    match run(rt, program, &mut crewed, chooser) {
+        Finish::Graph => Outcome::Graph(crewed.into_journal()),
+        Finish::Fail => Outcome::Fail(crewed.into_journal()),
+        Finish::Bound => Outcome::Bound(crewed.into_journal()),
+        Finish::Fault(rule, kind) => Outcome::Fault(crewed.into_journal(), rule, kind),
         Finish::NoMemory => Outcome::NoMemory,
     }
 }
