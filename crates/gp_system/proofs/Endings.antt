@@ -38,10 +38,10 @@ use Rattle.gp_system.specs.declared.goal.CallGoal.{CallGoal}
 use Rattle.gp_system.specs.declared.goal.Fault.{Fault}
 use Rattle.gp_system.specs.Gp.{RuleSystem, rules_of, has, with_rule, judged_by, judged_in, gp_means}
 use Rattle.gp_system.specs.inside.Viewed.{Shown, view_of}
-use Rattle.gp_system.specs.inside.Pursued.{IsPursued, HasUsed, HasPursued, system_of, called_of}
+use Rattle.gp_system.specs.inside.Pursued.{IsPursued, HasUsed, HasPursued, turns_first, system_of, called_of}
 use Rattle.gp_system.proofs.Searches.{renumbered_applies, renumbered_faulty}
 use Rattle.gp_system.proofs.Systems.{contains_has, judged_applies, judged_faulty, well_formed_at, by_set, there}
-use Rattle.gp_system.proofs.Pursuits.{turns_first, turned_over, but_taken, all_taken, once_taken, reached_root, called_once, so_far_on, has_applying}
+use Rattle.gp_system.proofs.Pursuits.{turned_over, but_taken, all_taken, once_taken, reached_root, called_once, so_far_on, has_applying}
 
 -- ---- what the ending says of the graph
 

@@ -1,5 +1,5 @@
 -- What a crew made of a goal, as items of a trail and as a run.
-use Rattle.std.proofs.Common.{◌≡◌, ◌≢◌, ◌⊎◌, inl, inr, ℕ, zero, suc, ◌+◌, ◌*◌, ◌<◌, ◌≤◌, Bool, true, false, List, [], ◌∷◌, ◌++◌, map, length, take, slice_get, Contains, All, Option, Some, None, refl, sym, ap, subst, ◌∙◌, arith, append_assoc, append-nil}
+use Rattle.std.proofs.Common.{◌≡◌, ◌≢◌, ◌⊎◌, inl, inr, ℕ, zero, suc, ◌+◌, ◌*◌, ◌%◌, ◌<◌, ◌≤◌, Bool, true, false, List, [], ◌∷◌, ◌++◌, map, length, take, slice_get, Contains, All, Option, Some, None, refl, sym, ap, subst, ◌∙◌, arith, append_assoc, append-nil}
 use Rattle.std.specs.Prelude.{if◌then◌else◌}
 use Rattle.gp_values.specs.Graph.{Graph}
 use Rattle.gp_syntax.specs.declared.found.Item.{Item}
@@ -28,7 +28,7 @@ use Rattle.gp_journal.specs.Journal.{items_of, noted}
 use Rattle.gp_system.specs.declared.goal.CallGoal.{CallGoal}
 use Rattle.gp_system.specs.declared.goal.Fault.{Fault}
 use Rattle.gp_system.specs.Gp.{RuleSystem, rules_of, has, with_rule, judged_by, judged_in, gp_means}
-use Rattle.gp_system.specs.inside.Pursued.{HasUsed}
+use Rattle.gp_system.specs.inside.Pursued.{HasUsed, turns_first, noted_but_last_turn}
 use Rattle.gp_system.proofs.Searches.{renumbered_applies, renumbered_faulty}
 use Rattle.gp_system.proofs.Systems.{contains_has, has_contains, step_of, judged_applies, judged_faulty}
 
@@ -59,11 +59,6 @@ goes_by : (rules : List Rule) (t : Trail) (m : Found) (a : AppliesBy rules t.gra
 goes_by rules t m a w n = (led_by (slice_get rules m.rule) t.graph m, record { rule = a.rule; is_rule = a.is_rule; step = stepped_by rules t.graph m a w n }, refl)
 
 -- ---- the items of entries
-
--- each with the turn before it
-abbrev pub turns_first : List Found → List Item
-turns_first [] = []
-turns_first (m ∷ ms) = items.Turn ∷ items.Step m ∷ turns_first ms
 
 pub turned_over : (es : List Found) → items.Turn ∷ noted Saturate es ≡ turns_first es ++ items.Turn ∷ []
 turned_over [] = refl
@@ -97,6 +92,38 @@ all_taken es used e = take_all (noted Saturate es) used (e ∙ sym (length-satur
 
 pub once_taken : (es : List Found) (used : ℕ) → used ≡ length es → take used (noted Once es) ≡ noted Once es
 once_taken es used e = take_all (noted Once es) used (e ∙ sym (length-once es))
+
+-- the same, as it is noted
+saturate_last : (front : List Found) (m : Found) → noted_but_last_turn (front ++ m ∷ []) ≡ noted Saturate front ++ items.Step m ∷ []
+saturate_last [] m = refl
+saturate_last (n ∷ []) m = refl
+saturate_last (n ∷ k ∷ ns) m = ap (λ (l : List Item). items.Step n ∷ items.Turn ∷ l) (saturate_last (k ∷ ns) m)
+
+pub noted_last : (so mid new : List Item) (es front last : List Found) (m : Found) → es ≡ front ++ m ∷ [] → last ≡ m ∷ [] → mid ≡ so ++ noted Saturate front → new ≡ mid ++ noted Once last → new ≡ so ++ noted_but_last_turn es
+noted_last so mid new es front last m e f g h =
+    h ∙ ap (λ (l : List Item). l ++ noted Once last) g ∙ ap (λ (l : List Found). (so ++ noted Saturate front) ++ noted Once l) f ∙ append_assoc so (noted Saturate front) (items.Step m ∷ [])
+    ∙ ap (λ (l : List Item). so ++ l) (sym (saturate_last front m)) ∙ ap (λ (l : List Found). so ++ noted_but_last_turn l) (sym e)
+
+pub but_noted : (es : List Found) (used : ℕ) → used + 1 ≡ 2 * length es → take used (noted Saturate es) ≡ noted_but_last_turn es
+but_noted [] used e = absurd (omega arith)
+but_noted (m ∷ ms) used e = but_taken m ms used e
+
+odd_used : (n : ℕ) (es : List Found) → HasUsed Saturate es n → n % 2 ≡ 1 → n + 1 ≡ 2 * length es
+odd_used n es (inl e) h = absurd (omega arith)
+odd_used n es (inr e) h = e
+
+even_used : (n : ℕ) (es : List Found) → HasUsed Saturate es n → (n % 2 ≡ 1 → ⊥) → n ≡ 2 * length es
+even_used n es (inl e) h = e
+even_used n es (inr e) h = absurd (h (omega arith))
+
+pub used_but : (so new : List Item) (es : List Found) (n : ℕ) → HasUsed Saturate es n → n % 2 ≡ 1 → new ≡ so ++ noted_but_last_turn es → new ≡ so ++ take n (noted Saturate es)
+used_but so new es n h o e = e ∙ ap (λ (l : List Item). so ++ l) (sym (but_noted es n (odd_used n es h o)))
+
+pub used_all : (so new : List Item) (es : List Found) (n : ℕ) → HasUsed Saturate es n → (n % 2 ≡ 1 → ⊥) → new ≡ so ++ noted Saturate es → new ≡ so ++ take n (noted Saturate es)
+used_all so new es n h o e = e ∙ ap (λ (l : List Item). so ++ l) (sym (all_taken es n (even_used n es h o)))
+
+pub used_once : (so new : List Item) (es : List Found) (n : ℕ) → n ≡ length es → new ≡ so ++ noted Once es → new ≡ so ++ take n (noted Once es)
+used_once so new es n h e = e ∙ ap (λ (l : List Item). so ++ l) (sym (once_taken es n h))
 
 -- ---- entries
 

@@ -9,7 +9,7 @@ ghost use Rattle.gp_journal.specs.Journal.{items_of, noted};
 ghost use Rattle.opt_core.specs.Core.{reached, AllApply};
 ghost use Rattle.opt_worker.specs.Replica.{IsReplica};
 ghost use Rattle.gp_system.specs.Gp.{gp_means};
-ghost use Rattle.gp_system.specs.inside.Pursued.{IsPursued, HasUsed};
+ghost use Rattle.gp_system.specs.inside.Pursued.{IsPursued, HasUsed, noted_but_last_turn};
 
 use crate::goal::{CallGoal, Fault};
 use crate::gp::Gp;
@@ -154,6 +154,21 @@ pub(crate) fn pursue_goal<P: Pace + Sync, R: Threads + Wait + Sync>(
     }
 }
 
+// Puts the items of matches at the end, but for the turn after the last step.
+fn note_but_last_turn(items: &mut Items, entries: Vec<Found>) -> Result<(), NoMemory>
+    ensures items { OnOk result (items.new.items ≡ items.old.items ++ noted_but_last_turn entries.items) }
+    ensures backs { items.new.backs ≡ items.old.backs }
+{
+    let mut last = Vec::with_capacity(*entries.allocator(), 1)?;
+    let mut entries = entries;
+    match entries.pop() {
+        Some(found) => last.push(found)?,
+        None => return Ok(()),
+    }
+    items.note(entries, Mode::Saturate)?;
+    items.note(last, Mode::Once)
+}
+
 /// Puts the items of the matches that were taken at the end, as many as were used: where none was left for the turn after
 /// the last step, that turn is not made.
 pub(crate) fn note_used(
@@ -166,16 +181,13 @@ pub(crate) fn note_used(
     ensures items { OnOk result (items.new.items ≡ items.old.items ++ take used (noted mode entries.items)) }
     ensures backs { items.new.backs ≡ items.old.backs }
 {
-    let mut entries = entries;
     match mode {
-        Mode::Saturate if used % 2 == 1 => {
-            let mut last = Vec::with_capacity(*entries.allocator(), 1)?;
-            if let Some(found) = entries.pop() {
-                last.push(found)?;
+        Mode::Once => items.note(entries, Mode::Once),
+        Mode::Saturate => {
+            if used % 2 == 1 {
+                return note_but_last_turn(items, entries);
             }
-            items.note(entries, Mode::Saturate)?;
-            items.note(last, Mode::Once)
+            items.note(entries, Mode::Saturate)
         }
-        mode => items.note(entries, mode),
     }
 }

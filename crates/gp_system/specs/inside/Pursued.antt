@@ -1,6 +1,8 @@
 -- What a goal that a crew pursued came to, and what a run with a crew keeps.
-use Rattle.std.specs.Prelude.{◌≡◌, ◌⊎◌, ℕ, ◌+◌, ◌-◌, ◌^◌, ◌<◌, ◌≤◌, Bool, List, [], ◌++◌, All, map, length, take, Some}
+use Rattle.std.specs.Prelude.{◌≡◌, ◌⊎◌, ℕ, ◌+◌, ◌-◌, ◌*◌, ◌^◌, ◌<◌, ◌≤◌, Bool, List, [], ◌∷◌, ◌++◌, All, map, length, take, Some}
 use Rattle.gp_values.specs.Graph.{Graph}
+use Rattle.gp_syntax.specs.declared.found.Item.{Item}
+use Rattle.gp_syntax.specs.declared.found.Item.TheVariants as items
 use Rattle.gp_syntax.specs.declared.command.ProgramParts.{ProgramParts}
 use Rattle.gp_syntax.specs.Rule.{Rule, Found}
 use Rattle.gp_syntax.specs.Tree.{rule_of_tree}
@@ -31,6 +33,15 @@ pub record IsPursued (system : RuleSystem) (goal : CallGoal) (base : Trail) (giv
 abbrev pub HasUsed : Mode → List Found → ℕ → Type 0
 HasUsed Once entries used = used ≡ length entries
 HasUsed Saturate entries used = (used ≡ 2 * length entries) ⊎ (used + 1 ≡ 2 * length entries)
+
+-- the items of these matches, but for the turn after the last step
+abbrev pub turns_first : List Found → List Item
+turns_first [] = []
+turns_first (m ∷ ms) = items.Turn ∷ items.Step m ∷ turns_first ms
+
+abbrev pub noted_but_last_turn : List Found → List Item
+noted_but_last_turn [] = []
+noted_but_last_turn (m ∷ ms) = items.Step m ∷ turns_first ms
 
 -- the rules and sets of a program, with so many shares besides one
 abbrev pub system_of : ProgramParts → ℕ → RuleSystem
