@@ -92,7 +92,7 @@ function sum_here(   number, sign, more) {
   while (token[cursor] == "+" || token[cursor] == "-") {
     sign = token[cursor++]
     more = product_here()
-    number = whole(sign == "+" ? number + more : number - more, number, more)
+    number = plus(number, sign == "+" ? more : negated(more))
   }
   return number
 }
@@ -102,28 +102,20 @@ function product_here(   number, sign, more) {
   while (token[cursor] == "*" || token[cursor] == "/") {
     sign = token[cursor++]
     more = factor_here()
-    number = whole(sign == "*" ? number * more : more == 0 ? "?" : int(number / more), number, more)
+    number = sign == "*" ? times(number, more) : quotient(number, more)
   }
   return number
 }
 
-# A number that awk has exactly; from 2^53 on it is shown as `?`.
-function whole(number, one, other) {
-  if (is_past(number) || is_past(one) || is_past(other)) { unknown = 1; return "?" }
-  return sprintf("%.0f", number + 0)
-}
-
-function is_past(number) { return number == "?" || number + 0 > 9007199254740991 || number + 0 < -9007199254740991 }
-
 function factor_here(   text, name, list, atom) {
   text = token[cursor++]
-  if (text == "-") { text = factor_here(); return text == "?" ? text : text == 0 ? "0" : text ~ /^-/ ? substr(text, 2) : "-" text }
+  if (text == "-") return negated(factor_here())
   if (text == "(") { list = list_here(); cursor++; return list }
   if (text == "empty") return ""
   if (text == "indeg" || text == "outdeg" || text == "length") {
     name = token[cursor + 1]; cursor += 3
     if (text == "length") return length_of(name)
-    return text == "indeg" ? in_degree[image[name]] : out_degree[image[name]]
+    return (text == "indeg" ? in_degree[image[name]] : out_degree[image[name]]) ""
   }
   if (text ~ /^[0-9]+$/) { sub(/^0+/, "", text); return text == "" ? "0" : text }
   return text ~ /^"/ ? text : value[text]
