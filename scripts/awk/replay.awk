@@ -181,7 +181,7 @@ function draw_into(name, caption,   file) {
 
 BEGIN {
   name_of_script = "journal-to-dot"
-  read_tokens(host)
+  program = ENVIRON["PROGRAM"]; host = ENVIRON["HOST"]; folder = ENVIRON["FOLDER"]
   begin_host()
   read_tokens(program); read_rules()
   read_printed()
