@@ -32,12 +32,12 @@ use Rattle.gp_run.specs.declared.engine.Turned.TheVariants as turned
 use Rattle.gp_run.specs.declared.engine.Repeated.{Repeated}
 use Rattle.gp_run.specs.declared.engine.Repeated.TheVariants as repeated
 use Rattle.gp_run.specs.inside.EmptyHost.{HasEnded}
-use Rattle.gp_run.proofs.Leads.{adds-nothing}
-use Rattle.gp_run.proofs.Turns.{Turns, turns_bound, turns_spent, turns_faulty, turns_end}
+use Rattle.gp_run.proofs.Leads.{adds-nothing, counted-append}
+use Rattle.gp_run.proofs.Turns.{Turns, turns_none, turns_bound, turns_spent, turns_faulty, turns_end}
 use Rattle.gp_system.specs.declared.goal.CallGoal.{CallGoal}
 use Rattle.gp_system.specs.declared.goal.Fault.{Fault}
 use Rattle.gp_system.specs.Gp.{RuleSystem, rules_of, has, with_rule, judged_by, judged_in, gp_means}
-use Rattle.gp_system.specs.inside.Viewed.{Shown, view_of}
+use Rattle.gp_system.specs.inside.Viewed.{Shown, view_of, Grows}
 use Rattle.gp_system.specs.inside.Pursued.{IsPursued, HasUsed, HasPursued, turns_first, system_of, called_of}
 use Rattle.gp_system.proofs.Searches.{renumbered_applies, renumbered_faulty}
 use Rattle.gp_system.proofs.Systems.{contains_has, judged_applies, judged_faulty, well_formed_at, by_set, there}
@@ -266,7 +266,7 @@ all c = record { call = c; mode = Saturate }
 
 counted_turns : (es : List Found) → counted (items_of (turns_first es)) ≡ 2 * length es
 counted_turns [] = refl
-counted_turns (m ∷ ms) = let l = counted_turns ms in omega arith
+counted_turns (m ∷ ms) = let l = counted_turns ms in let a = counted-append (Turned ∷ Stepped m ∷ []) (items_of (turns_first ms)) in omega arith
 
 module _ (c : ℕ) (x : Ending Fault) (u : View) (v w : Shown) (h : HasPursued (all c) x v w) (made : TurnMade u (view_of v)) where
   abbrev s2 : RuleSystem
@@ -398,3 +398,22 @@ bound_so c u v w l made h =
       )
       | inr e ↦ turns_bound c u (view_of w) (view_of w) (but_turns c ending.Bound u v w h made h.entries refl (let d : i.0 + 1 ≡ 2 * length h.entries = e.0 in omega arith)) (refl, none)
     ]
+
+-- ---- the same as bodies have it: s is what the session shows as it begins
+
+pub bound_first : (c : ℕ) (s u w : Shown) → s ≡ u → HasTurned turned.Bound (view_of s) (view_of w) → HasRepeated c repeated.Bound (view_of u) (view_of w)
+bound_first c s u w e t = subst (λ (z : Shown). HasRepeated c repeated.Bound (view_of z) (view_of w)) e (turns_bound c (view_of s) (view_of s) (view_of w) (turns_none c (view_of s)) t)
+
+set_there : (c : ℕ) (s u v : Shown) → s ≡ u → c < length u.program.sets → Grows s v → c < length v.program.sets
+set_there c s u v e l g = subst (λ (p : ProgramParts). c < length p.sets) (ap (λ (z : Shown). z.program) (sym e) ∙ sym g.program) l
+
+pub blocked_here : (c : ℕ) (r : Repeated) (s u v w x z : Shown) (y0 : Ending Fault) → s ≡ u → c < length u.program.sets → Grows s v → HasTurned turned.Made (view_of s) (view_of v) → y0 ≡ ending.Blocked → HasPursued (all c) y0 v w → x ≡ w → HasEnded r (view_of x) (view_of z) → HasRepeated c r (view_of u) (view_of z)
+blocked_here c r s u v w x z y0 e l g made f h i k =
+    blocked_so c r (view_of u) v w (view_of z) (set_there c s u v e l g) (subst (λ (y : Shown). HasTurned turned.Made (view_of y) (view_of v)) e made) (subst (λ (y : Ending Fault). HasPursued (all c) y v w) f h) (subst (λ (y : Shown). HasEnded r (view_of y) (view_of z)) i k)
+
+pub bound_here : (c : ℕ) (s u v w : Shown) (y0 : Ending Fault) → s ≡ u → c < length u.program.sets → Grows s v → HasTurned turned.Made (view_of s) (view_of v) → y0 ≡ ending.Bound → HasPursued (all c) y0 v w → HasRepeated c repeated.Bound (view_of u) (view_of w)
+bound_here c s u v w y0 e l g made f h =
+    bound_so c (view_of u) v w (set_there c s u v e l g) (subst (λ (y : Shown). HasTurned turned.Made (view_of y) (view_of v)) e made) (subst (λ (y : Ending Fault). HasPursued (all c) y v w) f h)
+
+pub faulty_here : (c : ℕ) (r : Fault) (s u v w : Shown) (y0 : Ending Fault) → s ≡ u → HasTurned turned.Made (view_of s) (view_of v) → y0 ≡ ending.Fault r → HasPursued (all c) y0 v w → HasRepeated c (repeated.Fault r.rule r.kind) (view_of u) (view_of w)
+faulty_here c r s u v w y0 e made f h = faulty_so c r (view_of u) v w (subst (λ (y : Shown). HasTurned turned.Made (view_of y) (view_of v)) e made) (subst (λ (y : Ending Fault). HasPursued (all c) y v w) f h)

@@ -1,6 +1,6 @@
 -- What a crew made of a goal, as items of a trail and as a run.
 use Rattle.std.proofs.Common.{◌≡◌, ◌≢◌, ◌⊎◌, inl, inr, ℕ, zero, suc, ◌+◌, ◌*◌, ◌%◌, ◌<◌, ◌≤◌, Bool, true, false, List, [], ◌∷◌, ◌++◌, map, length, take, slice_get, Contains, All, Option, Some, None, refl, sym, ap, subst, ◌∙◌, arith, append_assoc, append-nil}
-use Rattle.std.specs.Prelude.{if◌then◌else◌}
+use Rattle.std.specs.Prelude.{if◌then◌else◌, Result, Ok, Err, OnOk}
 use Rattle.gp_values.specs.Graph.{Graph}
 use Rattle.gp_syntax.specs.declared.found.Item.{Item}
 use Rattle.gp_syntax.specs.declared.found.Item.TheVariants as items
@@ -30,7 +30,7 @@ use Rattle.gp_system.specs.declared.goal.Fault.{Fault}
 use Rattle.gp_system.specs.Gp.{RuleSystem, rules_of, has, with_rule, judged_by, judged_in, gp_means}
 use Rattle.gp_system.specs.inside.Pursued.{HasUsed, turns_first, noted_but_last_turn}
 use Rattle.gp_system.proofs.Searches.{renumbered_applies, renumbered_faulty}
-use Rattle.gp_system.proofs.Systems.{contains_has, has_contains, step_of, judged_applies, judged_faulty}
+use Rattle.gp_system.proofs.Systems.{contains_has, step_of, by_set, well_formed_at}
 
 
 -- ---- one entry
@@ -125,6 +125,26 @@ used_all so new es n h o e = e ∙ ap (λ (l : List Item). so ++ l) (sym (all_ta
 pub used_once : (so new : List Item) (es : List Found) (n : ℕ) → n ≡ length es → new ≡ so ++ noted Once es → new ≡ so ++ take n (noted Once es)
 used_once so new es n h e = e ∙ ap (λ (l : List Item). so ++ l) (sym (once_taken es n h))
 
+-- where an answer is Ok
+pub on_noted_last : {A E : Type 0} (r : Result A E) (so mid new : List Item) (es front last : List Found) (m : Found) → es ≡ front ++ m ∷ [] → last ≡ m ∷ [] → mid ≡ so ++ noted Saturate front → OnOk r (new ≡ mid ++ noted Once last) → OnOk r (new ≡ so ++ noted_but_last_turn es)
+on_noted_last (Ok x) so mid new es front last m e f g h = noted_last so mid new es front last m e f g h
+on_noted_last (Err x) so mid new es front last m e f g h = tt
+
+pub on_used_but : {A E : Type 0} (r : Result A E) (mode : Mode) (so new : List Item) (es : List Found) (n : ℕ) → mode ≡ Saturate → HasUsed mode es n → n % 2 ≡ 1 → OnOk r (new ≡ so ++ noted_but_last_turn es) → OnOk r (new ≡ so ++ take n (noted mode es))
+on_used_but (Ok x) Once so new es n e h o a = absurd cc
+on_used_but (Ok x) Saturate so new es n e h o a = used_but so new es n h o a
+on_used_but (Err x) mode so new es n e h o a = tt
+
+pub on_used_all : {A E : Type 0} (r : Result A E) (mode : Mode) (so new : List Item) (es : List Found) (n : ℕ) → mode ≡ Saturate → HasUsed mode es n → (n % 2 ≡ 1 → ⊥) → OnOk r (new ≡ so ++ noted Saturate es) → OnOk r (new ≡ so ++ take n (noted mode es))
+on_used_all (Ok x) Once so new es n e h o a = absurd cc
+on_used_all (Ok x) Saturate so new es n e h o a = used_all so new es n h o a
+on_used_all (Err x) mode so new es n e h o a = tt
+
+pub on_used_once : {A E : Type 0} (r : Result A E) (mode : Mode) (so new : List Item) (es : List Found) (n : ℕ) → mode ≡ Once → HasUsed mode es n → OnOk r (new ≡ so ++ noted Once es) → OnOk r (new ≡ so ++ take n (noted mode es))
+on_used_once (Ok x) Once so new es n e h a = used_once so new es n h a
+on_used_once (Ok x) Saturate so new es n e h a = absurd cc
+on_used_once (Err x) mode so new es n e h a = tt
+
 -- ---- entries
 
 module _ (s : RuleSystem) (goal : CallGoal) (w : All IsWellFormed (rules_of s)) where
@@ -191,5 +211,5 @@ module _ (s : RuleSystem) (goal : CallGoal) (w : All IsWellFormed (rules_of s)) 
 
   -- ---- endings
 
-  has_applying : (t : Trail) (m : Found) → (gp_means s).judged goal t m ≡ applies → (set : List ℕ) × (slice_get s.sets goal.call ≡ Some set) × HasApplying (rules_of s) set t.graph
+  pub has_applying : (t : Trail) (m : Found) → (gp_means s).judged goal t m ≡ applies → (set : List ℕ) × (slice_get s.sets goal.call ≡ Some set) × HasApplying (rules_of s) set t.graph
   has_applying t m e = let a = step_at t m e in (a.set, a.is_set, record { found = m; in_set = a.in_set; rule = a.step.rule; is_rule = a.step.is_rule; applies = a.step.applies })

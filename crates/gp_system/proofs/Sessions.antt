@@ -26,8 +26,8 @@ use Rattle.gp_unify.proofs.Candidates.{one_step}
 use Rattle.gp_step.proofs.Afters.{applying_steps}
 use Rattle.gp_journal.specs.Trail.{Trail, root_of, led_by, back_by, rooted}
 use Rattle.gp_journal.specs.Leads.{AppliesBy, Led}
-use Rattle.gp_journal.specs.Journal.{Journal, IsJournalOf, items_of, with_step, with_mark, with_back}
-use Rattle.gp_journal.proofs.Replays.{rooted_back}
+use Rattle.gp_journal.specs.Journal.{Journal, IsJournalOf, items_of, with_step, with_turn, with_mark, with_back}
+use Rattle.gp_journal.proofs.Replays.{rooted_back, caught_back}
 use Rattle.gp_journal.proofs.Stacks.{along, all_replay}
 use Rattle.gp_run.specs.Engine.{View, IsReplay, Adds, MakesCall, IsSpent, HasFaulty, HasCalled, HasTurned, HasMarked, TakesBack}
 use Rattle.gp_run.specs.declared.engine.Called.TheVariants as called
@@ -248,3 +248,12 @@ grows_on v w x a b = record {
 -- the same of the run that a session shows
 pub grows_here : (s : Shown) (p : ProgramParts) (j k : Journal) (l n : ℕ) (i : Item) → shown p j l ≡ s → root_of k.trail ≡ root_of j.trail → k.trail.caught ≡ j.trail.caught → k.items ≡ j.items ++ i ∷ [] → Grows s (shown p k n)
 grows_here s p j k l n i same e f h = subst (λ (x : Shown). Grows x (shown p k n)) same (grows_by p j k l n i e f h)
+
+pub grows_turn : (s : Shown) (p : ProgramParts) (j k : Journal) (l n : ℕ) → shown p j l ≡ s → k ≡ with_turn j → Grows s (shown p k n)
+grows_turn s p j k l n e f = subst (λ (x : Journal). Grows s (shown p x n)) (sym f) (grows_here s p j (with_turn j) l n items.Turn e refl refl refl)
+
+pub grows_back : (s : Shown) (p : ProgramParts) (j k : Journal) (l n i : ℕ) → shown p j l ≡ s → k ≡ with_back i j → Grows s (shown p k n)
+grows_back s p j k l n i e f = subst (λ (x : Journal). Grows s (shown p x n)) (sym f) (grows_here s p j (with_back i j) l n (items.Back i) e (ap (λ (t : Trail). t.graph) (rooted_back i j.trail)) (caught_back i j.trail) refl)
+
+pub grows_end : (s : Shown) (p : ProgramParts) (j m k : Journal) (l n : ℕ) → shown p j l ≡ s → m ≡ with_mark j → k ≡ with_back 0 m → Grows s (shown p k n)
+grows_end s p j m k l n e f g = subst (λ (x : Journal). Grows s (shown p x n)) (sym (g ∙ ap (with_back 0) f)) (grows_here s p j (with_back 0 (with_mark j)) l n (items.Back 0) e refl refl refl)

@@ -6,10 +6,7 @@ ghost use Rattle.gp_syntax.specs.WellFormed.{IsWellFormed};
 ghost use Rattle.gp_journal.specs.Trail.{Trail as AnyTrail};
 ghost use Rattle.gp_journal.specs.Leads.{Leads};
 ghost use Rattle.gp_journal.specs.Journal.{items_of, noted};
-ghost use Rattle.opt_core.specs.Core.{reached, AllApply};
-ghost use Rattle.opt_worker.specs.Replica.{IsReplica};
-ghost use Rattle.gp_system.specs.Gp.{gp_means};
-ghost use Rattle.gp_system.specs.inside.Pursued.{IsPursued, HasUsed, noted_but_last_turn};
+ghost use Rattle.gp_system.specs.inside.Pursued.{IsPursued, IsBehind, HasUsed, noted_but_last_turn};
 
 use crate::goal::{CallGoal, Fault};
 use crate::gp::Gp;
@@ -96,23 +93,22 @@ pub(crate) fn brought(
     bring_all(rules, missing, trail, replicas)
 }
 
-// Makes the steps on each replica that it has not made yet. The base, from which they began, has this depth.
+// Makes the steps on each replica that it has not made yet, so that it is where the trail is.
 fn level(
     system: &Gp<'_>,
-    depth: u64,
     entries: &[Found],
+    trail: &Trail,
     replicas: Vec<Trail>,
 ) -> Result<Vec<Trail>, NoMemory>
-    requires { (goal : CallGoal) × (base : AnyTrail) × (length base.before ≡ depth) × AllApply (gp_means system.now) goal base entries.now × All (IsReplica (gp_means system.now) base entries.now) replicas.items }
-    ensures level { (goal : CallGoal) (base : AnyTrail) → length base.before ≡ depth → AllApply (gp_means system.now) goal base entries.now → All (IsReplica (gp_means system.now) base entries.now) replicas.items
-        → IfOk result (λ v. All (λ t. t ≡ reached (gp_means system.now) base entries.now) v.items) }
+    requires { All (IsBehind system.now entries.now trail.now) replicas.items }
+    ensures all { IfOk result (λ v. All (λ t. t ≡ trail.now) v.items) }
     ensures len { IfOk result (λ v. vec_len v ≡ vec_len replicas) }
 {
     let mut left = replicas;
     let mut level = Vec::with_capacity(*left.allocator(), left.len())?;
     while let Some(mut replica) = left.pop() {
-        let made = (replica.depth() - depth) as usize;
-        follow(system, &mut replica, &entries[made..])?;
+        let lacking = (trail.depth() - replica.depth()) as usize;
+        follow(system, &mut replica, &entries[entries.len() - lacking..])?;
         level.push(replica)?;
     }
     Ok(level)
@@ -135,13 +131,12 @@ pub(crate) fn pursue_goal<P: Pace + Sync, R: Threads + Wait + Sync>(
     ensures there { IfOk result (λ p. All (λ t. t ≡ p.trail) p.replicas.items) }
     ensures few { IfOk result (λ p. vec_len p.replicas < 2 ^ 32) }
 {
-    let depth = trail.depth();
     let Ok(core) = Core::start(*replicas.allocator(), system, trail, goal, left) else {
         return Err(NoMemory);
     };
     let (core, replicas) = pursue(rt, system, core, replicas, pace);
     let (trail, entries, left, ending) = core.into_parts();
-    let replicas = level(system, depth, &entries, replicas)?;
+    let replicas = level(system, &entries, &trail, replicas)?;
     match ending {
         None => Err(NoMemory),
         Some(ending) => Ok(Pursued {

@@ -1,5 +1,5 @@
 -- What a goal that a crew pursued came to, and what a run with a crew keeps.
-use Rattle.std.specs.Prelude.{◌≡◌, ◌⊎◌, ℕ, ◌+◌, ◌-◌, ◌*◌, ◌^◌, ◌<◌, ◌≤◌, Bool, List, [], ◌∷◌, ◌++◌, All, map, length, take, Some}
+use Rattle.std.specs.Prelude.{◌≡◌, ◌⊎◌, ℕ, ◌+◌, ◌-◌, ◌*◌, ◌^◌, ◌<◌, ◌≤◌, Bool, List, [], ◌∷◌, ◌++◌, All, map, length, take, drop, Some}
 use Rattle.gp_values.specs.Graph.{Graph}
 use Rattle.gp_syntax.specs.declared.found.Item.{Item}
 use Rattle.gp_syntax.specs.declared.found.Item.TheVariants as items
@@ -17,7 +17,7 @@ use Rattle.opt_system.specs.declared.answers.Mode.{Mode}
 use Rattle.opt_system.specs.declared.answers.Mode.TheVariants.{Once, Saturate}
 use Rattle.opt_core.specs.declared.event.Ending.{Ending}
 use Rattle.opt_core.specs.declared.event.Ending.TheVariants as ending
-use Rattle.opt_core.specs.Core.{IsLegal}
+use Rattle.opt_core.specs.Core.{IsLegal, AllApply, reached}
 use Rattle.gp_system.specs.declared.goal.CallGoal.{CallGoal}
 use Rattle.gp_system.specs.declared.goal.Fault.{Fault}
 use Rattle.gp_system.specs.Gp.{RuleSystem, gp_means}
@@ -28,6 +28,15 @@ use Rattle.gp_system.specs.inside.Viewed.{Shown, view_of}
 pub record IsPursued (system : RuleSystem) (goal : CallGoal) (base : Trail) (given : ℕ) (at : Trail) (entries : List Found) (left : ℕ) (x : Ending Fault) : Type 0 where
   pub quiet : List Bool
   pub legal : IsLegal (gp_means system) goal base at entries quiet given left (Some x)
+
+-- a trail that has made all but the last ones of these entries, which lead it to the other
+pub record IsBehind (system : RuleSystem) (entries : List Found) (trail at : Trail) : Type 0 where
+  pub lacking : ℕ
+  pub few : lacking ≤ length entries
+  pub deep : length at.before + lacking ≡ length trail.before
+  pub goal : CallGoal
+  pub applies : AllApply (gp_means system) goal at (drop (length entries - lacking) entries)
+  pub leads : reached (gp_means system) at (drop (length entries - lacking) entries) ≡ trail
 
 -- so many of the items of these matches are used: all, or all but the turn after the last step
 abbrev pub HasUsed : Mode → List Found → ℕ → Type 0

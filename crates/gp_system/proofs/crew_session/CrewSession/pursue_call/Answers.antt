@@ -1,0 +1,29 @@
+use Rattle.std.proofs.Common.{◌≡◌, ◌∙◌, ◌<◌, ◌^◌, ◌++◌, ◌-◌, take, List, map, length, refl, ap, sym, subst, arith}
+use Rattle.gp_syntax.specs.declared.command.ProgramParts.{ProgramParts}
+use Rattle.gp_syntax.specs.declared.found.Item.{Item}
+use Rattle.gp_syntax.specs.Tree.{rule_of_tree}
+use Rattle.gp_journal.specs.Trail.{rooted}
+use Rattle.gp_journal.specs.Leads.{Leads}
+use Rattle.gp_journal.specs.Journal.{items_of, noted, Kept}
+use Rattle.gp_system.specs.inside.Viewed.{Shown}
+use Rattle.gp_system.proofs.Crews.{way_all, led_on, settled_on, crewed_put}
+use Rattle.gp_system.proofs.crew_session.CrewSession.pursue_call.Goals as goal
+
+pub brought-requires-clause-way : goal.brought-requires-clause-way
+brought-requires-clause-way g c =
+    way_all c.self.inside.session c.self.inside.system c.self.inside.crew.workers c.self.inside.had c.replace-had.result c.self.inside.replicas.items c.replace-replicas.result.items c.rules-rules.result.now c.as_slice.result.now c.take_apart-trail.result.0 c.self.invariant
+    c.rules-rules.ensures (c.as_slice.ensures ∙ ap (λ (k : Kept). k.items) c.take_apart-trail.ensures.items) c.take_apart-trail.ensures.trail (ap (λ v. v.items) c.replace-replicas.ensures.value) c.replace-had.ensures.value c.take_apart-trail.ensures.of_rules c.take_apart-trail.ensures.well_formed
+
+pub put_together-requires : goal.put_together-requires
+put_together-requires g c =
+    subst (λ (p : ProgramParts). Leads (map rule_of_tree p.rules) (items_of c.note_used.new.items.items) (rooted c.in_ok-pursued.pursued.trail) c.in_ok-pursued.pursued.trail) (sym (ap (λ (s : Shown). s.program) c.take_apart-trail.ensures.empty))
+    (led_on c.self.inside.session c.self.inside.system c.args.goal c.take_apart-trail.result.0 c.in_ok-pursued.pursued.trail c.left-left.result c.in_ok-pursued.pursued.left (c.left-left.result - c.in_ok-pursued.pursued.left) c.in_ok-pursued.pursued.entries.items c.in_ok-pursued.pursued.ending c.note_used.new.items.items c.self.invariant.system c.in_ok-pursued.ensures.pursued c.take_apart-trail.ensures.trail
+    c.take_apart-trail.ensures.of_rules c.take_apart-trail.ensures.well_formed c.take_apart-trail.ensures.numbered (c.in_ok-note_used.ensures.items ∙ ap (λ (k : Kept). k.items ++ take (c.left-left.result - c.in_ok-pursued.pursued.left) (noted c.args.goal.mode c.in_ok-pursued.pursued.entries.items)) c.take_apart-trail.ensures.items) refl)
+
+pub invariant_of-self-2 : goal.invariant_of-self-2
+invariant_of-self-2 g c =
+    crewed_put c.self.inside.session c.put_together.new.self c.take_apart-trail.new.self.program c.self.inside.system c.self.inside.crew.workers (length c.as_slice-2.result.now) c.in_ok-pursued.pursued.replicas.items c.in_ok-pursued.pursued.trail c.note_used.new.items.items c.note_used.new.items.backs c.in_ok-pursued.pursued.left
+    c.put_together.ensures (ap (λ (s : Shown). s.program) c.take_apart-trail.ensures.empty) c.self.invariant.system c.self.invariant.some (put_together-requires g c.before)
+    (settled_on c.self.inside.session c.self.inside.system c.args.goal c.take_apart-trail.result.0 c.in_ok-pursued.pursued.trail c.left-left.result c.in_ok-pursued.pursued.left (c.left-left.result - c.in_ok-pursued.pursued.left) c.in_ok-pursued.pursued.entries.items c.in_ok-pursued.pursued.ending c.note_used.new.items.items c.self.invariant.system c.in_ok-pursued.ensures.pursued c.take_apart-trail.ensures.trail
+    c.take_apart-trail.ensures.of_rules c.take_apart-trail.ensures.well_formed c.take_apart-trail.ensures.numbered (c.in_ok-note_used.ensures.items ∙ ap (λ (k : Kept). k.items ++ take (c.left-left.result - c.in_ok-pursued.pursued.left) (noted c.args.goal.mode c.in_ok-pursued.pursued.entries.items)) c.take_apart-trail.ensures.items) refl c.self.invariant.settled)
+    c.in_ok-pursued.ensures.there (omega (arith, c.in_ok-pursued.ensures.few, c.in_ok-pursued.pursued.replicas.ok.0)) (ap (λ (l : List Item). length l) c.as_slice-2.ensures)
