@@ -73,6 +73,7 @@ pub(crate) fn run_command<R, E: Engine<R>, C: Chooser>(
     engine: &mut E,
     chooser: &mut C,
 ) -> Stop
+    requires ready { (e : E) → E.ready e }
     requires own { map command_of procedures.now ≡ (E.view engine.old).program.procedures }
     requires fits { Fits (E.view engine.old).program (Nests (E.view engine.old).program depth) (command_of command.now) }
     ensures { HasStopped C.answer C.next result (command_of command.now) (E.view engine.old) (E.view engine.new) (C.state chooser.old) (C.state chooser.new) }
@@ -145,6 +146,7 @@ fn run_sequence<R, E: Engine<R>, C: Chooser>(
     engine: &mut E,
     chooser: &mut C,
 ) -> Stop
+    requires ready { (e : E) → E.ready e }
     requires own { map command_of procedures.now ≡ (E.view engine.old).program.procedures }
     requires first { Fits (E.view engine.old).program (Nests (E.view engine.old).program depth) (command_of first.now) }
     requires rest { EachFits (E.view engine.old).program (Nests (E.view engine.old).program depth) (map command_of rest.now) }
@@ -174,6 +176,7 @@ fn run_if<R, E: Engine<R>, C: Chooser>(
     engine: &mut E,
     chooser: &mut C,
 ) -> Stop
+    requires ready { (e : E) → E.ready e }
     requires own { map command_of procedures.now ≡ (E.view engine.old).program.procedures }
     requires condition { Fits (E.view engine.old).program (Nests (E.view engine.old).program depth) (command_of condition.now) }
     requires then { Fits (E.view engine.old).program (Nests (E.view engine.old).program depth) (command_of then.now) }
@@ -209,6 +212,7 @@ fn run_try<R, E: Engine<R>, C: Chooser>(
     engine: &mut E,
     chooser: &mut C,
 ) -> Stop
+    requires ready { (e : E) → E.ready e }
     requires own { map command_of procedures.now ≡ (E.view engine.old).program.procedures }
     requires condition { Fits (E.view engine.old).program (Nests (E.view engine.old).program depth) (command_of condition.now) }
     requires then { Fits (E.view engine.old).program (Nests (E.view engine.old).program depth) (command_of then.now) }
@@ -239,6 +243,7 @@ fn run_loop<R, E: Engine<R>, C: Chooser>(
     engine: &mut E,
     chooser: &mut C,
 ) -> Stop
+    requires ready { (e : E) → E.ready e }
     requires own { map command_of procedures.now ≡ (E.view engine.old).program.procedures }
     requires fits { Fits (E.view engine.old).program (Nests (E.view engine.old).program depth) (command_of body.now) }
     ensures { HasStopped C.answer C.next result (Loop (command_of body.now)) (E.view engine.old) (E.view engine.new) (C.state chooser.old) (C.state chooser.new) }

@@ -153,6 +153,8 @@ impl<'a> EmptyHost<'a> {
 impl<'a, R> Engine<R> for EmptyHost<'a> {
     ghost view = { λ s. empty_view s.program.now s.rules.items s.events.items s.left s.room };
 
+    ghost ready = { λ _. Unit {0} };
+
     fn call(&mut self, _rt: &R, call: u32) -> Called {
         self.take(call)
     }

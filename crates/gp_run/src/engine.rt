@@ -47,14 +47,19 @@ pub enum Turned {
 pub trait Engine<R> {
     ghost view: { Self → View };
 
+    /// What has to hold where it is called: of an engine whose calls start threads, that these may share the runtime value.
+    ghost ready: { Self → Type 0 };
+
     /// One step by a match of the rule set of this number.
     fn call(&mut self, rt: &R, call: u32) -> Called
-        requires { call < length (view self.old).program.sets }
+        requires ready { ready self.old }
+        requires set { call < length (view self.old).program.sets }
         ensures { HasCalled call result (view self.old) (view self.new) };
 
     /// The whole loop over that call, each turn of it counted, and its last turn taken back.
     fn repeat(&mut self, rt: &R, call: u32) -> Repeated
-        requires { call < length (view self.old).program.sets }
+        requires ready { ready self.old }
+        requires set { call < length (view self.old).program.sets }
         ensures { HasRepeated call result (view self.old) (view self.new) };
 
     /// Counts the beginning of a turn of a loop.

@@ -33,7 +33,8 @@ pub fn run<R, E: Engine<R>, C: Chooser>(
     engine: &mut E,
     chooser: &mut C,
 ) -> Finish
-    requires { program_of_tree program.now ≡ (E.view engine.old).program }
+    requires ready { (e : E) → E.ready e }
+    requires program { program_of_tree program.now ≡ (E.view engine.old).program }
     ensures { HasFinished C.answer C.next result (E.view engine.old).program.main (E.view engine.old) (E.view engine.new) (C.state chooser.old) (C.state chooser.new) }
 {
     let parts = program.parts();

@@ -18,7 +18,7 @@ use gp_memory::NoMemory;
 use gp_run::{Called, Engine, Repeated, Turned};
 use gp_syntax::Program;
 use opt_core::Ending;
-use opt_worker::Pace;
+use opt_worker::Pacing;
 use std::alloc::Global;
 use std::marker::Model;
 use std::mem;
@@ -28,16 +28,16 @@ use std::thread::Threads;
 /// A run with a crew. Contracts see what they see of a `Session`. The workers' trails are made at the first call that goes
 /// to the crew and kept, with how many items of the journal they have had.
 #[derive(Drop)]
-pub struct CrewSession<'a, P> {
+pub struct CrewSession<'a> {
     session: Session<'a>,
     system: Gp<'a>,
     crew: Crew,
-    pace: &'a P,
+    pace: &'a Pacing,
     replicas: Vec<Trail>,
     had: usize,
 }
 
-impl<'a, P> Model for CrewSession<'a, P> {
+impl<'a> Model for CrewSession<'a> {
     ghost use Rattle.gp_system.specs.inside.Viewed.{Shown, shown_code};
     ghost use Rattle.gp_system.specs.inside.Pursued.{IsCrewed};
 
@@ -63,22 +63,22 @@ fn called(ending: Ending<Fault>) -> Called
     }
 }
 
-impl<'a, P> CrewSession<'a, P> {
+impl<'a> CrewSession<'a> {
     // Whether the call goes to the crew.
     fn is_wide(&self, call: u32) -> bool {
         self.system.is_wide(call, self.session.graph(), self.crew.fan)
     }
 }
 
-impl<'a, P: Pace + Sync> CrewSession<'a, P> {
+impl<'a> CrewSession<'a> {
     /// At the beginning of a run of the program on the host by this crew.
     pub fn new(
         alloc: Global,
         program: &'a Program,
         host: Graph,
         crew: Crew,
-        pace: &'a P,
-    ) -> Result<CrewSession<'a, P>, NoMemory>
+        pace: &'a Pacing,
+    ) -> Result<CrewSession<'a>, NoMemory>
         requires { 0 < crew.workers }
         ensures { IfOk result (λ s. s ≡ begun program.now host.graph crew.bound) }
     {
@@ -165,8 +165,12 @@ impl<'a, P: Pace + Sync> CrewSession<'a, P> {
     }
 }
 
-impl<'a, P: Pace + Sync, R: Threads + Wait + Sync> Engine<R> for CrewSession<'a, P> {
+impl<'a, R: Threads + Wait + Sync> Engine<R> for CrewSession<'a> {
+    ghost use denote.Param.Send.{IsSync};
+
     ghost view = { view_of };
+
+    ghost ready = { λ _. IsSync R.row };
 
     fn call(&mut self, rt: &R, call: u32) -> Called {
         if self.is_wide(call) {

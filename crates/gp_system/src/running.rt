@@ -10,7 +10,7 @@ use crate::session::Session;
 use gp_graph::Graph;
 use gp_run::{Chooser, Finish, run};
 use gp_syntax::Program;
-use opt_worker::Pace;
+use opt_worker::Pacing;
 use std::alloc::Global;
 use std::sync::Wait;
 use std::thread::Threads;
@@ -40,14 +40,14 @@ fn execute_alone<C: Chooser>(
 
 /// Runs the program on the host graph, with at most so many steps and turns as the crew's bound. The answers of `or` are
 /// the chooser's. With two workers or more, calls with many candidates are searched by all of them, which the pace may hold.
-pub fn execute<C: Chooser, P: Pace + Sync, R: Threads + Wait + Sync>(
+pub fn execute<C: Chooser, R: Threads + Wait + Sync>(
     rt: &R,
     alloc: Global,
     program: &Program,
     host: Graph,
     crew: Crew,
     chooser: &mut C,
-    pace: &P,
+    pace: &Pacing,
 ) -> Outcome
     ensures { HasEnded C.answer C.next (program_of_tree program.now) host.graph crew.bound (C.state chooser.old) (C.state chooser.new) result }
 {

@@ -12,7 +12,7 @@ use gp_search::Sought;
 use gp_syntax::{Boxed, Command, Found, Item, Items, Program, ProgramParts, Rule};
 use gp_values::{List, NodeMark};
 use opt_system::{System, Verdict};
-use opt_worker::Free;
+use opt_worker::Pacing;
 use std::alloc::Global;
 use std::sync::Wait;
 use std::test::Fail;
@@ -112,7 +112,7 @@ fn outcome<R: Threads + Wait + Sync>(
         return Err(Fail::from("the program is not plain"));
     };
     let host = host(alloc)?;
-    match execute(rt, alloc, &program, host, crew, &mut Bits(0), &Free) {
+    match execute(rt, alloc, &program, host, crew, &mut Bits(0), &Pacing::Free) {
         Outcome::Graph(journal) => shown(alloc, &journal, " graph"),
         Outcome::Fail(journal) => shown(alloc, &journal, " fail"),
         Outcome::Bound(journal) => shown(alloc, &journal, " bound"),

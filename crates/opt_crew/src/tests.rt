@@ -4,15 +4,12 @@ ghost use Rattle.std.specs.Prelude.{◌≡◌, [], None, IfOk, replicate, true, 
 ghost use Rattle.std.specs.List.{All};
 ghost use Rattle.opt_cells.specs.Row.{row};
 
-mod paces;
-
 use crate::pursue;
 use opt_cells::{CellRow, Cells, CellsGoal, Never};
 use opt_core::{Core, Ending};
 use opt_gate::Gate;
 use opt_system::Mode;
-use opt_worker::{Free, Pace, work_on};
-use paces::Held;
+use opt_worker::{Free, Held, Pace, work_on};
 use std::alloc::Global;
 use std::process::Abort;
 use std::sync::Wait;

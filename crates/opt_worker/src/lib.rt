@@ -6,15 +6,17 @@
 //! replica is the base after a beginning of the entries, whose length its depth tells (`specs/Replica`). Where memory is
 //! refused to it, it stops the goal.
 //!
-//! `work` and `work_on` may wait, for turns. A `Pace` may hold workers between searches and turns, as tests do: `Free` does
-//! nothing. That each event's condition holds is proved at each turn; definitions that only bodies need are in `specs/inside`.
+//! `work` and `work_on` may wait, for turns. A `Pace` may hold workers between searches and turns, as tests do by `Held`:
+//! `Free` does nothing, and `Pacing` is either. That each event's condition holds is proved at each turn; definitions that only bodies need are in `specs/inside`.
 #![tactic(auto)]
 
+mod held;
 mod pace;
 mod sharing;
 mod worker;
 
-pub use pace::{Free, Pace};
+pub use held::Held;
+pub use pace::{Free, Pace, Pacing};
 pub use sharing::job_may_be_taken;
 pub use worker::{follow, work, work_on};
 

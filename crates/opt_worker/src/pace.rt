@@ -1,5 +1,6 @@
 //! What may hold workers, and hears of what they do.
 
+use crate::held::Held;
 use std::sync::Wait;
 
 /// What is called as workers search and report. All workers share one value, and a call may wait. It answers nothing, so
@@ -20,4 +21,27 @@ impl Pace for Free {
     fn searched(&self, _rt: &impl Wait, _worker: u32, _told: u64) {}
 
     fn turned(&self, _rt: &impl Wait, _worker: u32, _told: u64, _committed: bool) {}
+}
+
+/// The paces that a program hands to its runs: one that holds nobody, or one that holds two workers to an order.
+#[derive(Drop)]
+pub enum Pacing {
+    Free,
+    Held(Held),
+}
+
+impl Pace for Pacing {
+    fn searched(&self, rt: &impl Wait, worker: u32, told: u64) {
+        match self {
+            Pacing::Free => {}
+            Pacing::Held(held) => held.searched(rt, worker, told),
+        }
+    }
+
+    fn turned(&self, rt: &impl Wait, worker: u32, told: u64, committed: bool) {
+        match self {
+            Pacing::Free => {}
+            Pacing::Held(held) => held.turned(rt, worker, told, committed),
+        }
+    }
 }

@@ -178,11 +178,11 @@ run_command-returns-in-Loop g t c =
 
 pub run_command-call-requires : goal.run_command-call-requires
 run_command-call-requires g t c =
-    subst (λ (p : meant.Command). Fits (g.E.Engine.view c.args.engine.now).program (Nests (g.E.Engine.view c.args.engine.now).program c.args.depth) p) (ap command_of c.in-Call.is ∙ command_of-Call c.in-Call.call) c.requires.fits
+    record { ready = c.requires.ready c.args.engine.now; set = subst (λ (p : meant.Command). Fits (g.E.Engine.view c.args.engine.now).program (Nests (g.E.Engine.view c.args.engine.now).program c.args.depth) p) (ap command_of c.in-Call.is ∙ command_of-Call c.in-Call.call) c.requires.fits }
 
 pub run_loop-repeat-requires : goal.run_loop-repeat-requires
 run_loop-repeat-requires g t c =
-    subst (λ (p : meant.Command). Fits (g.E.Engine.view c.args.engine.now).program (Nests (g.E.Engine.view c.args.engine.now).program c.args.depth) p) (ap command_of c.in-Call.is ∙ command_of-Call c.in-Call.call) c.requires.fits
+    record { ready = c.requires.ready c.args.engine.now; set = subst (λ (p : meant.Command). Fits (g.E.Engine.view c.args.engine.now).program (Nests (g.E.Engine.view c.args.engine.now).program c.args.depth) p) (ap command_of c.in-Call.is ∙ command_of-Call c.in-Call.call) c.requires.fits }
 
 pub run_command-overflow_sub-depth : goal.run_command-overflow_sub-depth
 run_command-overflow_sub-depth g t c = positive_depth _ c.args.depth c.in-Proc.procedure c.args.command.now c.in-Proc.is c.requires.fits

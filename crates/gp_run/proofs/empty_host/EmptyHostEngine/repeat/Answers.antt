@@ -7,7 +7,7 @@ pub turns-init : goal.turns-init
 turns-init g c = turns_none _ _
 
 pub take-requires : goal.take-requires
-take-requires g c = subst (λ (p : Program). c.args.call < length p.sets) (sym (c.in-Made.ensures.adds.program ∙ c.turns.invariant.adds.program)) c.requires
+take-requires g c = subst (λ (p : Program). c.args.call < length p.sets) (sym (c.in-Made.ensures.adds.program ∙ c.turns.invariant.adds.program)) c.requires.set
 
 pub turns-preserved : goal.turns-preserved
 turns-preserved g c = turns_more _ _ _ _ _ c.turns.invariant c.in-Made.ensures c.in-Stepped.ensures

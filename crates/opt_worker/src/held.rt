@@ -1,16 +1,17 @@
 //! A pace that holds two workers to an order.
 
-use opt_worker::Pace;
+use crate::pace::Pace;
 use std::sync::Wait;
 use std::sync::atomic::{AtomicBool, AtomicU64, Ordering};
 use std::thread;
 
-// Holds worker 0 in its search until worker 1 has committed, and worker 1 in its searches until worker 0 searches too. It
-// holds them for so many looks: where these are spent, the two did not search at the same time.
+/// Holds worker 0 in its searches until worker 1 has committed, and worker 1 in its searches until worker 0 searches too,
+/// so that the two search at the same time. It holds them for so many looks: where these are spent, they did not.
 #[derive(Drop)]
 pub struct Held {
     looks: u64,
     zero_searched: AtomicBool,
+    one_searched: AtomicBool,
     one_committed: AtomicBool,
     late: AtomicBool,
     // Of the first report of worker 0: 1 where it committed, else 2.
@@ -18,22 +19,29 @@ pub struct Held {
 }
 
 impl Held {
+    /// Nobody has searched yet.
     pub fn new(looks: u64) -> Held {
         Held {
             looks,
             zero_searched: AtomicBool::new(false),
+            one_searched: AtomicBool::new(false),
             one_committed: AtomicBool::new(false),
             late: AtomicBool::new(false),
             first_of_zero: AtomicU64::new(0),
         }
     }
 
-    // Whether the two did not search at the same time.
+    /// Whether the looks were spent: the two did not search at the same time.
     pub fn was_late(&self) -> bool {
         self.late.load(Ordering::SeqCst)
     }
 
-    // Whether the first report of worker 0 committed a match.
+    /// Whether a search of each of the two was heard of.
+    pub fn heard_both(&self) -> bool {
+        self.zero_searched.load(Ordering::SeqCst) && self.one_searched.load(Ordering::SeqCst)
+    }
+
+    /// Whether the first report of worker 0 committed a match.
     pub fn first_of_zero(&self) -> Option<bool> {
         match self.first_of_zero.load(Ordering::SeqCst) {
             0 => None,
@@ -58,6 +66,7 @@ impl Pace for Held {
             self.zero_searched.store(true, Ordering::SeqCst);
             self.wait_for(&self.one_committed);
         } else {
+            self.one_searched.store(true, Ordering::SeqCst);
             self.wait_for(&self.zero_searched);
         }
     }
