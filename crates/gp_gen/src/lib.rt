@@ -1,0 +1,6 @@
+//! Demo workloads: a program text and a host text, made from a kind, a size and a seed.
+#![tactic(auto)]
+
+mod kind;
+
+pub use kind::Kind;
