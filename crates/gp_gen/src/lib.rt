@@ -2,5 +2,7 @@
 #![tactic(auto)]
 
 mod kind;
+mod texts;
 
 pub use kind::Kind;
+pub use texts::generate;

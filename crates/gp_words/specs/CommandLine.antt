@@ -7,7 +7,7 @@ use Rattle.clap.specs.declared.builder.action.ArgAction.TheVariants.{Set, SetTru
 use Rattle.gp_values.specs.Names.{Name, same_name}
 use Rattle.gp_gen.specs.declared.kind.Kind.{Kind}
 use Rattle.gp_gen.specs.declared.kind.Kind.TheVariants.{Closure, Colour, Tree}
-use Rattle.gp_gen.specs.Size.{greatest_size}
+use Rattle.gp_gen.specs.Host.{largest}
 
 -- `run`: the names of the program's file and of the host's, how many items may be counted, with what the choices of `or`
 -- begin, whether the journal is wanted, how many workers there are, and how many candidates they are wanted for
@@ -157,7 +157,7 @@ demo_with kind size seed workers fan = None
 
 abbrev pub demo_words : List Row → Option Name → Option Name → Option Name → Option Command
 demo_words rows (Some kind) (Some size) (Some seed) =
-    option_and_then (λ (k : Kind). demo_with k (number_between 1 (greatest_size k) size) (number_between 0 greatest_seed seed) (workers_of rows) (fan_of rows)) (kind_named kind)
+    option_and_then (λ (k : Kind). demo_with k (number_between 1 (largest k) size) (number_between 0 greatest_seed seed) (workers_of rows) (fan_of rows)) (kind_named kind)
 demo_words rows kind size seed = None
 
 -- what clap found at `demo`

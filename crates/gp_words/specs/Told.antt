@@ -1,5 +1,5 @@
 -- A command in memory as the command that it is.
-use Rattle.gp_gen.specs.Size.{IsSize}
+use Rattle.gp_gen.specs.Host.{IsSize}
 use Rattle.gp_words.specs.declared.command.RunCommand.{RunCommand}
 use Rattle.gp_words.specs.declared.command.DemoCommand.{DemoCommand}
 use Rattle.gp_words.specs.declared.command.Command.{Command}

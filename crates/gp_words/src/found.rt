@@ -2,7 +2,7 @@
 
 ghost use Rattle.std.specs.Prelude.{◌≡◌, ◌≤◌, Option, Some, IfSome, option_map};
 ghost use Rattle.clap.specs.Words.{found_of, rows_of, first_of};
-ghost use Rattle.gp_gen.specs.Size.{greatest_size};
+ghost use Rattle.gp_gen.specs.Host.{largest};
 ghost use Rattle.gp_words.specs.CommandLine as spec;
 ghost use Rattle.gp_words.specs.Told.{command_now, HasSize};
 
@@ -104,8 +104,8 @@ fn kind_named(word: &str) -> Option<Kind>
     }
 }
 
-fn greatest_size(kind: Kind) -> u64
-    ensures { result ≡ greatest_size kind }
+fn largest(kind: Kind) -> u64
+    ensures { result ≡ largest kind }
 {
     match kind {
         Kind::Closure | Kind::Colour => 500,
@@ -120,11 +120,11 @@ fn demo_with<'a>(
     size: &str,
     seed: &str,
 ) -> Option<Command<'a>>
-    ensures demo { option_map command_now result ≡ spec.demo_with kind (spec.number_between 1 (greatest_size kind) size.now) (spec.number_between 0 spec.greatest_seed seed.now)
+    ensures demo { option_map command_now result ≡ spec.demo_with kind (spec.number_between 1 (largest kind) size.now) (spec.number_between 0 spec.greatest_seed seed.now)
         (spec.workers_of (rows_of (found_of matches.now))) (spec.fan_of (rows_of (found_of matches.now))) }
     ensures size { IfSome result HasSize }
 {
-    let size = number_between(1, greatest_size(kind), size);
+    let size = number_between(1, largest(kind), size);
     let seed = number_between(0, u64::MAX, seed);
     match (size, seed, workers_of(matches), fan_of(matches)) {
         (Some(size), Some(seed), Some(workers), Some(fan)) => Some(Command::Demo(DemoCommand {
