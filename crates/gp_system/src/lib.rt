@@ -7,6 +7,7 @@
 #![tactic(auto)]
 
 mod answer;
+mod crew;
 mod goal;
 mod gp;
 mod outcome;
@@ -17,6 +18,7 @@ pub mod sharing;
 #[cfg(test)]
 mod tests;
 
+pub use crew::Crew;
 pub use goal::{CallGoal, Fault};
 pub use gp::Gp;
 pub use outcome::Outcome;

@@ -3,24 +3,30 @@
 ghost use Rattle.gp_syntax.specs.Tree.{program_of_tree};
 ghost use Rattle.gp_system.specs.Ended.{HasEnded};
 
+use crate::crew::Crew;
 use crate::outcome::Outcome;
 use crate::session::Session;
 use gp_graph::Graph;
 use gp_run::{Chooser, Finish, run};
 use gp_syntax::Program;
+use opt_worker::Pace;
 use std::alloc::Global;
+use std::sync::Wait;
+use std::thread::Threads;
 
 /// Runs the program on the host graph, with at most so many steps and turns. The answers of `or` are the chooser's.
-pub fn execute<C: Chooser>(
+pub fn execute<C: Chooser, P: Pace + Sync, R: Threads + Wait + Sync>(
+    _rt: &R,
     alloc: Global,
     program: &Program,
     host: Graph,
-    bound: u64,
+    crew: Crew,
     chooser: &mut C,
+    _pace: &P,
 ) -> Outcome
-    ensures { HasEnded C.answer C.next (program_of_tree program.now) host.graph bound (C.state chooser.old) (C.state chooser.new) result }
+    ensures { HasEnded C.answer C.next (program_of_tree program.now) host.graph crew.bound (C.state chooser.old) (C.state chooser.new) result }
 {
-    let mut session = match Session::new(alloc, program, host, bound) {
+    let mut session = match Session::new(alloc, program, host, crew.bound) {
         Ok(session) => session,
         Err(_) => return Outcome::NoMemory,
     };
