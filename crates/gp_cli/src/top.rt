@@ -1,6 +1,6 @@
 //! The top call.
 
-ghost use Rattle.std.specs.Prelude.{◌≡◌, ◌++◌, List, map, string_bytes, option_map, false, IfOk, IfSome, OnErr};
+ghost use Rattle.std.specs.Prelude.{◌≡◌, ◌++◌, List, map, string_bytes, Some, option_map, false, IfOk, IfSome, OnErr};
 ghost use Rattle.std.specs.Option.{option_map_or};
 ghost use Rattle.gp_values.specs.Names.{Name as AnyName};
 ghost use Rattle.gp_words.specs.CommandLine as spec;
@@ -49,6 +49,24 @@ fn said_by_files<'a, F: Files, P: Pace + Sync, R: Threads + Wait + Sync>(
     Ok(run(rt, alloc, &program, graph, crew, command.seed, pace)?)
 }
 
+// What a command comes to.
+fn said_by_command<'a, F: Files, P: Pace + Sync, R: Threads + Wait + Sync>(
+    rt: &R,
+    alloc: Global,
+    command: Command<'a>,
+    files: &mut F,
+    pace: &P,
+) -> Result<Said<'a>, NoMemory>
+    requires { HasSize command }
+    ensures { IfOk result (λ s. (words : List AnyName) → spec.command_of words ≡ Some (command_now command.entry) →
+        IsTrue words (F.content files.old) (record { before = F.faults files.old; now = F.faults files.new }) (said_of s)) }
+{
+    match command {
+        Command::Run(command) => settled(said_by_files(rt, alloc, command, files, pace)),
+        Command::Demo(command) => settled(demo(rt, alloc, command, pace)),
+    }
+}
+
 // What the words and the files come to.
 fn said_by<'a, F: Files, P: Pace + Sync, R: Threads + Wait + Sync>(
     rt: &R,
@@ -57,14 +75,13 @@ fn said_by<'a, F: Files, P: Pace + Sync, R: Threads + Wait + Sync>(
     files: &mut F,
     pace: &P,
 ) -> Result<Said<'a>, NoMemory>
-    requires { IfSome command.entry HasSize }
+    requires { IfSome command HasSize }
     ensures { IfOk result (λ s. (words : List AnyName) → option_map command_now command.entry ≡ spec.command_of words →
         IsTrue words (F.content files.old) (record { before = F.faults files.old; now = F.faults files.new }) (said_of s)) }
 {
     match command {
         None => Ok(Said::Usage),
-        Some(Command::Run(command)) => settled(said_by_files(rt, alloc, command, files, pace)),
-        Some(Command::Demo(command)) => settled(demo(rt, alloc, command, pace)),
+        Some(command) => said_by_command(rt, alloc, command, files, pace),
     }
 }
 
