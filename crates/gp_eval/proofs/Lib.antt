@@ -1,3 +1,4 @@
 pub mod Chains
 pub mod Between
 pub mod Conditions
+pub mod Denials

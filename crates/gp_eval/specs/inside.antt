@@ -1,3 +1,4 @@
 pub mod Chains
 pub mod Size
 pub mod Between
+pub mod Early

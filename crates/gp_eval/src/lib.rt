@@ -9,6 +9,7 @@
 
 mod arithmetic;
 mod condition;
+mod denied;
 mod edges;
 mod expression;
 mod leaf;
@@ -17,5 +18,6 @@ mod tests;
 mod valued;
 
 pub use condition::holds;
+pub use denied::is_denied;
 pub use expression::value;
 pub use valued::Valued;

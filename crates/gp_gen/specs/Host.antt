@@ -78,9 +78,12 @@ column_pairs n r = map (λ c. (r * n + c, (r + 1) * n + c)) (numbers_below n)
 abbrev pub grid_pairs : ℕ → List (ℕ × ℕ)
 grid_pairs n = flat_map (row_pairs n) (numbers_below n) ++ flat_map (column_pairs n) (numbers_below (n - 1))
 
+abbrev pub plain_edge : ℕ → ℕ → HostEdge
+plain_edge source target = record { source = source; target = target; label = None }
+
 -- between the two of a pair, from the smaller to the greater number, or back where the lowest bit of the word is 1
 abbrev pub grid_edge : (ℕ × ℕ) × ℕ → HostEdge
-grid_edge ((small, great), word) = if word % 2 == 1 then record { source = great; target = small; label = None } else record { source = small; target = great; label = None }
+grid_edge ((small, great), word) = if word % 2 == 1 then plain_edge great small else plain_edge small great
 
 -- ---- the host of a kind
 

@@ -13,7 +13,7 @@ use Rattle.gp_syntax.specs.Tree.{rule_of_tree}
 use Rattle.gp_step.specs.declared.inverse.Inverse.{Inverse}
 use Rattle.gp_syntax.specs.WellFormed.{IsWellFormed}
 use Rattle.gp_step.specs.After.{after}
-use Rattle.gp_step.proofs.Afters.{only_steps}
+use Rattle.gp_step.proofs.Afters.{only_steps, numbered}
 use Rattle.gp_step.specs.Undo.{undone_by}
 use Rattle.gp_journal.specs.Trail.{Trail, led, led_by, advanced, undone, undone_of, back_by}
 use Rattle.gp_journal.specs.Leads.{AppliesBy, StepsBy, Goes}
@@ -100,5 +100,5 @@ pub on_only_step : {X E : Type 0} (r : Result X E) (rules : List Rule) (t u : Tr
 on_only_step r rules t u m e s = on_both r _ _ _ e s (λ a b. only_by_step rules t u m a b)
 
 pub only_after : {X E : Type 0} (o : Result X E) (r : Rule) (g h : Graph) (m : Found) → IsWellFormed r → IsGraph g → OnOk o (h ≡ after r g m) → OnOk o ((k : Graph) → Step r g m k → k ≡ h)
-only_after (Ok x) r g h m c w e = λ k s. only_steps r g m c w k s ∙ sym e
+only_after (Ok x) r g h m c w e = λ k s. only_steps r g m c (numbered g w) k s ∙ sym e
 only_after (Err x) r g h m c w e = tt

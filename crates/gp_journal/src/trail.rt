@@ -76,6 +76,13 @@ impl Trail {
         self.caught
     }
 
+    /// Forgets how many items the last catching up made, as a trail does not know that never caught up.
+    pub fn settle(&mut self)
+        ensures { self.new ≡ record self.old { caught = 0 } }
+    {
+        self.caught = 0;
+    }
+
     // What new parts take their memory from.
     pub(crate) fn allocator(&self) -> Global {
         self.alloc

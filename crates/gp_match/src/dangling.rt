@@ -27,8 +27,8 @@ pub(crate) fn none_dangles(
     true
 }
 
-// Whether the interface has the left node of this place.
-fn is_kept(right: &[RightNode], i: usize) -> bool
+/// Whether the interface has the left node of this place.
+pub fn is_kept(right: &[RightNode], i: usize) -> bool
     ensures { result ≡ is_kept_by right.now i }
 {
     'origins: for node in right {

@@ -15,4 +15,5 @@ mod stand;
 mod tests;
 
 pub use check::{Verdict, check_match, check_parts};
+pub use dangling::is_kept;
 pub use stand::{edge_fits, node_fits};

@@ -10,6 +10,7 @@
 pub mod laws;
 mod operation;
 mod planning;
+pub mod sharing;
 
 pub use operation::{Operation, Plan};
 pub use planning::plan;

@@ -1,3 +1,4 @@
+pub mod Depths
 pub mod Simples
 pub mod RuleLaws
 pub mod CommandLaws

@@ -4,9 +4,9 @@ use Rattle.std.specs.Prelude.{Result, ◌≤◌}
 use Rattle.gp_tokens.specs.declared.token.Token.{Token}
 use Rattle.gp_grammar.specs.Grammar.{shape_of}
 use Rattle.gp_grammar.specs.inside.Reading.{reader_of}
-use Rattle.gp_parse.specs.Depth.{IsShallow, IsTooDeep, FindsDepth, outside}
-use Rattle.gp_parse.specs.inside.Deep.{too_deep_from}
-use Rattle.gp_parse.proofs.Depths.{finds}
+use Rattle.gp_program.specs.Depth.{IsShallow, IsTooDeep, FindsDepth, outside}
+use Rattle.gp_program.specs.inside.Deep.{too_deep_from}
+use Rattle.gp_program.proofs.Depths.{finds}
 use Rattle.gp_syntax.specs.declared.tree.Ast.{Ast}
 use Rattle.gp_expressions.specs.declared.ranged.Ranged.{Ranged}
 use Rattle.gp_program.specs.declared.parse.ParseFault.{ParseFault}

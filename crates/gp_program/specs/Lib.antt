@@ -1,3 +1,4 @@
+pub mod Depth
 pub mod Rules
 pub mod Commands
 pub mod Programs

@@ -4,11 +4,11 @@ ghost use Rattle.std.specs.Prelude.{◌≡◌, ◌≤◌, length};
 ghost use Rattle.gp_program.specs.Program.{ParsesProgram, place_of_start};
 ghost use Rattle.gp_program.specs.inside.Stages.{ReadsTree};
 
+use crate::depth::first_too_deep;
 use crate::program::read_ast;
 use gp_expressions::Ranged;
 use gp_grammar::{ReadError, Tokens};
 use gp_memory::NoMemory as Refused;
-use gp_parse::first_too_deep;
 use gp_syntax::Ast;
 use gp_tokens::Token;
 use std::alloc::Global;

@@ -5,7 +5,7 @@ use Rattle.gp_tokens.specs.declared.fault.LexFault.{LexFault}
 use Rattle.gp_tokens.specs.declared.token.Token.{Token}
 use Rattle.gp_tokens.specs.Lexed.{Outcome, tokens_of}
 use Rattle.gp_tokens.specs.Lines.{token_line}
-use Rattle.gp_parse.specs.Depth.{IsTooDeep, IsShallow}
+use Rattle.gp_program.specs.Depth.{IsTooDeep, IsShallow}
 use Rattle.gp_syntax.specs.declared.tree.Ast.{Ast}
 use Rattle.gp_syntax.specs.Declaration.{rule_of}
 use Rattle.gp_syntax.specs.Fault.{Fault}

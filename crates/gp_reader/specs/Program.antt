@@ -9,7 +9,7 @@ use Rattle.gp_tokens.specs.declared.fault.LexFault.TheVariants as lex_faults
 use Rattle.gp_tokens.specs.declared.token.Token.{Token}
 use Rattle.gp_tokens.specs.Lexed.{tokens_of}
 use Rattle.gp_tokens.specs.Lines.{token_line}
-use Rattle.gp_parse.specs.Depth.{IsTooDeep, IsShallow}
+use Rattle.gp_program.specs.Depth.{IsTooDeep, IsShallow}
 use Rattle.gp_syntax.specs.declared.tree.Ast.{Ast}
 use Rattle.gp_syntax.specs.declared.command.ProgramParts.{ProgramParts}
 use Rattle.gp_syntax.specs.declared.rule.RuleParts.{RuleParts}

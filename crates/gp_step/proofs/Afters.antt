@@ -18,6 +18,7 @@ use Rattle.gp_syntax.specs.Step.{first_fault, kind_or, right_labels, is_new, Pla
 use Rattle.gp_syntax.specs.WellFormed.{IsWellFormed}
 use Rattle.gp_step.specs.inside.Edits.{value_or_empty, made_node, made_edge, image_of, next_of, images_from, images_of, drop_edges, drop_nodes, gone, put_node, put_nodes, put_edges, stepped}
 use Rattle.gp_step.specs.After.{after_at, after}
+use Rattle.gp_step.specs.Laws.{IsNumbered}
 use Rattle.gp_syntax.proofs.Unique.{element}
 use Rattle.gp_syntax.proofs.Kept.{Decides-kept}
 use Rattle.gp_unify.proofs.Candidates.{is_candidate, one_step}
@@ -297,9 +298,9 @@ pub there : {X : Type 0} (o : Option X) (P : X → Type 0) → IsSomeAnd o P →
 there None P h = absurd h
 there (Some x) P h = refl
 
-module _ (r : Rule) (g : Graph) (m : Found) (a : Assignment) (whole : IsGraph g) (w : MatchBy r g m a) (o : IsWellFormed r) where
+module _ (r : Rule) (g : Graph) (m : Found) (a : Assignment) (whole : IsNumbered g) (w : MatchBy r g m a) (o : IsWellFormed r) where
   -- images of left nodes and edges are in use
-  node_below : (i : ℕ) → i < length r.left_nodes → slice_index m.nodes i < g.next_node
+  pub node_below : (i : ℕ) → i < length r.left_nodes → slice_index m.nodes i < g.next_node
   node_below i l =
       let p = element r.left_nodes i l in
       whole.nodes_below (slice_index m.nodes i) (there _ _ (w.nodes i p.0 p.1))
@@ -469,12 +470,18 @@ module _ (r : Rule) (g : Graph) (m : Found) (a : Assignment) (whole : IsGraph g)
 
 -- ---- of a checked rule
 
-pub applying_steps : (r : Rule) (g : Graph) (m : Found) → IsWellFormed r → IsGraph g → Applies r g m → Step r g m (after r g m)
+pub numbered : (g : Graph) → IsGraph g → IsNumbered g
+numbered g w = record { nodes_below = w.nodes_below; edges_below = w.edges_below }
+
+pub leads_on : (r : Rule) (g : Graph) (m : Found) → IsWellFormed r → IsNumbered g → Applies r g m → Step r g m (after r g m)
 unfolding after
-applying_steps r g m c whole k =
+leads_on r g m c whole k =
     let s = is_candidate c k.0 k.1.is_match in
     (k.0, k.1, subst (λ z. StepBy r g m k.0 (after_at r g m z)) (sym s) (steps r g m k.0 whole k.1.is_match c k.1.values))
 
+pub applying_steps : (r : Rule) (g : Graph) (m : Found) → IsWellFormed r → IsGraph g → Applies r g m → Step r g m (after r g m)
+applying_steps r g m c whole k = leads_on r g m c (numbered g whole) k
+
 -- and nowhere else
-pub only_steps : (r : Rule) (g : Graph) (m : Found) → IsWellFormed r → IsGraph g → (h : Graph) → Step r g m h → h ≡ after r g m
-only_steps r g m c whole h t = one_step r g m h (after r g m) c t (applying_steps r g m c whole (t.0, t.1))
+pub only_steps : (r : Rule) (g : Graph) (m : Found) → IsWellFormed r → IsNumbered g → (h : Graph) → Step r g m h → h ≡ after r g m
+only_steps r g m c whole h t = one_step r g m h (after r g m) c t (leads_on r g m c whole (t.0, t.1))

@@ -7,12 +7,12 @@ use Rattle.gp_syntax.specs.Expression.{Expression}
 use Rattle.std.proofs.lemmas.Bool.Decides.{not_from_Decides}
 use Rattle.gp_values.specs.Atoms.{AreAtoms}
 use Rattle.gp_values.specs.Graph.{Graph, Node, Edge, IsGraph, HasNoEdges, node_at, edge_at, with_edge, without_node, without_edge}
-use Rattle.gp_values.proofs.Graphs.{IsGraph-with_node, IsGraph-with_edge, IsGraph-without_node, IsGraph-without_edge, IsGraph-relabeled, IsSome-insert}
+use Rattle.gp_values.proofs.Graphs.{IsGraph-with_node, IsGraph-with_edge, IsGraph-without_node, IsGraph-without_edge, IsGraph-relabeled, IsSome-insert, IsSome-inserted, IsSome-removed}
 use Rattle.gp_syntax.specs.Value.{Assignment, Value, value_of}
 use Rattle.gp_syntax.specs.Step.{Applies}
 use Rattle.gp_unify.proofs.Candidates.{is_candidate}
 use Rattle.gp_step.specs.After.{after_at, after}
-use Rattle.gp_step.specs.Laws.{MakesAtoms, HasOneStep}
+use Rattle.gp_step.specs.Laws.{MakesAtoms, IsNumbered, HasOneStep}
 use Rattle.gp_syntax.specs.Rule.{Rule, RightNode, RightEdge, Found, is_kept}
 use Rattle.gp_syntax.specs.Match.{MatchBy, setting_of}
 use Rattle.gp_syntax.specs.WellFormed.{IsWellFormed}
@@ -20,7 +20,7 @@ use Rattle.gp_step.specs.inside.Edits.{made_node, made_edge, images_of, drop_edg
 use Rattle.gp_syntax.proofs.Declarations.{from_map}
 use Rattle.gp_syntax.proofs.Unique.{element}
 use Rattle.gp_syntax.proofs.Kept.{Decides-kept}
-use Rattle.gp_step.proofs.Afters.{both_values, has_values, applying_steps, only_steps, behind, split_head, edges_dropped, edges_left, nodes_left, drop_edges_nodes, there, kept_apart, stands, last_nodes}
+use Rattle.gp_step.proofs.Afters.{both_values, has_values, leads_on, only_steps, numbered, node_below, behind, split_head, edges_dropped, edges_left, nodes_left, drop_edges_nodes, drop_edges_next_node, drop_nodes_next_node, there, kept_apart, stands, last_nodes}
 
 pub whole_edges : (es : List ℕ) (h : Graph) → IsGraph h → IsGraph (drop_edges es h)
 whole_edges [] h w = w
@@ -93,7 +93,7 @@ module _ (r : Rule) (g : Graph) (m : Found) (a : Assignment) (whole : IsGraph g)
       let z = gone_place (is_kept r) m.nodes n c in
       let k : length m.nodes ≡ length r.left_nodes = w.node_count in
       let b = z.1 in
-      let s : z.0 ≡ i = kept_apart r g m a whole w o z.0 i (omega arith) l z.2 in
+      let s : z.0 ≡ i = kept_apart r g m a (numbered g whole) w o z.0 i (omega arith) l z.2 in
       true≢false (sym ((Decides-kept r i).1 (j, q, h, e)) ∙ ap (is_kept r) (sym s) ∙ z.3) in
       let same : node_at cleared n ≡ node_at g n = nodes_left (gone (is_kept r) m.nodes) without n stays ∙ ap (λ ns. node_at (record g { nodes = ns }) n) (drop_edges_nodes m.edges g) in
       rw same (there _ _ (w.nodes i p.0 p.1))
@@ -106,7 +106,7 @@ module _ (r : Rule) (g : Graph) (m : Found) (a : Assignment) (whole : IsGraph g)
   end_there k l =
       let q = element r.right_nodes k l in
       let e : node_at made (slice_index (images_of r g m) k) ≡ Some (made_node r g m a q.0) =
-      sym (last_nodes r g m a whole w o (slice_index (images_of r g m) k)) ∙ stands r g m a whole w o k q.0 q.1 in
+      sym (last_nodes r g m a (numbered g whole) w o (slice_index (images_of r g m) k)) ∙ stands r g m a (numbered g whole) w o k q.0 q.1 in
       rw e refl
 
   pub either_end : (b : Bool) (j k : ℕ) → j < length r.right_nodes → k < length r.right_nodes → IsSome (node_at made (slice_index (images_of r g m) (if b then j else k)))
@@ -157,5 +157,52 @@ whole_after r g m c whole k atoms =
     (ends.0, ends.1, at_label P es (all_right P ns es h) j q.label i (made_edge r g m k.0 (images_of r g m) q).label (has_values es s v.1 j q.label i)) in
     subst (λ z. IsGraph (after_at r g m z)) (sym (is_candidate c k.0 k.1.is_match)) (IsGraph-stepped r g m k.0 whole k.1.is_match c nodes edges)
 
-pub one_step_on : (r : Rule) (g : Graph) (m : Found) → IsWellFormed r → IsGraph g → HasOneStep r g m
-one_step_on r g m c w = record { leads = applying_steps r g m c w; only = only_steps r g m c w; whole = whole_after r g m c w }
+-- ---- used numbers are below the next ones
+
+below_edges : (es : List ℕ) (h : Graph) → IsNumbered h → IsNumbered (drop_edges es h)
+below_edges [] h w = w
+below_edges (e ∷ es) h w = below_edges es (without_edge h e) (record { nodes_below = w.nodes_below; edges_below = λ k s. w.edges_below k (IsSome-removed h.edges e k s) })
+
+below_nodes : (ns : List ℕ) (h : Graph) → IsNumbered h → IsNumbered (drop_nodes ns h)
+below_nodes [] h w = w
+below_nodes (n ∷ ns) h w = below_nodes ns (without_node h n) (record { nodes_below = λ k s. w.nodes_below k (IsSome-removed h.nodes n k s); edges_below = w.edges_below })
+
+below_one : (m : Found) (o : Option ℕ) (x : Node) (h : Graph) → IsNumbered h → ((i : ℕ) → o ≡ Some i → slice_index m.nodes i < h.next_node) → IsNumbered (put_node m o x h)
+below_one m None x h w f = record {
+  nodes_below = λ n s. elim (IsSome-inserted h.nodes h.next_node n x s) [ inl e ↦ omega arith | inr t ↦ (let b : n < h.next_node = w.nodes_below n t in omega arith) ];
+  edges_below = w.edges_below;
+}
+below_one m (Some i) x h w f = record {
+  nodes_below = λ n s. elim (IsSome-inserted h.nodes (slice_index m.nodes i) n x s) [ inl e ↦ subst (λ k. k < h.next_node) (sym e) (f i refl) | inr t ↦ w.nodes_below n t ];
+  edges_below = w.edges_below;
+}
+
+next_no_less : (m : Found) (o : Option ℕ) (x : Node) (h : Graph) (k : ℕ) → k < h.next_node → k < (put_node m o x h).next_node
+next_no_less m None x h k l = omega arith
+next_no_less m (Some i) x h k l = l
+
+below_put : (m : Found) (make : RightNode → Node) (qs : List RightNode) (h : Graph) → IsNumbered h → ((j i : ℕ) (q : RightNode) → slice_get qs j ≡ Some q → q.origin ≡ Some i → slice_index m.nodes i < h.next_node) → IsNumbered (put_nodes m make qs h)
+below_put m make [] h w f = w
+below_put m make (q ∷ qs) h w f = below_put m make qs (put_node m q.origin (make q) h) (below_one m q.origin (make q) h w (λ i e. f 0 i q refl e)) (λ j i p e o. next_no_less m q.origin (make q) h (slice_index m.nodes i) (f (suc j) i p e o))
+
+below_put_edges : (ds : List Edge) (h : Graph) → IsNumbered h → IsNumbered (put_edges ds h)
+below_put_edges [] h w = w
+below_put_edges (d ∷ ds) h w =
+    below_put_edges ds (with_edge h d) (record { nodes_below = w.nodes_below; edges_below = λ k s. elim (IsSome-inserted h.edges h.next_edge k d s) [ inl e ↦ omega arith | inr t ↦ (let b : k < h.next_edge = w.edges_below k t in omega arith) ] })
+
+cleared_next : (r : Rule) (m : Found) (g : Graph) → (drop_nodes (gone (is_kept r) m.nodes) (drop_edges m.edges g)).next_node ≡ g.next_node
+cleared_next r m g = drop_nodes_next_node (gone (is_kept r) m.nodes) (drop_edges m.edges g) ∙ drop_edges_next_node m.edges g
+
+numbered_stepped : (r : Rule) (g : Graph) (m : Found) (a : Assignment) → IsNumbered g → MatchBy r g m a → IsWellFormed r → IsNumbered (stepped r g m a)
+numbered_stepped r g m a b w o =
+    let first = below_nodes (gone (is_kept r) m.nodes) (drop_edges m.edges g) (below_edges m.edges g b) in
+    let second = below_put m (made_node r g m a) r.right_nodes (drop_nodes (gone (is_kept r) m.nodes) (drop_edges m.edges g)) first
+        (λ j i q h e. subst (λ k. slice_index m.nodes i < k) (sym (cleared_next r m g)) (node_below r g m a b w o i (o.origins j i q h e))) in
+    below_put_edges (map (made_edge r g m a (images_of r g m)) r.right_edges) (put_nodes m (made_node r g m a) r.right_nodes (drop_nodes (gone (is_kept r) m.nodes) (drop_edges m.edges g))) second
+
+pub numbered_after : (r : Rule) (g : Graph) (m : Found) → IsWellFormed r → IsNumbered g → Applies r g m → IsNumbered (after r g m)
+unfolding after
+numbered_after r g m c b k = subst (λ z. IsNumbered (after_at r g m z)) (sym (is_candidate c k.0 k.1.is_match)) (numbered_stepped r g m k.0 b k.1.is_match c)
+
+pub one_step_on : (r : Rule) (g : Graph) (m : Found) → IsWellFormed r → IsNumbered g → HasOneStep r g m
+one_step_on r g m c w = record { leads = leads_on r g m c w; only = only_steps r g m c w; numbered = numbered_after r g m c w; whole = whole_after r g m c }

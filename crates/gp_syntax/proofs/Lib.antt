@@ -20,3 +20,4 @@ pub mod Told
 pub mod CheckedLabels
 pub mod CheckedNames
 pub mod CheckedRules
+pub mod Crossing

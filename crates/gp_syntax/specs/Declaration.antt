@@ -127,7 +127,7 @@ pub record HasInterface (d : Declaration) : Type 0 where
   pub left : first_unknown (node_names d.left) d.interface ≡ None
   pub right : first_unknown (node_names d.right) d.interface ≡ None
 
--- the clauses that a rule of constant labels, without marks, roots, `(B)` and condition, can break
+-- the static clauses of sizes and names, which alone the rule of a declaration needs
 pub record IsWellNamed (d : Declaration) : Type 0 where
   pub left_small : IsSmall d.left
   pub right_small : IsSmall d.right

@@ -13,7 +13,6 @@ pub mod Typing
 pub mod Simple
 pub mod WellFormed
 pub mod Constant
-pub mod Plain
 pub mod Laws
 pub mod Rows
 pub mod Fault

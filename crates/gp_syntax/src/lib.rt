@@ -16,8 +16,8 @@ mod kinds;
 mod label;
 pub mod laws;
 mod name;
-mod plain;
 mod rule;
+pub mod sharing;
 #[cfg(test)]
 mod tests;
 mod tree;
@@ -30,10 +30,6 @@ pub use gp_names::NameTable;
 pub use kinds::{Comparison, NumberKind, VariableType};
 pub use label::SimpleLabel;
 pub use name::Name;
-pub use plain::{
-    PlainLeftEdge, PlainLeftNode, PlainMain, PlainProgram, PlainRightEdge, PlainRightNode,
-    PlainRule,
-};
 pub use rule::{LeftEdge, LeftNode, MarkPattern, RightEdge, RightNode, Rule, RuleParts};
 pub use sqlite_items::{Boxed, Items};
 pub use tree::{Ast, CommandTree, Decl, EdgeDecl, GraphDecl, NodeDecl, RuleDecl, VariableGroup};

@@ -3,3 +3,7 @@ pub mod Nodes
 pub mod Sessions
 pub mod Runs
 pub mod Systems
+pub mod Pursuits
+pub mod Endings
+pub mod Crews
+pub mod Crossing

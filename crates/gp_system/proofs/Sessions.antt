@@ -1,5 +1,5 @@
 -- What a session tells after each call.
-use Rattle.std.proofs.Common.{◌≡◌, ℕ, suc, ◌+◌, ◌-◌, ◌<◌, ◌≤◌, ◌%◌, List, [], ◌∷◌, ◌++◌, map, length, take, slice_get, slice_index, slice_index_or, Contains, All, Option, Some, None, refl, sym, ap, subst, ◌∙◌, arith, add-one}
+use Rattle.std.proofs.Common.{◌≡◌, ℕ, suc, ◌+◌, ◌-◌, ◌<◌, ◌≤◌, ◌%◌, List, [], ◌∷◌, ◌++◌, map, length, take, slice_get, slice_index, slice_index_or, Contains, All, Option, Some, None, refl, sym, ap, subst, ◌∙◌, arith, add-one, append_assoc, append-nil}
 use Rattle.std.specs.Prelude.{Result, Ok, Err, OnOk, IfOk}
 use Rattle.std.specs.Option.{option_map_or}
 use Rattle.std.proofs.Math.Nat.{mod-one}
@@ -38,7 +38,7 @@ use Rattle.gp_search.specs.declared.sought.Sought.TheVariants as answers
 use Rattle.gp_plan.specs.declared.operation.Operation.{Operation}
 use Rattle.gp_plan.specs.Plan.{plan_of}
 use Rattle.gp_system.specs.Sought.{HasSought, IsOfSet}
-use Rattle.gp_system.specs.inside.Viewed.{Shown, view_of, HasSoughtCall, AppliesForCall}
+use Rattle.gp_system.specs.inside.Viewed.{Shown, view_of, Grows, HasSoughtCall, AppliesForCall}
 
 abbrev pub shown : ProgramParts → Journal → ℕ → Shown
 shown p j l = record { program = p; journal = j; left = l }
@@ -221,3 +221,30 @@ failed_graph (call_fails s b) = refl
 
 pub same_graph : (c : ℕ) (w x y : View) → HasTurned turned.Made w x → HasCalled c called.Blocked x y → y.graph ≡ w.graph
 same_graph c w x y a m = failed_graph m.makes.run ∙ a.graph
+
+-- ---- items that are added
+
+pub grows_not : (s : Shown) → Grows s s
+grows_not s = record { program = refl; first = refl; caught = refl; more = []; items = sym (append-nil (items_of s.journal.items)) }
+
+pub grows_by : (p : ProgramParts) (j k : Journal) (l n : ℕ) (i : Item) → root_of k.trail ≡ root_of j.trail → k.trail.caught ≡ j.trail.caught → k.items ≡ j.items ++ i ∷ [] → Grows (shown p j l) (shown p k n)
+grows_by p j k l n i e f h = record {
+  program = refl;
+  first = e;
+  caught = f;
+  more = item_of i ∷ [];
+  items = ap (λ (is : List Item). map item_of is) h ∙ map-append item_of j.items (i ∷ []);
+}
+
+pub grows_on : (v w x : Shown) → Grows v w → Grows w x → Grows v x
+grows_on v w x a b = record {
+  program = b.program ∙ a.program;
+  first = b.first ∙ a.first;
+  caught = b.caught ∙ a.caught;
+  more = a.more ++ b.more;
+  items = b.items ∙ ap (λ (is : List meant.Item). is ++ b.more) a.items ∙ append_assoc (items_of v.journal.items) a.more b.more;
+}
+
+-- the same of the run that a session shows
+pub grows_here : (s : Shown) (p : ProgramParts) (j k : Journal) (l n : ℕ) (i : Item) → shown p j l ≡ s → root_of k.trail ≡ root_of j.trail → k.trail.caught ≡ j.trail.caught → k.items ≡ j.items ++ i ∷ [] → Grows s (shown p k n)
+grows_here s p j k l n i same e f h = subst (λ (x : Shown). Grows x (shown p k n)) same (grows_by p j k l n i e f h)

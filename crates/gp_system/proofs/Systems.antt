@@ -87,13 +87,13 @@ module _ (r : Rule) (g : Graph) (m : Found) (w : IsJudged r g m) where
   pub applies_judged : with_rule m.rule (judged r g m) ≡ applies → Applies r g m
   applies_judged e = w.to_apply.0 (with_applies (judged r g m) e)
 
-well_formed_at : (rules : List Rule) (i : ℕ) (r : Rule) → All IsWellFormed rules → slice_get rules i ≡ Some r → IsWellFormed r
+pub well_formed_at : (rules : List Rule) (i : ℕ) (r : Rule) → All IsWellFormed rules → slice_get rules i ≡ Some r → IsWellFormed r
 well_formed_at rules i r w e = subst IsWellFormed (get_or_from_slice_get rules i r r e) (w i r (slice_get_within rules i r e))
 
 judged_there : (rules : List Rule) (set : List ℕ) (g : Graph) (m : Found) (r : Rule) → has m.rule set ≡ true → slice_get rules m.rule ≡ Some r → judged_in (Some set) rules g m ≡ with_rule m.rule (judged r g m)
 judged_there rules set g m r e f = ap (λ (b : Bool). if b then judged_by (slice_get rules m.rule) g m else neither) e ∙ ap (λ (o : Option Rule). judged_by o g m) f
 
-by_set : (b : Bool) (x : Judged Fault) → (if b then x else neither) ≡ applies → (b ≡ true) × (x ≡ applies)
+pub by_set : (b : Bool) (x : Judged Fault) → (if b then x else neither) ≡ applies → (b ≡ true) × (x ≡ applies)
 by_set true x e = (refl, e)
 by_set false x e = absurd cc
 
@@ -123,7 +123,7 @@ verdict_there sets rules c set g m r v e f h w a = subst (IsVerdictOf (verdict_o
 -- ---- searches
 
 module _ (law : (r : Rule) (g : Graph) (m : Found) → IsWellFormed r → IsJudged r g m) (s : RuleSystem) (w : All IsWellFormed (rules_of s)) where
-  there : (goal : CallGoal) (set : List ℕ) (g : Graph) (m : Found) (r : Rule) → slice_get s.sets goal.call ≡ Some set → Contains set m.rule → slice_get (rules_of s) m.rule ≡ Some r → judged_in (slice_get s.sets goal.call) (rules_of s) g m ≡ with_rule m.rule (judged r g m)
+  pub there : (goal : CallGoal) (set : List ℕ) (g : Graph) (m : Found) (r : Rule) → slice_get s.sets goal.call ≡ Some set → Contains set m.rule → slice_get (rules_of s) m.rule ≡ Some r → judged_in (slice_get s.sets goal.call) (rules_of s) g m ≡ with_rule m.rule (judged r g m)
   there goal set g m r e c f = ap (λ (o : Option (List ℕ)). judged_in o (rules_of s) g m) e ∙ judged_there (rules_of s) set g m r (has_contains set m.rule c) f
 
   shared : (m : Found) (r : Rule) (share : ℕ) → slice_get (rules_of s) m.rule ≡ Some r → share_of r m (s.further + 1) ≡ share → share_in (rules_of s) (s.further + 1) m ≡ share

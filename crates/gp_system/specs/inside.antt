@@ -3,3 +3,4 @@ pub mod Among
 pub mod Viewed
 pub mod Planned
 pub mod Laws
+pub mod Pursued

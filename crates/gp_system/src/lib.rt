@@ -8,9 +8,11 @@
 
 mod answer;
 mod crew;
+mod crew_session;
 mod goal;
 mod gp;
 mod outcome;
+mod pursuit;
 mod running;
 mod seeking;
 mod session;
@@ -19,6 +21,7 @@ pub mod sharing;
 mod tests;
 
 pub use crew::Crew;
+pub use crew_session::CrewSession;
 pub use goal::{CallGoal, Fault};
 pub use gp::Gp;
 pub use outcome::Outcome;

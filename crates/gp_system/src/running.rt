@@ -4,6 +4,7 @@ ghost use Rattle.gp_syntax.specs.Tree.{program_of_tree};
 ghost use Rattle.gp_system.specs.Ended.{HasEnded};
 
 use crate::crew::Crew;
+use crate::crew_session::CrewSession;
 use crate::outcome::Outcome;
 use crate::session::Session;
 use gp_graph::Graph;
@@ -14,19 +15,17 @@ use std::alloc::Global;
 use std::sync::Wait;
 use std::thread::Threads;
 
-/// Runs the program on the host graph, with at most so many steps and turns. The answers of `or` are the chooser's.
-pub fn execute<C: Chooser, P: Pace + Sync, R: Threads + Wait + Sync>(
-    _rt: &R,
+// A run by one worker, which waits for nobody.
+fn execute_alone<C: Chooser>(
     alloc: Global,
     program: &Program,
     host: Graph,
-    crew: Crew,
+    bound: u64,
     chooser: &mut C,
-    _pace: &P,
 ) -> Outcome
-    ensures { HasEnded C.answer C.next (program_of_tree program.now) host.graph crew.bound (C.state chooser.old) (C.state chooser.new) result }
+    ensures { HasEnded C.answer C.next (program_of_tree program.now) host.graph bound (C.state chooser.old) (C.state chooser.new) result }
 {
-    let mut session = match Session::new(alloc, program, host, crew.bound) {
+    let mut session = match Session::new(alloc, program, host, bound) {
         Ok(session) => session,
         Err(_) => return Outcome::NoMemory,
     };
@@ -35,6 +34,35 @@ pub fn execute<C: Chooser, P: Pace + Sync, R: Threads + Wait + Sync>(
         Finish::Fail => Outcome::Fail(session.into_journal()),
         Finish::Bound => Outcome::Bound(session.into_journal()),
         Finish::Fault(rule, kind) => Outcome::Fault(session.into_journal(), rule, kind),
+        Finish::NoMemory => Outcome::NoMemory,
+    }
+}
+
+/// Runs the program on the host graph, with at most so many steps and turns as the crew's bound. The answers of `or` are
+/// the chooser's. With two workers or more, calls with many candidates are searched by all of them, which the pace may hold.
+pub fn execute<C: Chooser, P: Pace + Sync, R: Threads + Wait + Sync>(
+    rt: &R,
+    alloc: Global,
+    program: &Program,
+    host: Graph,
+    crew: Crew,
+    chooser: &mut C,
+    pace: &P,
+) -> Outcome
+    ensures { HasEnded C.answer C.next (program_of_tree program.now) host.graph crew.bound (C.state chooser.old) (C.state chooser.new) result }
+{
+    if crew.workers < 2 {
+        return execute_alone(alloc, program, host, crew.bound, chooser);
+    }
+    let mut crewed = match CrewSession::new(alloc, program, host, crew, pace) {
+        Ok(crewed) => crewed,
+        Err(_) => return Outcome::NoMemory,
+    };
+    match run(rt, program, &mut crewed, chooser) {
+        Finish::Graph => Outcome::Graph(crewed.into_journal()),
+        Finish::Fail => Outcome::Fail(crewed.into_journal()),
+        Finish::Bound => Outcome::Bound(crewed.into_journal()),
+        Finish::Fault(rule, kind) => Outcome::Fault(crewed.into_journal(), rule, kind),
         Finish::NoMemory => Outcome::NoMemory,
     }
 }

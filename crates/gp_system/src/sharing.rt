@@ -1,6 +1,7 @@
-//! That threads may take goals, reasons and answers.
+//! That threads may take goals, reasons and answers, and share the rules of a program as a system.
 
 use crate::goal::{CallGoal, Fault};
+use crate::gp::Gp;
 use gp_syntax::Found;
 use opt_system::{Sought, Verdict};
 
@@ -20,4 +21,9 @@ pub fn goals_may_be_taken(
     may_be_taken(reason);
     may_be_taken(verdict);
     may_be_taken(answer);
+}
+
+/// Threads may share the system of a program, with the rules and rule sets that it borrows.
+pub fn gp_may_be_shared(gp: &Gp<'_>) {
+    may_be_shared(gp);
 }

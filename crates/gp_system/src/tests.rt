@@ -3,7 +3,7 @@
 ghost use Rattle.std.specs.Prelude.{◌≡◌, ◌<◌, length};
 
 use crate::session::plans_of;
-use crate::{CallGoal, Fault, Gp, Outcome, Session, execute, seek_set};
+use crate::{CallGoal, Crew, Fault, Gp, Outcome, Session, execute, seek_set};
 use gp_graph::Graph;
 use gp_journal::{Journal, Mode, Trail};
 use gp_memory::NoMemory;
@@ -12,8 +12,11 @@ use gp_search::Sought;
 use gp_syntax::{Boxed, Command, Found, Item, Items, Program, ProgramParts, Rule};
 use gp_values::{List, NodeMark};
 use opt_system::{System, Verdict};
+use opt_worker::Free;
 use std::alloc::Global;
+use std::sync::Wait;
 use std::test::Fail;
+use std::thread::Threads;
 
 // A program by a letter, the bound, and what comes of it: steps, turns and Backs, and the end.
 const ROWS: [(u8, u64, &str); 10] = [
@@ -99,11 +102,17 @@ fn shown(alloc: Global, journal: &Journal, end: &str) -> Result<String, Fail> {
     Ok(text)
 }
 
-fn outcome(alloc: Global, letter: u8, bound: u64) -> Result<String, Fail> {
+fn outcome<R: Threads + Wait + Sync>(
+    rt: &R,
+    alloc: Global,
+    letter: u8,
+    crew: Crew,
+) -> Result<String, Fail> {
     let Some(program) = program(alloc, letter)? else {
         return Err(Fail::from("the program is not plain"));
     };
-    match execute(alloc, &program, host(alloc)?, bound, &mut Bits(0)) {
+    let host = host(alloc)?;
+    match execute(rt, alloc, &program, host, crew, &mut Bits(0), &Free) {
         Outcome::Graph(journal) => shown(alloc, &journal, " graph"),
         Outcome::Fail(journal) => shown(alloc, &journal, " fail"),
         Outcome::Bound(journal) => shown(alloc, &journal, " bound"),
@@ -113,10 +122,17 @@ fn outcome(alloc: Global, letter: u8, bound: u64) -> Result<String, Fail> {
 }
 
 #[test]
-fn programs_run_on_a_host(rt: HostRuntime) -> Result<(), Fail> {
+fn programs_run_on_a_host_by_one_worker_and_by_three(rt: HostRuntime) -> Result<(), Fail> {
     for (letter, bound, wanted) in &ROWS {
-        let text = outcome(rt.alloc(), *letter, *bound)?;
-        assert_eq!(rt; text.as_str(), *wanted, "{letter} {bound}");
+        for (workers, fan) in [(1, 1), (3, 0)] {
+            let crew = Crew {
+                workers,
+                fan,
+                bound: *bound,
+            };
+            let text = outcome(&rt, rt.alloc(), *letter, crew)?;
+            assert_eq!(rt; text.as_str(), *wanted, "{letter} {bound} {workers}");
+        }
     }
     Ok(())
 }

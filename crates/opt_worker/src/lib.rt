@@ -16,7 +16,7 @@ mod worker;
 
 pub use pace::{Free, Pace};
 pub use sharing::job_may_be_taken;
-pub use worker::{work, work_on};
+pub use worker::{follow, work, work_on};
 
 #[cfg(test)]
 mod tests;

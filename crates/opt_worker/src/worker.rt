@@ -14,8 +14,8 @@ use opt_gate::{Ask, Gate, Pass};
 use opt_system::{Sought, System};
 use std::sync::Wait;
 
-// Makes the steps of the entries on the replica. Where memory is refused, those before it are made.
-fn follow<S: System>(s: &S, at: &mut S::State, entries: &[S::Found]) -> Result<(), NoMemory>
+/// Makes the steps of the entries on the replica. Where memory is refused, those before it are made.
+pub fn follow<S: System>(s: &S, at: &mut S::State, entries: &[S::Found]) -> Result<(), NoMemory>
     requires { (goal : S.Goal) × AllApply (S.means s.now) goal at.old entries.now }
     ensures all { OnOk result (at.new ≡ reached (S.means s.now) at.old entries.now) }
     ensures some { (n : ℕ) × (n ≤ length entries.now) × (at.new ≡ reached (S.means s.now) at.old (take n entries.now)) }

@@ -1,12 +1,12 @@
 -- What a session tells of itself.
-use Rattle.std.specs.Prelude.{◌≡◌, ℕ, List, [], All, map, Some, slice_get, refl}
+use Rattle.std.specs.Prelude.{◌≡◌, ℕ, List, [], ◌++◌, All, map, Some, slice_get, refl}
 use Rattle.std.specs.Coded.{Coded, code_by, coded×, coded_ℕ}
 use Rattle.gp_values.specs.Graph.{Graph}
 use Rattle.gp_syntax.specs.declared.command.ProgramParts.{ProgramParts}
 use Rattle.gp_syntax.specs.contracts.command.ProgramParts.{the_row as program_row}
 use Rattle.gp_syntax.specs.Rule.{Found}
 use Rattle.gp_syntax.specs.Step.{Applies}
-use Rattle.gp_syntax.specs.Run.{Program}
+use Rattle.gp_syntax.specs.Run.{Program, Item}
 use Rattle.gp_syntax.specs.Tree.{rule_of_tree, program_of_tree}
 use Rattle.gp_syntax.specs.WellFormed.{IsWellFormed}
 use Rattle.gp_plan.specs.Plan.{plan_of}
@@ -39,6 +39,14 @@ view_of s = record {
 -- at the beginning of a run
 abbrev pub begun : ProgramParts → Graph → ℕ → Shown
 begun p host left = record { program = p; journal = record { trail = fresh host; items = []; backs = 0 }; left = left }
+
+-- items were added to its journal, and no more
+pub record Grows (v w : Shown) : Type 0 where
+  pub program : w.program ≡ v.program
+  pub first : root_of w.journal.trail ≡ root_of v.journal.trail
+  pub caught : w.journal.trail.caught ≡ v.journal.trail.caught
+  pub more : List Item
+  pub items : items_of w.journal.items ≡ items_of v.journal.items ++ more
 
 -- the plans are those of the program's rules, and the journal is one of these
 pub record IsSound (p : ProgramParts) (plans : List (List Operation)) (j : Journal) : Type 0 where

@@ -8,10 +8,10 @@ use Rattle.gp_system.specs.inside.Viewed.{Shown}
 use Rattle.gp_system.proofs.Sessions.{stands_here, spent_here, stepped_here}
 use Rattle.gp_system.proofs.session.Session.advance.Goals as goal
 
-pub returns-then-self-eq0 : goal.returns-then-self-eq0
-returns-then-self-eq0 c = (stands_here c.args.call c.args.self.now, spent_here c.args.call c.args.self.now c.args.found.now c.requires (ap (λ (s : Shown). s.left) (sym c.self.view_is) ∙ c.if-self-eq0.true))
+pub returns-then-self-eq0-clause-called : goal.returns-then-self-eq0-clause-called
+returns-then-self-eq0-clause-called c = (stands_here c.args.call c.args.self.now, spent_here c.args.call c.args.self.now c.args.found.now c.requires (ap (λ (s : Shown). s.left) (sym c.self.view_is) ∙ c.if-self-eq0.true))
 
-pub returns-in-Ok : goal.returns-in-Ok
-returns-in-Ok c =
+pub returns-in-Ok-clause-called : goal.returns-in-Ok-clause-called
+returns-in-Ok-clause-called c =
     stepped_here c.args.self.now c.self.inside.program.now c.self.inside.journal c.step.new.self c.args.call c.self.inside.left c.args.found.now c.self.view_is c.self.invariant.well_formed (subst IsGraph c.graph.ensures c.next_numbers-sound.ensures.sound) c.requires (omega (arith, c.if-self-eq0.false))
     (c.in-Ok.ensures.ok ∙ ap (λ (rs : List RuleParts). with_step (map rule_of_tree rs) c.self.inside.journal c.args.found.now) (c.as_slice.ensures ∙ ap (λ (p : ProgramParts). p.rules) c.parts.ensures.value))

@@ -1,0 +1,5 @@
+pub mod Examples
+pub mod Drawing
+pub mod NodeLines
+pub mod Grids
+pub mod Whole

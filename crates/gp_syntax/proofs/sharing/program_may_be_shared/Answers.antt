@@ -1,0 +1,6 @@
+use denote.Param.Send.{sendable}
+use Rattle.gp_syntax.proofs.Crossing.{program_sync}
+use Rattle.gp_syntax.proofs.sharing.program_may_be_shared.Goals as goal
+
+pub may_be_shared-requires-sync-T : goal.may_be_shared-requires-sync-T
+may_be_shared-requires-sync-T c κs = search (program_sync, sendable)

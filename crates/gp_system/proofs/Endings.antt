@@ -1,0 +1,400 @@
+-- What a goal that a crew pursued came to, as what an engine answers.
+use Rattle.std.proofs.Common.{◌≡◌, ◌⊎◌, inl, inr, ℕ, zero, suc, ◌+◌, ◌-◌, ◌*◌, ◌<◌, Bool, true, false, List, [], ◌∷◌, ◌++◌, map, length, take, slice_get, Contains, All, Option, Some, None, refl, sym, ap, subst, ◌∙◌, arith, append_assoc, append-nil}
+use Rattle.std.specs.Prelude.{if◌then◌else◌}
+use Rattle.gp_values.specs.Graph.{Graph}
+use Rattle.gp_syntax.specs.declared.found.Item.{Item}
+use Rattle.gp_syntax.specs.declared.found.Item.TheVariants as items
+use Rattle.gp_syntax.specs.declared.command.ProgramParts.{ProgramParts}
+use Rattle.gp_syntax.specs.declared.kinds.NumberKind.{NumberKind}
+use Rattle.gp_syntax.specs.Rule.{Rule, Found}
+use Rattle.gp_syntax.specs.Step.{Applies, IsFaulty, HasApplying, Blocked}
+use Rattle.gp_syntax.specs.Run as meant
+use Rattle.gp_syntax.specs.Run.{Program, Call, Stepped, Turned, Gives, Fails, At, counted, Run, call_fails, call_stands}
+use Rattle.gp_syntax.specs.Tree.{rule_of_tree, program_of_tree, item_of}
+use Rattle.gp_syntax.specs.WellFormed.{IsWellFormed}
+use Rattle.gp_syntax.proofs.Loops.{SoFar, at_first}
+use Rattle.gp_syntax.proofs.Unique.{element}
+use Rattle.gp_match.specs.Judge.{judged}
+use Rattle.gp_match.specs.Judge as matches
+use Rattle.gp_match.specs.Laws.{IsJudged}
+use Rattle.gp_match.proofs.Judges.{judged_match}
+use Rattle.gp_step.specs.Laws.{IsNumbered}
+use Rattle.opt_system.specs.Meaning.{Judged, applies, faulty, neither}
+use Rattle.opt_system.specs.declared.answers.Mode.TheVariants.{Once, Saturate}
+use Rattle.opt_core.specs.declared.event.Ending.{Ending}
+use Rattle.opt_core.specs.declared.event.Ending.TheVariants as ending
+use Rattle.opt_core.specs.Core.{reached, AllApply, IsLegal, IsUsed}
+use Rattle.gp_journal.specs.Trail.{Trail, root_of, advanced}
+use Rattle.gp_journal.specs.Journal.{items_of, noted}
+use Rattle.gp_run.specs.Engine.{View, Adds, MakesCall, IsSpent, HasFaulty, HasCalled, HasRepeated, HasTurned, TurnMade}
+use Rattle.gp_run.specs.declared.engine.Called.TheVariants as called
+use Rattle.gp_run.specs.declared.engine.Turned.TheVariants as turned
+use Rattle.gp_run.specs.declared.engine.Repeated.{Repeated}
+use Rattle.gp_run.specs.declared.engine.Repeated.TheVariants as repeated
+use Rattle.gp_run.specs.inside.EmptyHost.{HasEnded}
+use Rattle.gp_run.proofs.Leads.{adds-nothing}
+use Rattle.gp_run.proofs.Turns.{Turns, turns_bound, turns_spent, turns_faulty, turns_end}
+use Rattle.gp_system.specs.declared.goal.CallGoal.{CallGoal}
+use Rattle.gp_system.specs.declared.goal.Fault.{Fault}
+use Rattle.gp_system.specs.Gp.{RuleSystem, rules_of, has, with_rule, judged_by, judged_in, gp_means}
+use Rattle.gp_system.specs.inside.Viewed.{Shown, view_of}
+use Rattle.gp_system.specs.inside.Pursued.{IsPursued, HasUsed, HasPursued, turns_first, system_of, called_of}
+use Rattle.gp_system.proofs.Searches.{renumbered_applies, renumbered_faulty}
+use Rattle.gp_system.proofs.Systems.{contains_has, judged_applies, judged_faulty, well_formed_at, by_set, there}
+use Rattle.gp_system.proofs.Pursuits.{turned_over, but_taken, all_taken, once_taken, reached_root, called_once, so_far_on, has_applying}
+
+-- ---- what the ending says of the graph
+
+-- a faulty match is of a rule of the set
+record IsFaultOf (rules : List Rule) (sets : List (List ℕ)) (c : ℕ) (g : Graph) (r : Fault) : Type 0 where
+  pub set : List ℕ
+  pub is_set : slice_get sets c ≡ Some set
+  pub in_set : Contains set r.rule
+  pub the_rule : Rule
+  pub is_rule : slice_get rules r.rule ≡ Some the_rule
+  pub found : Found
+  pub faulty : IsFaulty the_rule g found r.kind
+
+by_set_faulty : (b : Bool) (x : Judged Fault) (r : Fault) → (if b then x else neither) ≡ faulty r → (b ≡ true) × (x ≡ faulty r)
+by_set_faulty true x r e = (refl, e)
+by_set_faulty false x r e = absurd cc
+
+same_reason : (r q : Fault) → faulty r ≡ faulty q → r ≡ q
+same_reason r q e = cc
+
+fault_of : (q : Rule) (g : Graph) (m : Found) (j : matches.Judged) (r : Fault) → j ≡ judged q g m → IsJudged q g m → with_rule m.rule j ≡ faulty r → (m.rule ≡ r.rule) × IsFaulty q g m r.kind
+fault_of q g m matches.applies r e w h = absurd cc
+fault_of q g m (matches.faulty k) r e w h =
+    let s : record { rule = m.rule; kind = k } ≡ r = same_reason (record { rule = m.rule; kind = k }) r h in
+    (ap (λ (f : Fault). f.rule) s, subst (λ (x : NumberKind). IsFaulty q g m x) (ap (λ (f : Fault). f.kind) s) ((w.to_be_faulty k).0 (sym e)))
+fault_of q g m matches.neither r e w h = absurd cc
+
+fault_in : (rules : List Rule) (sets : List (List ℕ)) (c : ℕ) (g : Graph) (m : Found) (r : Fault) → All IsWellFormed rules → judged_in (slice_get sets c) rules g m ≡ faulty r → IsFaultOf rules sets c g r
+fault_in rules sets c g m r w e = in_it (slice_get sets c) refl e
+  where
+    of_rule : (set : List ℕ) → slice_get sets c ≡ Some set → has m.rule set ≡ true → (o : Option Rule) → slice_get rules m.rule ≡ o → judged_by o g m ≡ faulty r → IsFaultOf rules sets c g r
+    of_rule set i h None f j = absurd cc
+    of_rule set i h (Some q) f j =
+        let x = fault_of q g m (judged q g m) r refl (judged_match q g m (well_formed_at rules m.rule q w f)) j in
+        record {
+          set = set;
+          is_set = i;
+          in_set = subst (Contains set) x.0 (contains_has set m.rule h);
+          the_rule = q;
+          is_rule = subst (λ (k : ℕ). slice_get rules k ≡ Some q) x.0 f;
+          found = m;
+          faulty = x.1;
+        }
+
+    in_it : (o : Option (List ℕ)) → slice_get sets c ≡ o → judged_in o rules g m ≡ faulty r → IsFaultOf rules sets c g r
+    in_it None i h = absurd cc
+    in_it (Some set) i h = let x = by_set_faulty (has m.rule set) (judged_by (slice_get rules m.rule) g m) r h in of_rule set i x.0 (slice_get rules m.rule) refl x.1
+
+module _ (s : RuleSystem) (w : All IsWellFormed (rules_of s)) where
+  blocked_in : (goal : CallGoal) (set : List ℕ) (t : Trail) → slice_get s.sets goal.call ≡ Some set → ((m : Found) → (gp_means s).judged goal t m ≡ neither) → Blocked (rules_of s) set t.graph
+  blocked_in goal set t e none = record {
+    none_applies = λ i r m c f a.
+    let n : Found = record m { rule = i } in
+    let j : (gp_means s).judged goal t n ≡ applies = there judged_match s w goal set t.graph n r e c f ∙ judged_applies r t.graph n (judged_match r t.graph n (well_formed_at (rules_of s) i r w f)) (renumbered_applies r t.graph m i a) in
+    let k : neither ≡ applies = sym (none n) ∙ j in
+    absurd cc;
+    none_faulty = λ i r m kind c f a.
+    let n : Found = record m { rule = i } in
+    let j : (gp_means s).judged goal t n ≡ faulty (record { rule = i; kind = kind }) = there judged_match s w goal set t.graph n r e c f ∙ judged_faulty r t.graph n (judged_match r t.graph n (well_formed_at (rules_of s) i r w f)) kind (renumbered_faulty r t.graph m i kind a) in
+    let k : neither ≡ faulty (record { rule = i; kind = kind }) = sym (none n) ∙ j in
+    absurd cc;
+  }
+
+-- ---- a goal between two moments
+
+items-append : (is js : List Item) → items_of (is ++ js) ≡ items_of is ++ items_of js
+items-append [] js = refl
+items-append (i ∷ is) js = ap (λ (l : List meant.Item). item_of i ∷ l) (items-append is js)
+
+module _ (goal : CallGoal) (x : Ending Fault) (v w : Shown) (h : HasPursued goal x v w) where
+  abbrev s : RuleSystem
+  s = system_of v.program h.further
+
+  abbrev es : List Found
+  es = h.entries
+
+  legal : IsLegal (gp_means s) goal v.journal.trail w.journal.trail es h.pursued.quiet v.left w.left (Some x)
+  legal = h.pursued.legal
+
+  there_now : w.journal.trail ≡ reached (gp_means s) v.journal.trail es
+  there_now = legal.at_all
+
+  same_program : program_of_tree w.program ≡ program_of_tree v.program
+  same_program = ap program_of_tree h.program
+
+  same_first : root_of w.journal.trail ≡ root_of v.journal.trail
+  same_first = ap root_of there_now ∙ reached_root s goal h.well_formed v.journal.trail es
+
+  items_now : items_of w.journal.items ≡ items_of v.journal.items ++ items_of (take (v.left - w.left) (noted goal.mode es))
+  items_now = ap items_of h.items ∙ items-append v.journal.items (take (v.left - w.left) (noted goal.mode es))
+
+  spent_now : (set : List ℕ) → slice_get v.program.sets goal.call ≡ Some set → w.left ≡ 0 → (m : Found) → (gp_means s).judged goal w.journal.trail m ≡ applies → IsSpent goal.call (view_of w)
+  spent_now set e l m j =
+      let a = has_applying s goal h.well_formed w.journal.trail m j in
+      record {
+        set = a.0;
+        is_set = ap (λ (p : ProgramParts). slice_get p.sets goal.call) h.program ∙ a.1;
+        none_left = l;
+        applies = subst (λ (p : ProgramParts). HasApplying (map rule_of_tree p.rules) a.0 w.journal.trail.graph) (sym h.program) a.2;
+      }
+
+  faulty_now : (r : Fault) (m : Found) → (gp_means s).judged goal w.journal.trail m ≡ faulty r → HasFaulty goal.call r.rule r.kind (view_of w)
+  faulty_now r m j =
+      let a = fault_in (rules_of s) s.sets goal.call w.journal.trail.graph m r h.well_formed j in
+      record {
+        set = a.set;
+        is_set = ap (λ (p : ProgramParts). slice_get p.sets goal.call) h.program ∙ a.is_set;
+        in_set = a.in_set;
+        the_rule = a.the_rule;
+        is_rule = ap (λ (p : ProgramParts). slice_get (map rule_of_tree p.rules) r.rule) h.program ∙ a.is_rule;
+        found = a.found;
+        faulty = a.faulty;
+      }
+
+  blocked_now : (set : List ℕ) → slice_get v.program.sets goal.call ≡ Some set → ((m : Found) → (gp_means s).judged goal w.journal.trail m ≡ neither) → Blocked (map rule_of_tree v.program.rules) set w.journal.trail.graph
+  blocked_now set e none = blocked_in s h.well_formed goal set w.journal.trail e none
+
+take_nothing : {X : Type 0} (n : ℕ) (xs : List X) → xs ≡ [] → take n xs ≡ []
+take_nothing zero xs e = refl
+take_nothing (suc n) [] e = refl
+take_nothing (suc n) (x ∷ xs) e = absurd cc
+
+-- ---- a goal of one match
+
+abbrev one : ℕ → CallGoal
+one c = record { call = c; mode = Once }
+
+module _ (c : ℕ) (x : Ending Fault) (v w : Shown) (h : HasPursued (one c) x v w) where
+  unmoved : h.entries ≡ [] → w.journal.trail ≡ v.journal.trail
+  unmoved e = there_now (one c) x v w h ∙ ap (λ (l : List Found). reached (gp_means (system_of v.program h.further)) v.journal.trail l) e
+
+  unspent : h.entries ≡ [] → w.left ≡ v.left
+  unspent e =
+      let i = (legal (one c) x v w h).items in
+      let u : i.0 ≡ 0 = i.2 ∙ ap (λ (l : List Found). length l) e in
+      let g : v.left ≡ w.left + i.0 = i.1 in
+      omega arith
+
+  adds_none : h.entries ≡ [] → Adds (view_of v) (view_of w) []
+  adds_none e = record {
+    program = same_program (one c) x v w h;
+    first = same_first (one c) x v w h;
+    items = items_now (one c) x v w h ∙ ap (λ (l : List Item). items_of v.journal.items ++ items_of l) (take_nothing (v.left - w.left) (noted Once h.entries) (ap (λ (l : List Found). noted Once l) e));
+    left = let l = unspent e in omega arith;
+  }
+
+  stands_still : h.entries ≡ [] → MakesCall (Call c) (view_of v) (view_of w) (At c w.journal.trail.graph)
+  stands_still e = record {
+    trace = [];
+    makes = record { run = subst (λ (g : Graph). Run (program_of_tree v.program) (Call c) v.journal.trail.graph [] [] (At c g)) (sym (ap (λ (t : Trail). t.graph) (unmoved e))) call_stands; adds = adds_none e };
+    room = h.room;
+  }
+
+  fails_still : (set : List ℕ) → slice_get v.program.sets c ≡ Some set → h.entries ≡ [] → ((m : Found) → (gp_means (system_of v.program h.further)).judged (one c) w.journal.trail m ≡ neither) → MakesCall (Call c) (view_of v) (view_of w) (Fails w.journal.trail.graph)
+  fails_still set i e none = record {
+    trace = [];
+    makes = record {
+      run = subst (λ (g : Graph). Run (program_of_tree v.program) (Call c) g [] [] (Fails w.journal.trail.graph)) (ap (λ (t : Trail). t.graph) (unmoved e)) (call_fails i (blocked_now (one c) x v w h set i none));
+      adds = adds_none e;
+    };
+    room = h.room;
+  }
+
+-- the one entry
+stepped_once : (c : ℕ) (x : Ending Fault) (v w : Shown) (h : HasPursued (one c) x v w) (es : List Found) → h.entries ≡ es → length es ≡ 1 → MakesCall (Call c) (view_of v) (view_of w) (Gives w.journal.trail.graph)
+stepped_once c x v w h [] e l = absurd (omega arith)
+stepped_once c x v w h (m ∷ n ∷ ms) e l = absurd (omega arith)
+stepped_once c x v w h (m ∷ []) e l =
+    let s = system_of v.program h.further in
+    let k = legal (one c) x v w h in
+    let a : AllApply (gp_means s) (one c) v.journal.trail (m ∷ []) = subst (λ (z : List Found). AllApply (gp_means s) (one c) v.journal.trail z) e k.each_applies in
+    let t : w.journal.trail ≡ advanced (rules_of s) v.journal.trail m = k.at_all ∙ ap (λ (z : List Found). reached (gp_means s) v.journal.trail z) e in
+    let i = k.items in
+    let u : i.0 ≡ 1 = i.2 ∙ ap (λ (z : List Found). length z) e in
+    let g : v.left ≡ w.left + i.0 = i.1 in
+    let d : v.left - w.left ≡ 1 = omega arith in
+    record {
+      trace = Stepped m ∷ [];
+      makes = record {
+        run = subst (λ (z : Graph). Run (program_of_tree v.program) (Call c) v.journal.trail.graph [] (Stepped m ∷ []) (Gives z)) (sym (ap (λ (z : Trail). z.graph) t)) (called_once s (one c) h.well_formed (program_of_tree v.program) v.journal.trail m refl refl a.0 h.numbered);
+        adds = record {
+          program = same_program (one c) x v w h;
+          first = same_first (one c) x v w h;
+          items = items_now (one c) x v w h ∙ ap (λ (z : List Found). items_of v.journal.items ++ items_of (take (v.left - w.left) (noted Once z))) e ∙ ap (λ (z : ℕ). items_of v.journal.items ++ items_of (take z (noted Once (m ∷ [])))) d;
+          left = omega arith;
+        };
+      };
+      room = h.room;
+    }
+
+no_entry : (c : ℕ) (x : Ending Fault) (v w : Shown) (h : HasPursued (one c) x v w) → (Some x ≡ Some ending.Committed → ⊥) → h.entries ≡ []
+no_entry c x v w h n =
+    elim ((legal (one c) x v w h).one_at_most refl) [
+      | inl e ↦ e
+      | inr e ↦ absurd (n e)
+    ]
+
+pub called_so : (c : ℕ) (x : Ending Fault) (v w : Shown) → c < length v.program.sets → HasPursued (one c) x v w → HasCalled c (called_of x) (view_of v) (view_of w)
+called_so c ending.Committed v w l h = stepped_once c ending.Committed v w h h.entries refl (legal (one c) ending.Committed v w h).ended.1
+called_so c ending.Blocked v w l h =
+    let set = element v.program.sets c l in
+    fails_still c ending.Blocked v w h set.0 set.1 (no_entry c ending.Blocked v w h (λ e. cc)) (legal (one c) ending.Blocked v w h).ended
+called_so c ending.Bound v w l h =
+    let set = element v.program.sets c l in
+    let z = (legal (one c) ending.Bound v w h).ended in
+    (
+      stands_still c ending.Bound v w h (no_entry c ending.Bound v w h (λ e. cc)),
+      elim z.1 [
+        | inl q ↦ absurd (let e : Once ≡ Saturate = q.0 in cc)
+        | inr q ↦ spent_now (one c) ending.Bound v w h set.0 set.1 z.0 q.0 q.1
+      ],
+    )
+called_so c (ending.Fault r) v w l h =
+    let z = (legal (one c) (ending.Fault r) v w h).ended in
+    (stands_still c (ending.Fault r) v w h (no_entry c (ending.Fault r) v w h (λ e. cc)), faulty_now (one c) (ending.Fault r) v w h r z.0 z.1)
+called_so c ending.Stopped v w l h = tt
+
+-- ---- a goal whose matches are taken until none is left, behind its first turn
+
+abbrev all : ℕ → CallGoal
+all c = record { call = c; mode = Saturate }
+
+counted_turns : (es : List Found) → counted (items_of (turns_first es)) ≡ 2 * length es
+counted_turns [] = refl
+counted_turns (m ∷ ms) = let l = counted_turns ms in omega arith
+
+module _ (c : ℕ) (x : Ending Fault) (u : View) (v w : Shown) (h : HasPursued (all c) x v w) (made : TurnMade u (view_of v)) where
+  abbrev s2 : RuleSystem
+  s2 = system_of v.program h.further
+
+  -- where the last turn began
+  abbrev mid : View
+  mid = record { program = u.program; first = u.first; items = u.items ++ items_of (turns_first h.entries); graph = w.journal.trail.graph; left = w.left + 1; room = u.room }
+
+  goes_so_far : SoFar u.program (Call c) u.graph [] (items_of (turns_first h.entries)) w.journal.trail.graph
+  goes_so_far =
+      let k = legal (all c) x v w h in
+      let f = so_far_on s2 (all c) h.well_formed (program_of_tree v.program) v.journal.trail.graph [] v.journal.trail h.entries refl refl at_first k.each_applies h.numbered in
+      let g : SoFar (program_of_tree v.program) (Call c) v.journal.trail.graph [] (items_of (turns_first h.entries)) w.journal.trail.graph = subst (λ (t : Trail). SoFar (program_of_tree v.program) (Call c) v.journal.trail.graph [] (items_of (turns_first h.entries)) t.graph) (sym k.at_all) f in
+      let i : SoFar u.program (Call c) v.journal.trail.graph [] (items_of (turns_first h.entries)) w.journal.trail.graph = subst (λ (p : Program). SoFar p (Call c) v.journal.trail.graph [] (items_of (turns_first h.entries)) w.journal.trail.graph) made.adds.program g in
+      subst (λ (z : Graph). SoFar u.program (Call c) z [] (items_of (turns_first h.entries)) w.journal.trail.graph) made.graph i
+
+  items_before : items_of v.journal.items ≡ u.items ++ Turned ∷ []
+  items_before = made.adds.items
+
+  -- all turns are made
+  full_items : v.left - w.left ≡ 2 * length h.entries → items_of w.journal.items ≡ (u.items ++ items_of (turns_first h.entries)) ++ Turned ∷ []
+  full_items e =
+      items_now (all c) x v w h
+      ∙ ap (λ (l : List Item). items_of v.journal.items ++ items_of l) (all_taken h.entries (v.left - w.left) e)
+      ∙ ap (λ (l : List meant.Item). l ++ items_of (noted Saturate h.entries)) items_before
+      ∙ append_assoc u.items (Turned ∷ []) (items_of (noted Saturate h.entries))
+      ∙ ap (λ (l : List meant.Item). u.items ++ l) (ap items_of (turned_over h.entries) ∙ items-append (turns_first h.entries) (items.Turn ∷ []))
+      ∙ sym (append_assoc u.items (items_of (turns_first h.entries)) (Turned ∷ []))
+
+  full_turns : v.left ≡ w.left + 2 * length h.entries → Turns c u mid
+  full_turns e = record {
+    trace = items_of (turns_first h.entries);
+    adds = record { program = refl; first = refl; items = refl; left = let a = counted_turns h.entries in let b : v.left + 1 ≡ u.left = made.adds.left in omega arith };
+    room = refl;
+    so_far = goes_so_far;
+  }
+
+  last_turn : v.left ≡ w.left + 2 * length h.entries → TurnMade mid (view_of w)
+  last_turn e = record {
+    adds = record {
+      program = same_program (all c) x v w h ∙ made.adds.program;
+      first = same_first (all c) x v w h ∙ made.adds.first;
+      items = full_items (omega arith);
+      left = omega arith;
+    };
+    graph = refl;
+    room = h.room ∙ made.room;
+  }
+
+  -- the turn after the last step is missing
+  but_items : (m : Found) (ms : List Found) → h.entries ≡ m ∷ ms → (v.left - w.left) + 1 ≡ 2 * length (m ∷ ms) → items_of w.journal.items ≡ u.items ++ items_of (turns_first h.entries)
+  but_items m ms e l =
+      items_now (all c) x v w h
+      ∙ ap (λ (z : List Found). items_of v.journal.items ++ items_of (take (v.left - w.left) (noted Saturate z))) e
+      ∙ ap (λ (z : List Item). items_of v.journal.items ++ items_of z) (but_taken m ms (v.left - w.left) l)
+      ∙ ap (λ (z : List meant.Item). z ++ items_of (items.Step m ∷ turns_first ms)) items_before
+      ∙ append_assoc u.items (Turned ∷ []) (items_of (items.Step m ∷ turns_first ms))
+      ∙ ap (λ (z : List Found). u.items ++ items_of (turns_first z)) (sym e)
+
+  but_turns : (es : List Found) → h.entries ≡ es → v.left + 1 ≡ w.left + 2 * length es → Turns c u (view_of w)
+  but_turns [] e l = absurd (let i = (legal (all c) x v w h).items in let g : v.left ≡ w.left + i.0 = i.1 in omega arith)
+  but_turns (m ∷ ms) e l = record {
+    trace = items_of (turns_first h.entries);
+    adds = record {
+      program = same_program (all c) x v w h ∙ made.adds.program;
+      first = same_first (all c) x v w h ∙ made.adds.first;
+      items = but_items m ms e (omega arith);
+      left = let a = counted_turns h.entries in let b : v.left + 1 ≡ u.left = made.adds.left in let d = ap (λ (z : List Found). length z) e in omega arith;
+    };
+    room = h.room ∙ made.room;
+    so_far = goes_so_far;
+  }
+
+  -- what the last call of the loop came to
+  call_stands_now : MakesCall (Call c) (view_of w) (view_of w) (At c w.journal.trail.graph)
+  call_stands_now = record { trace = []; makes = record { run = call_stands; adds = adds-nothing (view_of w) }; room = refl }
+
+  call_fails_now : (set : List ℕ) → slice_get v.program.sets c ≡ Some set → ((m : Found) → (gp_means s2).judged (all c) w.journal.trail m ≡ neither) → MakesCall (Call c) (view_of w) (view_of w) (Fails w.journal.trail.graph)
+  call_fails_now set i none = record {
+    trace = [];
+    makes = record {
+      run = subst (λ (p : ProgramParts). Run (program_of_tree p) (Call c) w.journal.trail.graph [] [] (Fails w.journal.trail.graph)) (sym h.program) (call_fails i (blocked_now (all c) x v w h set i none));
+      adds = adds-nothing (view_of w);
+    };
+    room = refl;
+  }
+
+-- how many items were used
+used_all : (c : ℕ) (x : Ending Fault) (v w : Shown) (h : HasPursued (all c) x v w) → (Some x ≡ Some ending.Bound → ⊥) → v.left ≡ w.left + 2 * length h.entries
+used_all c x v w h n =
+    let i = (legal (all c) x v w h).items in
+    let g : v.left ≡ w.left + i.0 = i.1 in
+    elim i.2 [
+      | inl e ↦ omega arith
+      | inr e ↦ absurd (n e.1)
+    ]
+
+pub blocked_so : (c : ℕ) (r : Repeated) (u : View) (v w : Shown) (z : View) → c < length v.program.sets → HasTurned turned.Made u (view_of v) → HasPursued (all c) ending.Blocked v w → HasEnded r (view_of w) z → HasRepeated c r u z
+blocked_so c r u v w z l made h e =
+    let set = element v.program.sets c l in
+    let used = used_all c ending.Blocked v w h (λ q. cc) in
+    turns_end c r u (mid c ending.Blocked u v w h made) (view_of w) (view_of w) z (full_turns c ending.Blocked u v w h made used) (last_turn c ending.Blocked u v w h made used)
+    (call_fails_now c ending.Blocked u v w h made set.0 set.1 (legal (all c) ending.Blocked v w h).ended) e refl
+
+pub faulty_so : (c : ℕ) (f : Fault) (u : View) (v w : Shown) → HasTurned turned.Made u (view_of v) → HasPursued (all c) (ending.Fault f) v w → HasRepeated c (repeated.Fault f.rule f.kind) u (view_of w)
+faulty_so c f u v w made h =
+    let z = (legal (all c) (ending.Fault f) v w h).ended in
+    let used = used_all c (ending.Fault f) v w h (λ q. cc) in
+    turns_faulty c f.rule f.kind u (mid c (ending.Fault f) u v w h made) (view_of w) (view_of w) (full_turns c (ending.Fault f) u v w h made used) (last_turn c (ending.Fault f) u v w h made used)
+    (call_stands_now c (ending.Fault f) u v w h made, faulty_now (all c) (ending.Fault f) v w h f z.0 z.1)
+
+pub bound_so : (c : ℕ) (u : View) (v w : Shown) → c < length v.program.sets → HasTurned turned.Made u (view_of v) → HasPursued (all c) ending.Bound v w → HasRepeated c repeated.Bound u (view_of w)
+bound_so c u v w l made h =
+    let set = element v.program.sets c l in
+    let k = legal (all c) ending.Bound v w h in
+    let z = k.ended in
+    let i = k.items in
+    let g : v.left ≡ w.left + i.0 = i.1 in
+    let none : w.left ≡ 0 = z.0 in
+    elim i.2 [
+      | inl e ↦ (
+        let used : v.left ≡ w.left + 2 * length h.entries = omega arith in
+        elim z.1 [
+          | inl q ↦ absurd (let d : v.left + 1 ≡ 2 * length h.entries = q.1 in omega arith)
+          | inr q ↦ turns_spent c u (mid c ending.Bound u v w h made) (view_of w) (view_of w) (full_turns c ending.Bound u v w h made used) (last_turn c ending.Bound u v w h made used)
+            (call_stands_now c ending.Bound u v w h made, spent_now (all c) ending.Bound v w h set.0 set.1 none q.0 q.1)
+        ]
+      )
+      | inr e ↦ turns_bound c u (view_of w) (view_of w) (but_turns c ending.Bound u v w h made h.entries refl (let d : i.0 + 1 ≡ 2 * length h.entries = e.0 in omega arith)) (refl, none)
+    ]

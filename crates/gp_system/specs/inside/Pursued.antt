@@ -1,0 +1,76 @@
+-- What a goal that a crew pursued came to, and what a run with a crew keeps.
+use Rattle.std.specs.Prelude.{◌≡◌, ◌⊎◌, ℕ, ◌+◌, ◌-◌, ◌*◌, ◌^◌, ◌<◌, ◌≤◌, Bool, List, [], ◌∷◌, ◌++◌, All, map, length, take, Some}
+use Rattle.gp_values.specs.Graph.{Graph}
+use Rattle.gp_syntax.specs.declared.found.Item.{Item}
+use Rattle.gp_syntax.specs.declared.found.Item.TheVariants as items
+use Rattle.gp_syntax.specs.declared.command.ProgramParts.{ProgramParts}
+use Rattle.gp_syntax.specs.Rule.{Rule, Found}
+use Rattle.gp_syntax.specs.Tree.{rule_of_tree}
+use Rattle.gp_syntax.specs.WellFormed.{IsWellFormed}
+use Rattle.gp_step.specs.Laws.{IsNumbered}
+use Rattle.gp_journal.specs.Trail.{Trail, root_of, fresh}
+use Rattle.gp_journal.specs.Leads.{Leads}
+use Rattle.gp_journal.specs.Journal.{items_of, noted, IsJournalOf}
+use Rattle.gp_run.specs.declared.engine.Called.{Called}
+use Rattle.gp_run.specs.declared.engine.Called.TheVariants as called
+use Rattle.opt_system.specs.declared.answers.Mode.{Mode}
+use Rattle.opt_system.specs.declared.answers.Mode.TheVariants.{Once, Saturate}
+use Rattle.opt_core.specs.declared.event.Ending.{Ending}
+use Rattle.opt_core.specs.declared.event.Ending.TheVariants as ending
+use Rattle.opt_core.specs.Core.{IsLegal}
+use Rattle.gp_system.specs.declared.goal.CallGoal.{CallGoal}
+use Rattle.gp_system.specs.declared.goal.Fault.{Fault}
+use Rattle.gp_system.specs.Gp.{RuleSystem, gp_means}
+use Rattle.gp_system.specs.inside.Viewed.{Shown, view_of}
+
+-- The entries led from the base to the trail, each a step of the goal; so many of the items given are left, and the ending
+-- is true there: a legal core has them.
+pub record IsPursued (system : RuleSystem) (goal : CallGoal) (base : Trail) (given : ℕ) (at : Trail) (entries : List Found) (left : ℕ) (x : Ending Fault) : Type 0 where
+  pub quiet : List Bool
+  pub legal : IsLegal (gp_means system) goal base at entries quiet given left (Some x)
+
+-- so many of the items of these matches are used: all, or all but the turn after the last step
+abbrev pub HasUsed : Mode → List Found → ℕ → Type 0
+HasUsed Once entries used = used ≡ length entries
+HasUsed Saturate entries used = (used ≡ 2 * length entries) ⊎ (used + 1 ≡ 2 * length entries)
+
+-- the items of these matches, but for the turn after the last step
+abbrev pub turns_first : List Found → List Item
+turns_first [] = []
+turns_first (m ∷ ms) = items.Turn ∷ items.Step m ∷ turns_first ms
+
+abbrev pub noted_but_last_turn : List Found → List Item
+noted_but_last_turn [] = []
+noted_but_last_turn (m ∷ ms) = items.Step m ∷ turns_first ms
+
+-- the rules and sets of a program, with so many shares besides one
+abbrev pub system_of : ProgramParts → ℕ → RuleSystem
+system_of p further = record { rules = p.rules; sets = p.sets; further = further }
+
+-- a goal of the program's calls came to this between two moments of a run
+pub record HasPursued (goal : CallGoal) (x : Ending Fault) (v w : Shown) : Type 0 where
+  pub further : ℕ
+  pub well_formed : All IsWellFormed (map rule_of_tree v.program.rules)
+  pub numbered : IsNumbered v.journal.trail.graph
+  pub entries : List Found
+  pub pursued : IsPursued (system_of v.program further) goal v.journal.trail v.left w.journal.trail entries w.left x
+  pub program : w.program ≡ v.program
+  pub items : w.journal.items ≡ v.journal.items ++ take (v.left - w.left) (noted goal.mode entries)
+  pub room : w.journal.backs ≡ v.journal.backs
+
+-- what a call came to, by how its goal ended
+abbrev pub called_of : Ending Fault → Called
+called_of ending.Committed = called.Stepped
+called_of ending.Blocked = called.Blocked
+called_of ending.Bound = called.Bound
+called_of (ending.Fault f) = called.Fault f.rule f.kind
+called_of ending.Stopped = called.NoMemory
+
+-- The workers' trails are where the first items of the run lead from the host, as many as they have had.
+pub record IsCrewed (s : Shown) (gp : RuleSystem) (workers : ℕ) (replicas : List Trail) (had : ℕ) : Type 0 where
+  pub system : gp ≡ system_of s.program gp.further
+  pub some : 0 < workers
+  pub within : had ≤ length s.journal.items
+  pub follow : All (λ t. Leads (map rule_of_tree s.program.rules) (take had (items_of s.journal.items)) (fresh (root_of s.journal.trail)) t) replicas
+  pub few : length replicas < 2 ^ 32
+  pub settled : s.journal.trail.caught ≡ 0

@@ -1,0 +1,193 @@
+//! A call that several workers pursue at the same time, each with a trail of its own.
+
+ghost use Rattle.std.specs.Prelude.{◌≡◌, ◌<◌, ◌^◌, ◌++◌, All, OnOk, IfOk, length, map, drop, take, vec_len};
+ghost use Rattle.gp_syntax.specs.Tree.{rule_of_tree};
+ghost use Rattle.gp_syntax.specs.WellFormed.{IsWellFormed};
+ghost use Rattle.gp_journal.specs.Trail.{Trail as AnyTrail};
+ghost use Rattle.gp_journal.specs.Leads.{Leads};
+ghost use Rattle.gp_journal.specs.Journal.{items_of, noted};
+ghost use Rattle.opt_core.specs.Core.{reached, AllApply};
+ghost use Rattle.opt_worker.specs.Replica.{IsReplica};
+ghost use Rattle.gp_system.specs.Gp.{gp_means};
+ghost use Rattle.gp_system.specs.inside.Pursued.{IsPursued, HasUsed, noted_but_last_turn};
+
+use crate::goal::{CallGoal, Fault};
+use crate::gp::Gp;
+use gp_journal::{Items, Mode, Trail};
+use gp_memory::NoMemory;
+use gp_syntax::{Found, Item, Rule};
+use opt_core::{Core, Ending};
+use opt_crew::pursue;
+use opt_worker::{Pace, follow};
+use std::alloc::Global;
+use std::sync::Wait;
+use std::thread::Threads;
+
+/// What a goal came to: where it led, the matches that were taken, how many items are left, how it ended, and the
+/// workers' trails, which are there too.
+#[derive(Drop)]
+pub(crate) struct Pursued {
+    pub(crate) trail: Trail,
+    pub(crate) entries: Vec<Found>,
+    pub(crate) left: u64,
+    pub(crate) ending: Ending<Fault>,
+    pub(crate) replicas: Vec<Trail>,
+}
+
+// So many copies of a trail.
+fn copies(alloc: Global, trail: &Trail, count: u32) -> Result<Vec<Trail>, NoMemory>
+    ensures all { IfOk result (λ v. All (λ t. t ≡ trail.now) v.items) }
+    ensures len { IfOk result (λ v. vec_len v ≡ count) }
+{
+    let mut copies = Vec::new(alloc);
+    for _ in 0..count {
+        copies.push(trail.copy()?)?;
+    }
+    Ok(copies)
+}
+
+// Brings a trail to another by the items that lead from it there.
+fn bring(rules: &[Rule], missing: &[Item], replica: &mut Trail) -> Result<(), NoMemory>
+    requires { (t : AnyTrail) × Leads (map rule_of_tree rules.now) (items_of missing.now) replica.old t }
+    ensures { OnOk result (Leads (map rule_of_tree rules.now) (items_of missing.now) replica.old (record replica.new { caught = replica.old.caught }) × (replica.new.caught ≡ 0)) }
+{
+    replica.catch_up(rules, missing)?;
+    replica.settle();
+    Ok(())
+}
+
+// The same for each of them.
+fn bring_all(rules: &[Rule], missing: &[Item], trail: &Trail, replicas: Vec<Trail>) -> Result<Vec<Trail>, NoMemory>
+    requires well_formed { All IsWellFormed (map rule_of_tree rules.now) }
+    requires way { All (λ t. Leads (map rule_of_tree rules.now) (items_of missing.now) t trail.now) replicas.items }
+    requires settled { trail.now.caught ≡ 0 }
+    ensures all { IfOk result (λ v. All (λ t. t ≡ trail.now) v.items) }
+    ensures len { IfOk result (λ v. vec_len v ≡ vec_len replicas) }
+{
+    let mut left = replicas;
+    let mut brought = Vec::with_capacity(*left.allocator(), left.len())?;
+    while let Some(mut replica) = left.pop() {
+        bring(rules, missing, &mut replica)?;
+        brought.push(replica)?;
+    }
+    Ok(brought)
+}
+
+/// Trails of the workers that are where the run is: made, or brought there by the items that they have not had.
+pub(crate) fn brought(
+    rules: &[Rule],
+    workers: u32,
+    trail: &Trail,
+    missing: &[Item],
+    replicas: Vec<Trail>,
+) -> Result<Vec<Trail>, NoMemory>
+    requires well_formed { All IsWellFormed (map rule_of_tree rules.now) }
+    requires way { All (λ t. Leads (map rule_of_tree rules.now) (items_of missing.now) t trail.now) replicas.items }
+    requires settled { trail.now.caught ≡ 0 }
+    requires few { vec_len replicas < 2 ^ 32 }
+    requires workers { 0 < workers }
+    ensures all { IfOk result (λ v. All (λ t. t ≡ trail.now) v.items) }
+    ensures some { IfOk result (λ v. 0 < vec_len v) }
+    ensures few { IfOk result (λ v. vec_len v < 2 ^ 32) }
+{
+    if replicas.is_empty() {
+        return copies(*replicas.allocator(), trail, workers);
+    }
+    bring_all(rules, missing, trail, replicas)
+}
+
+// Makes the steps on each replica that it has not made yet. The base, from which they began, has this depth.
+fn level(
+    system: &Gp<'_>,
+    depth: u64,
+    entries: &[Found],
+    replicas: Vec<Trail>,
+) -> Result<Vec<Trail>, NoMemory>
+    requires { (goal : CallGoal) × (base : AnyTrail) × (length base.before ≡ depth) × AllApply (gp_means system.now) goal base entries.now × All (IsReplica (gp_means system.now) base entries.now) replicas.items }
+    ensures level { (goal : CallGoal) (base : AnyTrail) → length base.before ≡ depth → AllApply (gp_means system.now) goal base entries.now → All (IsReplica (gp_means system.now) base entries.now) replicas.items
+        → IfOk result (λ v. All (λ t. t ≡ reached (gp_means system.now) base entries.now) v.items) }
+    ensures len { IfOk result (λ v. vec_len v ≡ vec_len replicas) }
+{
+    let mut left = replicas;
+    let mut level = Vec::with_capacity(*left.allocator(), left.len())?;
+    while let Some(mut replica) = left.pop() {
+        let made = (replica.depth() - depth) as usize;
+        follow(system, &mut replica, &entries[made..])?;
+        level.push(replica)?;
+    }
+    Ok(level)
+}
+
+/// Pursues a goal from the trail, with a worker for each replica. So many counted items are left for it.
+pub(crate) fn pursue_goal<P: Pace + Sync, R: Threads + Wait + Sync>(
+    rt: &R,
+    system: &Gp<'_>,
+    goal: CallGoal,
+    trail: Trail,
+    left: u64,
+    replicas: Vec<Trail>,
+    pace: &P,
+) -> Result<Pursued, NoMemory>
+    requires some { 0 < vec_len replicas }
+    requires few { vec_len replicas < 2 ^ 32 }
+    requires there { All (λ t. t ≡ trail) replicas.items }
+    ensures pursued { IfOk result (λ p. IsPursued system.now goal trail left p.trail p.entries.items p.left p.ending) }
+    ensures there { IfOk result (λ p. All (λ t. t ≡ p.trail) p.replicas.items) }
+    ensures few { IfOk result (λ p. vec_len p.replicas < 2 ^ 32) }
+{
+    let depth = trail.depth();
+    let Ok(core) = Core::start(*replicas.allocator(), system, trail, goal, left) else {
+        return Err(NoMemory);
+    };
+    let (core, replicas) = pursue(rt, system, core, replicas, pace);
+    let (trail, entries, left, ending) = core.into_parts();
+    let replicas = level(system, depth, &entries, replicas)?;
+    match ending {
+        None => Err(NoMemory),
+        Some(ending) => Ok(Pursued {
+            trail,
+            entries,
+            left,
+            ending,
+            replicas,
+        }),
+    }
+}
+
+// Puts the items of matches at the end, but for the turn after the last step.
+fn note_but_last_turn(items: &mut Items, entries: Vec<Found>) -> Result<(), NoMemory>
+    ensures items { OnOk result (items.new.items ≡ items.old.items ++ noted_but_last_turn entries.items) }
+    ensures backs { items.new.backs ≡ items.old.backs }
+{
+    let mut last = Vec::with_capacity(*entries.allocator(), 1)?;
+    let mut entries = entries;
+    match entries.pop() {
+        Some(found) => last.push(found)?,
+        None => return Ok(()),
+    }
+    items.note(entries, Mode::Saturate)?;
+    items.note(last, Mode::Once)
+}
+
+/// Puts the items of the matches that were taken at the end, as many as were used: where none was left for the turn after
+/// the last step, that turn is not made.
+pub(crate) fn note_used(
+    items: &mut Items,
+    entries: Vec<Found>,
+    mode: Mode,
+    used: u64,
+) -> Result<(), NoMemory>
+    requires { HasUsed mode entries.items used }
+    ensures items { OnOk result (items.new.items ≡ items.old.items ++ take used (noted mode entries.items)) }
+    ensures backs { items.new.backs ≡ items.old.backs }
+{
+    match mode {
+        Mode::Once => items.note(entries, Mode::Once),
+        Mode::Saturate => {
+            if used % 2 == 1 {
+                return note_but_last_turn(items, entries);
+            }
+            items.note(entries, Mode::Saturate)
+        }
+    }
+}
