@@ -15,8 +15,6 @@ mod files;
 mod host_line;
 mod parsed;
 mod reply;
-#[cfg(test)]
-mod row_tests;
 mod run;
 mod said;
 mod status;

@@ -1,8 +1,10 @@
 //! Programs of the whole language on hosts, through the top call: a table of programs and what they show.
 
 use crate::tests::{NO_CUTS, answer_given, two_files};
-use std::alloc::Global;
+use std::alloc::{AllocGlobal, Global};
+use std::sync::Wait;
 use std::test::Fail;
+use std::thread::Threads;
 
 const LINK: &str =
     "link(a,b,x,y,z:list) [ (n0, x) (n1, y) (n2, z) | (e0, n0, n1, a) (e1, n1, n2, b) ] => [ (n0, x) (n1, y) (n2, z) | (e0, n0, n1, a) (e1, n1, n2, b) (e2, n0, n2, empty) ] interface = {n0, n1, n2} where not edge(n0, n2)";
@@ -52,7 +54,8 @@ struct Row {
     shown: &'static str,
 }
 
-static ROWS: [Row; 44] = [
+// Rows that any number of workers answers with the same bytes.
+static CREWED: [Row; 12] = [
     Row {
         main: "link!",
         rules: &[LINK],
@@ -73,34 +76,6 @@ static ROWS: [Row; 44] = [
         host: "[ (a, 1) (b, 2) (c, 3) | (x, a, b, empty) (y, b, c, empty) (z, c, a, empty) ]",
         options: &[],
         shown: "0\t[\n  (n0, 1)\n  (n1, 2)\n  (n2, 3)\n|\n  (e0, n0, n1, empty)\n  (e1, n0, n2, empty)\n  (e2, n1, n0, empty)\n  (e3, n1, n2, empty)\n  (e4, n2, n0, empty)\n  (e5, n2, n1, empty)\n]\n\t",
-    },
-    Row {
-        main: "make",
-        rules: &[MAKE],
-        host: "[ | ]",
-        options: &[],
-        shown: "0\t[\n  (n0, 0)\n|\n]\n\t",
-    },
-    Row {
-        main: "one",
-        rules: &[ONE],
-        host: "[ | ]",
-        options: &[],
-        shown: "1\tfail\n\t",
-    },
-    Row {
-        main: "del",
-        rules: &[DEL],
-        host: "[ (a, 1) | (e0, a, a, empty) ]",
-        options: &[],
-        shown: "1\tfail\n\t",
-    },
-    Row {
-        main: "del!",
-        rules: &[DEL],
-        host: "[ (p, 1) (q, 2) (r, 3) (s, 4) | (e0, r, s, empty) ]",
-        options: &[],
-        shown: "0\t[\n  (n2, 3)\n  (n3, 4)\n|\n  (e0, n2, n3, empty)\n]\n\t",
     },
     Row {
         main: "if del then skip else fail",
@@ -164,6 +139,37 @@ static ROWS: [Row; 44] = [
         host: "[ (a, empty) (b, empty) (c, empty) | (e0, a, b, empty) (e1, b, c, empty) ]",
         options: &["--bound", "0"],
         shown: "5\t\tbound 0\n",
+    },
+];
+
+static ROWS: [Row; 32] = [
+    Row {
+        main: "make",
+        rules: &[MAKE],
+        host: "[ | ]",
+        options: &[],
+        shown: "0\t[\n  (n0, 0)\n|\n]\n\t",
+    },
+    Row {
+        main: "one",
+        rules: &[ONE],
+        host: "[ | ]",
+        options: &[],
+        shown: "1\tfail\n\t",
+    },
+    Row {
+        main: "del",
+        rules: &[DEL],
+        host: "[ (a, 1) | (e0, a, a, empty) ]",
+        options: &[],
+        shown: "1\tfail\n\t",
+    },
+    Row {
+        main: "del!",
+        rules: &[DEL],
+        host: "[ (p, 1) (q, 2) (r, 3) (s, 4) | (e0, r, s, empty) ]",
+        options: &[],
+        shown: "0\t[\n  (n2, 3)\n  (n3, 4)\n|\n  (e0, n2, n3, empty)\n]\n\t",
     },
     Row {
         main: "inc",
@@ -374,15 +380,8 @@ fn program_of(alloc: Global, main: &str, rules: &[&str]) -> Result<String, Fail>
     Ok(text)
 }
 
-// What the program shows on the host.
-fn shown_by(
-    rt: &HostRuntime,
-    program: &str,
-    host: &str,
-    options: &[&str],
-) -> Result<Vec<u8>, Fail> {
-    let alloc = rt.alloc();
-    let mut files = two_files(alloc, program, host, &[])?;
+// The words that run p on h with these options.
+fn run_words(alloc: Global, options: &[&str]) -> Result<Vec<String>, Fail> {
     let mut words = Vec::new(alloc);
     words.push(String::from_str(alloc, "run")?)?;
     words.push(String::from_str(alloc, "p")?)?;
@@ -390,15 +389,60 @@ fn shown_by(
     for option in options {
         words.push(String::from_str(alloc, option)?)?;
     }
+    Ok(words)
+}
+
+// What the program shows on the host.
+fn shown_by<R: AllocGlobal + Threads + Wait + Sync>(
+    rt: &R,
+    program: &str,
+    host: &str,
+    options: &[&str],
+) -> Result<Vec<u8>, Fail> {
+    let alloc = rt.alloc();
+    let mut files = two_files(alloc, program, host, &[])?;
+    answer_given(rt, run_words(alloc, options)?, &mut files, NO_CUTS)
+}
+
+// What the row shows with this crew.
+fn shown_in<R: AllocGlobal + Threads + Wait + Sync>(
+    rt: &R,
+    row: &Row,
+    crew: &[&str],
+) -> Result<Vec<u8>, Fail> {
+    let alloc = rt.alloc();
+    let program = program_of(alloc, row.main, row.rules)?;
+    let mut files = two_files(alloc, &program, row.host, &[])?;
+    let mut words = run_words(alloc, row.options)?;
+    for word in crew {
+        words.push(String::from_str(alloc, word)?)?;
+    }
     answer_given(rt, words, &mut files, NO_CUTS)
 }
 
 #[test]
 fn programs_show_what_their_rules_give(rt: HostRuntime) -> Result<(), Fail> {
     for row in ROWS.iter() {
-        let program = program_of(rt.alloc(), row.main, row.rules)?;
-        let found = shown_by(&rt, &program, row.host, row.options)?;
+        let found = shown_in(&rt, row, &[])?;
         assert_eq!(rt; found.as_slice(), row.shown.as_bytes(), "{}", row.main);
+    }
+    Ok(())
+}
+
+static CREWS: [&[&str]; 4] = [
+    &[],
+    &["--workers", "2"],
+    &["--workers", "3", "--fan", "1"],
+    &["--workers", "4", "--fan", "1"],
+];
+
+#[test]
+fn every_crew_shows_the_same(rt: HostRuntime) -> Result<(), Fail> {
+    for crew in CREWS.iter() {
+        for row in CREWED.iter() {
+            let found = shown_in(&rt, row, crew)?;
+            assert_eq!(rt; found.as_slice(), row.shown.as_bytes(), "{}", row.main);
+        }
     }
     Ok(())
 }
