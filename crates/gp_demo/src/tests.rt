@@ -4,18 +4,17 @@ use crate::summary;
 use gp_gen::Kind;
 use gp_graph::Graph;
 use gp_syntax::{Found, Item};
-use gp_values::{EdgeMark, List, NodeMark};
+use gp_values::{List, NodeMark};
 use std::test::Fail;
 
 #[test]
-fn marks_edges_and_live_steps_are_counted(rt: HostRuntime) -> Result<(), Fail> {
+fn marks_and_live_steps_are_counted(rt: HostRuntime) -> Result<(), Fail> {
     let alloc = rt.alloc();
     let mut graph = Graph::new(alloc);
-    let first = graph.add_node(List::new(alloc), NodeMark::Red, false)?;
-    let second = graph.add_node(List::new(alloc), NodeMark::Blue, false)?;
-    graph.add_node(List::new(alloc), NodeMark::Red, true)?;
+    graph.add_node(List::new(alloc), NodeMark::Red, false)?;
+    graph.add_node(List::new(alloc), NodeMark::Blue, false)?;
     graph.add_node(List::new(alloc), NodeMark::None, false)?;
-    graph.add_edge(first, second, List::new(alloc), EdgeMark::Red)?;
+    graph.add_node(List::new(alloc), NodeMark::Red, true)?;
     let items = [
         Item::Step(Found::new(alloc, 0)),
         Item::Turn,
@@ -26,7 +25,7 @@ fn marks_edges_and_live_steps_are_counted(rt: HostRuntime) -> Result<(), Fail> {
     let text = summary(alloc, Kind::Tree, 2, &graph, &items)?;
     assert_eq!(rt;
         text.as_slice(),
-        b"kind tree\nsize 2\nnodes 4\nedges 1\nred 2\nblue 1\nsteps 2\n".as_slice()
+        b"kind tree\nsize 2\nnodes 4\nedges 0\nred 2\nblue 1\nsteps 2\n".as_slice()
     );
     Ok(())
 }
