@@ -1,0 +1,32 @@
+# Completion of gp2 for bash.
+_gp2() {
+  local word=${COMP_WORDS[COMP_CWORD]} before=${COMP_WORDS[COMP_CWORD - 1]} files=0 i pattern
+  COMPREPLY=()
+  case $before in
+    --bound | --seed) return ;;
+  esac
+  if [ "$COMP_CWORD" -eq 1 ]; then
+    mapfile -t COMPREPLY < <(compgen -W "run" -- "$word")
+    return
+  fi
+  if [[ $word == -* ]]; then
+    mapfile -t COMPREPLY < <(compgen -W "--bound --seed --journal" -- "$word")
+    return
+  fi
+  # How many files stand before this word: the first is the program, the second the host.
+  for ((i = 2; i < COMP_CWORD; i++)); do
+    case ${COMP_WORDS[i]} in
+      --bound | --seed) i=$((i + 1)) ;;
+      -*) ;;
+      *) files=$((files + 1)) ;;
+    esac
+  done
+  case $files in
+    0) pattern='*.gp2' ;;
+    1) pattern='*.host' ;;
+    *) mapfile -t COMPREPLY < <(compgen -W "--bound --seed --journal" -- "$word"); return ;;
+  esac
+  compopt -o filenames 2>/dev/null
+  mapfile -t COMPREPLY < <(compgen -f -X "!$pattern" -- "$word"; compgen -d -- "$word")
+}
+complete -F _gp2 gp2

@@ -1,0 +1,7 @@
+# Completion of gp2 for fish.
+complete -c gp2 -f
+complete -c gp2 -n __fish_use_subcommand -a run -d 'Run a program on a host graph'
+complete -c gp2 -n '__fish_seen_subcommand_from run' -l bound -x -d 'How many turns and steps a run may count'
+complete -c gp2 -n '__fish_seen_subcommand_from run' -l seed -x -d 'With what the choices of or begin'
+complete -c gp2 -n '__fish_seen_subcommand_from run' -l journal -d 'Print the steps of the run before its result'
+complete -c gp2 -n '__fish_seen_subcommand_from run' -k -a '(__fish_complete_suffix .host)(__fish_complete_suffix .gp2)'
