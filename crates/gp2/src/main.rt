@@ -1,10 +1,12 @@
-//! The program `gp2`: it hands the words, the files and the two streams to the top call, and ends with its status.
+//! The program `gp2`: it hands the words, the files, the two streams and a pace that holds no worker to the top call, and
+//! ends with its status.
 //! Nothing is written here, and the words are the first for which memory may be refused.
 #![tactic(auto)]
 
 use gp_cli::gp2_main;
 use gp_io::{DiskFiles, StdSink};
 use gp_memory::NoMemory;
+use opt_worker::Free;
 use std::alloc::Global;
 use std::env;
 use std::io::ErrorKind;
@@ -33,5 +35,5 @@ fn main(rt: HostRuntime) -> ExitCode {
     let mut files = DiskFiles::new(&rt);
     let mut out = StdSink::new(rt.stdout());
     let mut err = StdSink::new(rt.stderr());
-    ExitCode::from(gp2_main(&rt, words, &mut files, &mut out, &mut err))
+    ExitCode::from(gp2_main(&rt, words, &mut files, &mut out, &mut err, &Free))
 }

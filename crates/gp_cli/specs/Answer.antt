@@ -12,9 +12,10 @@ use Rattle.gp_reader.specs.declared.fault.ProgramFault.{ProgramFault}
 use Rattle.gp_reader.specs.Program.{IsProgramText, IsFaultyText, declared_rules}
 use Rattle.gp_hostfile.specs.declared.fault.HostFault.{HostFault}
 use Rattle.gp_hostfile.specs.Host.{IsHostText, IsHostFault}
-use Rattle.gp_words.specs.CommandLine.{Command, command_of}
+use Rattle.gp_gen.specs.Texts.{program_text, host_text}
+use Rattle.gp_words.specs.CommandLine.{RunCommand, DemoCommand, Command, run, demo, command_of}
 use Rattle.gp_cli.specs.Choices.{AreSeeded}
-use Rattle.gp_cli.specs.Texts.{Said, graph, failed, usage, long_program, bad_program, long_host, bad_host, bound_spent, number_fault, unread, Shows}
+use Rattle.gp_cli.specs.Texts.{Said, graph, failed, demo_done, usage, long_program, bad_program, long_host, bad_host, bound_spent, number_fault, unread, Shows}
 
 -- the greatest number of bytes of a file
 abbrev pub limit : ℕ
@@ -27,6 +28,13 @@ pub record Count : Type 0 where
 
 abbrev pub HasRisen : Count → Type 0
 HasRisen count = Rose count.before count.now
+
+-- ---- texts
+
+-- the bytes are the text of this program, whose rules have these names
+pub record TellsProgram (bytes : List ℕ) (p : Program) (rule_names : List Name) : Type 0 where
+  pub text : IsProgramText bytes p
+  pub names : rule_names ≡ map (λ (d : Declaration). d.name) (declared_rules text.tree)
 
 -- ---- files
 
@@ -50,8 +58,7 @@ pub data CannotRead (content : Option Content) (files : Count) (name : Name) : T
 pub record HasProgram (content : Option Content) (name : Name) (p : Program) (rule_names : List Name) : Type 0 where
   pub bytes : List ℕ
   pub has : HasBytes content name bytes
-  pub text : IsProgramText bytes p
-  pub names : rule_names ≡ map (λ (d : Declaration). d.name) (declared_rules text.tree)
+  pub tells : TellsProgram bytes p rule_names
 
 -- its bytes are this host graph
 pub record HasHost (content : Option Content) (name : Name) (g : Graph) : Type 0 where
@@ -59,7 +66,29 @@ pub record HasHost (content : Option Content) (name : Name) (g : Graph) : Type 0
   pub has : HasBytes content name bytes
   pub text : IsHostText bytes g
 
--- ---- when an answer is true
+-- ---- what a program comes to on a host
+
+-- GP 2's rules lead from the host so: with the choices of the seed, and with no more items counted than may be
+pub record RunsTo (bound seed : ℕ) (p : Program) (g : Graph) (t : List Item) (x : Ending) : Type 0 where
+  pub picks : List Bool
+  pub run : Run p p.main g picks t x
+  pub seeded : AreSeeded seed picks
+  pub within : counted t ≤ bound
+
+-- what the program comes to on the host, within the bound and with the choices of the seed
+pub data Comes (bound seed : ℕ) (p : Program) (rule_names : List Name) (g : Graph) : Said → Type 0 where
+  -- they give this graph
+  gives : {h : Graph} {t : List Item} → RunsTo bound seed p g t (Gives h) → Comes bound seed p rule_names g (graph t h)
+  -- they give fail
+  fails : {h : Graph} {t : List Item} → RunsTo bound seed p g t (Fails h) → Comes bound seed p rule_names g (failed t)
+  -- all items that may be counted are, and the run stands before a turn of a loop, or before a call of which some match
+  -- applies
+  is_spent : (h : Graph) {t : List Item} {x : Ending} → RunsTo bound seed p g t x → MayGoOn p h x → counted t ≡ bound → Comes bound seed p rule_names g (bound_spent bound)
+  -- the run stands before a call, and the rule of that name, one of its set, has a faulty match of this kind
+  is_faulty : {h : Graph} {t : List Item} {call rule : ℕ} {name : Name} {kind : NumberKind} → RunsTo bound seed p g t (At call h) → HasFaultyCall p call rule kind h →
+      slice_get rule_names rule ≡ Some name → Comes bound seed p rule_names g (number_fault name kind)
+
+-- ---- `run`
 
 -- what is answered in place of a program
 pub data StopsAtProgram (content : Option Content) (files : Count) (name : Name) : Said → Type 0 where
@@ -73,40 +102,60 @@ pub data StopsAtHost (content : Option Content) (files : Count) (name : Name) : 
   host_is_bad : {bytes : List ℕ} {f : HostFault} → HasBytes content name bytes → IsHostFault bytes f → StopsAtHost content files name (bad_host bytes f)
   host_is_unread : CannotRead content files name → StopsAtHost content files name (unread name)
 
--- GP 2's rules lead from the host so: with the choices of the seed, and with no more items counted than may be
-pub record RunsTo (k : Command) (p : Program) (g : Graph) (t : List Item) (x : Ending) : Type 0 where
-  pub picks : List Bool
-  pub run : Run p p.main g picks t x
-  pub seeded : AreSeeded k.seed picks
-  pub within : counted t ≤ k.bound
+-- The order is: program read, program, host read, host, run.
+pub data RunAnswers (content : Option Content) (files : Count) (k : RunCommand) : Said → Type 0 where
+  at_program : {said : Said} → StopsAtProgram content files k.program said → RunAnswers content files k said
+  at_host : {p : Program} {rule_names : List Name} {said : Said} → HasProgram content k.program p rule_names → StopsAtHost content files k.host said →
+      RunAnswers content files k said
+  at_run : {p : Program} {rule_names : List Name} {g : Graph} {said : Said} → HasProgram content k.program p rule_names → HasHost content k.host g →
+      Comes k.bound k.seed p rule_names g said → RunAnswers content files k said
 
--- what the program comes to on the host
-pub data Comes (k : Command) (p : Program) (rule_names : List Name) (g : Graph) : Said → Type 0 where
-  -- they give this graph
-  gives : {h : Graph} {t : List Item} → RunsTo k p g t (Gives h) → Comes k p rule_names g (graph t h)
-  -- they give fail
-  fails : {h : Graph} {t : List Item} → RunsTo k p g t (Fails h) → Comes k p rule_names g (failed t)
-  -- all items that may be counted are, and the run stands before a turn of a loop, or before a call of which some match
-  -- applies
-  is_spent : (h : Graph) {t : List Item} {x : Ending} → RunsTo k p g t x → MayGoOn p h x → counted t ≡ k.bound → Comes k p rule_names g (bound_spent k.bound)
-  -- the run stands before a call, and the rule of that name, one of its set, has a faulty match of this kind
-  is_faulty : {h : Graph} {t : List Item} {call rule : ℕ} {name : Name} {kind : NumberKind} → RunsTo k p g t (At call h) → HasFaultyCall p call rule kind h →
-      slice_get rule_names rule ≡ Some name → Comes k p rule_names g (number_fault name kind)
+-- ---- `demo`
 
--- The order is: words, program read, program, host read, host, run.
+-- its program's text and its host's are made from its kind, its size and its seed
+abbrev pub demo_program : DemoCommand → List ℕ
+demo_program k = program_text k.kind
+
+abbrev pub demo_host : DemoCommand → List ℕ
+demo_host k = host_text k.kind k.size k.seed
+
+abbrev pub demo_bound : ℕ
+demo_bound = 2 ^ 40
+
+-- with what the choices of its run begin
+abbrev pub demo_choices : ℕ
+demo_choices = 0
+
+-- in place of a graph it answers what it has done
+abbrev pub of_demo_run : DemoCommand → Said → Said
+of_demo_run k (graph t h) = demo_done k.kind k.size t h
+of_demo_run k said = said
+
+-- The order is: program, host, run. No file is read.
+pub data DemoAnswers (k : DemoCommand) : Said → Type 0 where
+  demo_program_is_bad : {f : ProgramFault} → IsFaultyText (demo_program k) f → DemoAnswers k (bad_program f)
+  demo_host_is_bad : {p : Program} {rule_names : List Name} {f : HostFault} → TellsProgram (demo_program k) p rule_names → IsHostFault (demo_host k) f →
+      DemoAnswers k (bad_host (demo_host k) f)
+  demo_runs : {p : Program} {rule_names : List Name} {g : Graph} {said : Said} → TellsProgram (demo_program k) p rule_names → IsHostText (demo_host k) g →
+      Comes demo_bound demo_choices p rule_names g said → DemoAnswers k (of_demo_run k said)
+
+-- ---- when an answer is true
+
 pub data IsTrue (words : List Name) (content : Option Content) (files : Count) : Said → Type 0 where
   of_words : command_of words ≡ None → IsTrue words content files usage
-  of_program : {k : Command} {said : Said} → command_of words ≡ Some k → StopsAtProgram content files k.program said → IsTrue words content files said
-  of_host : {k : Command} {p : Program} {rule_names : List Name} {said : Said} → command_of words ≡ Some k → HasProgram content k.program p rule_names →
-      StopsAtHost content files k.host said → IsTrue words content files said
-  of_run : {k : Command} {p : Program} {rule_names : List Name} {g : Graph} {said : Said} → command_of words ≡ Some k → HasProgram content k.program p rule_names →
-      HasHost content k.host g → Comes k p rule_names g said → IsTrue words content files said
+  of_run : {k : RunCommand} {said : Said} → command_of words ≡ Some (run k) → RunAnswers content files k said → IsTrue words content files said
+  of_demo : {k : DemoCommand} {said : Said} → command_of words ≡ Some (demo k) → DemoAnswers k said → IsTrue words content files said
 
 -- ---- what is written
 
--- the words ask for the journal
+-- the command asks for the journal
+abbrev pub wants_journal : Command → Bool
+wants_journal (run k) = k.journal
+wants_journal (demo k) = false
+
+-- the words ask for it
 abbrev pub asks_journal : List Name → Bool
-asks_journal words = option_map_or (λ (k : Command). k.journal) (command_of words) false
+asks_journal words = option_map_or wants_journal (command_of words) false
 
 -- a true answer with its status, and its bytes on out and on err
 pub record Replies (words : List Name) (content : Option Content) (files : Count) (status : ℕ) (o e : List ℕ) : Type 0 where
@@ -137,10 +186,28 @@ pub record IsSilent (out_old out_new err_old err_new : Option (List ℕ)) (statu
   pub gains_out : Gains out_old out_new []
   pub gains_err : Gains err_old err_new []
 
--- Where the files' content is known, valid words, a program and a host, with no fault of a device, give a graph, fail,
--- the spent bound or a number fault, or want of memory.
-abbrev pub Completes : List Name → Option Content → Count → Count → Count → ℕ → Type 0
-Completes words content files out err status =
-    (held : Content) (k : Command) (p : Program) (rule_names : List Name) (g : Graph) → content ≡ Some held → command_of words ≡ Some k →
-    HasProgram content k.program p rule_names → HasHost content k.host g →
-    (HasRisen files → ⊥) → (HasRisen out → ⊥) → (HasRisen err → ⊥) → (status ≡ 0) ⊎ (status ≡ 1) ⊎ (status ≡ 5) ⊎ (status ≡ 6) ⊎ (status ≡ 7)
+-- ---- what valid input is answered with
+
+abbrev pub IsOneOf : List ℕ → ℕ → Type 0
+IsOneOf [] status = ⊥
+IsOneOf (s ∷ ss) status = (status ≡ s) ⊎ IsOneOf ss status
+
+abbrev pub Stays : Count → Type 0
+Stays count = HasRisen count → ⊥
+
+-- Where the files' content is known and no device fails, `run` of a program and a host gives a graph, fail, the spent
+-- bound or a number fault, or want of memory.
+abbrev pub RunCompletes : List Name → Option Content → Count → Count → Count → ℕ → Type 0
+RunCompletes words content files out err status =
+    (held : Content) (k : RunCommand) (p : Program) (rule_names : List Name) (g : Graph) → content ≡ Some held → command_of words ≡ Some (run k) →
+    HasProgram content k.program p rule_names → HasHost content k.host g → Stays files → Stays out → Stays err → IsOneOf (0 ∷ 1 ∷ 5 ∷ 6 ∷ 7 ∷ []) status
+
+-- Where no sink fails, `demo` gives its summary, or what its texts come to: the fault of one, fail, the spent bound or a
+-- number fault; or want of memory.
+abbrev pub DemoCompletes : List Name → Count → Count → ℕ → Type 0
+DemoCompletes words out err status =
+    (k : DemoCommand) → command_of words ≡ Some (demo k) → Stays out → Stays err → IsOneOf (0 ∷ 1 ∷ 3 ∷ 4 ∷ 5 ∷ 6 ∷ 7 ∷ []) status
+
+pub record Completes (words : List Name) (content : Option Content) (files out err : Count) (status : ℕ) : Type 0 where
+  pub runs : RunCompletes words content files out err status
+  pub demos : DemoCompletes words out err status

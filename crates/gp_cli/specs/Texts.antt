@@ -11,6 +11,8 @@ use Rattle.gp_reader.specs.declared.fault.ProgramFault.{ProgramFault}
 use Rattle.gp_reader.specs.FaultLines.{line_of}
 use Rattle.gp_hostfile.specs.declared.fault.HostFault.{HostFault}
 use Rattle.gp_hostfile.specs.GraphText.{IsGraphText}
+use Rattle.gp_gen.specs.declared.kind.Kind.{Kind}
+use Rattle.gp_demo.specs.Summary.{summary_text}
 use Rattle.gp_cli.specs.HostLines.{IsHostLine}
 
 -- an answer, apart from its text
@@ -18,6 +20,8 @@ pub data Said : Type 0 where
   -- the trace of a run, and the graph that it gives
   graph : List Item → Graph → Said
   failed : List Item → Said
+  -- the kind and the size of a demo, the trace of its run, and the graph that it gives
+  demo_done : Kind → ℕ → List Item → Graph → Said
   usage : Said
   long_program : Said
   bad_program : ProgramFault → Said
@@ -31,7 +35,9 @@ pub data Said : Type 0 where
   unread : Name → Said
 
 abbrev pub usage_text : List ℕ
-usage_text = codes "usage: gp2 run PROGRAM HOST [--bound N] [--seed N] [--journal]\n"
+usage_text =
+    codes "usage: gp2 run PROGRAM HOST [--workers N] [--bound N] [--fan N] [--seed N] [--journal]\n"
+    ++ codes "       gp2 demo KIND SIZE SEED [--workers N] [--fan N]\n"
 
 abbrev pub fail_text : List ℕ
 fail_text = codes "fail\n"
@@ -63,6 +69,7 @@ journal_text asked t = if asked then trace_text t else []
 pub data Shows (asked : Bool) : Said → ℕ → List ℕ → List ℕ → Type 0 where
   graph_shown : {t : List Item} {h : Graph} {text : List ℕ} → IsGraphText h text → Shows asked (graph t h) 0 (journal_text asked t ++ text) []
   fail_shown : {t : List Item} → Shows asked (failed t) 1 (journal_text asked t ++ fail_text) []
+  demo_shown : {kind : Kind} {size : ℕ} {t : List Item} {h : Graph} → Shows asked (demo_done kind size t h) 0 (summary_text kind size h t) []
   usage_shown : Shows asked usage 2 [] usage_text
   long_program_shown : Shows asked long_program 3 [] program_too_long
   bad_program_shown : {f : ProgramFault} → Shows asked (bad_program f) 3 [] (line_of f)

@@ -2,13 +2,12 @@
 
 ghost use Rattle.std.specs.Prelude.{◌≡◌, ◌≤◌};
 ghost use Rattle.gp_cli.specs.inside.Parts.{ReadsFile, LoadsProgram, LoadsHost};
-ghost use Rattle.gp_cli.specs.inside.Told.{said_of, program_refused, host_refused};
+ghost use Rattle.gp_cli.specs.inside.Told.{said_of};
 
+use crate::parsed::{host_of, program_of};
 use crate::said::{Said, Stop};
 use gp_graph::Graph;
-use gp_hostfile::{HostFault, read_host};
 use gp_io::{Files, ReadRefusal};
-use gp_reader::{ProgramFault, read_program};
 use gp_syntax::Program;
 use std::alloc::Global;
 
@@ -34,26 +33,6 @@ fn read_file<'a, F: Files>(
     }
 }
 
-// What is answered where a program is refused so.
-fn program_refused<'a>(fault: ProgramFault) -> Stop<'a>
-    ensures { result ≡ program_refused fault }
-{
-    match fault {
-        ProgramFault::NoMemory => Stop::NoMemory,
-        other => Stop::Said(Said::BadProgram(other)),
-    }
-}
-
-// The same of a host of these bytes.
-fn host_refused<'a>(bytes: Vec<u8>, fault: HostFault) -> Stop<'a>
-    ensures { result ≡ host_refused bytes fault }
-{
-    match fault {
-        HostFault::NoMemory => Stop::NoMemory,
-        other => Stop::Said(Said::BadHost(bytes, other)),
-    }
-}
-
 /// The program of the file.
 pub(crate) fn load_program<'a, F: Files>(
     alloc: Global,
@@ -65,10 +44,7 @@ pub(crate) fn load_program<'a, F: Files>(
     ensures same { F.content files.new ≡ F.content files.old }
 {
     let text = read_file(alloc, files, name, Said::LongProgram)?;
-    match read_program(alloc, &text) {
-        Ok(program) => Ok(program),
-        Err(fault) => Err(program_refused(fault)),
-    }
+    program_of(alloc, &text)
 }
 
 /// The graph of the host's file.
@@ -82,8 +58,5 @@ pub(crate) fn load_host<'a, F: Files>(
     ensures same { F.content files.new ≡ F.content files.old }
 {
     let text = read_file(alloc, files, name, Said::LongHost)?;
-    match read_host(alloc, &text) {
-        Ok(graph) => Ok(graph),
-        Err(fault) => Err(host_refused(text, fault)),
-    }
+    host_of(alloc, text)
 }

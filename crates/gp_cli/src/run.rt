@@ -2,7 +2,6 @@
 
 ghost use Rattle.std.specs.Prelude.{◌≡◌, ◌<◌, length, slice_get, Some, IfOk};
 ghost use Rattle.gp_syntax.specs.Tree.{program_of_tree};
-ghost use Rattle.gp_words.specs.Told.{command_now};
 ghost use Rattle.gp_cli.specs.Answer.{Comes};
 ghost use Rattle.gp_values.specs.Names.{Name as AnyName};
 ghost use Rattle.gp_cli.specs.Texts.{number_fault as number_said};
@@ -14,9 +13,11 @@ use crate::said::Said;
 use gp_graph::Graph;
 use gp_memory::NoMemory;
 use gp_syntax::{Name, NumberKind, Program};
-use gp_system::{Outcome, execute};
-use gp_words::Command;
+use gp_system::{Crew, Outcome, execute};
+use opt_worker::Pace;
 use std::alloc::Global;
+use std::sync::Wait;
+use std::thread::Threads;
 
 // That the rule of this number has a faulty match of this kind.
 fn number_fault<'a>(
@@ -33,20 +34,23 @@ fn number_fault<'a>(
     Ok(Said::Number(name, kind))
 }
 
-/// Runs the program on the graph.
-pub(crate) fn run<'a>(
+/// Runs the program on the graph, with the choices of the seed.
+pub(crate) fn run<'a, P: Pace + Sync, R: Threads + Wait + Sync>(
+    rt: &R,
     alloc: Global,
     program: &Program,
     graph: Graph,
-    command: &Command<'a>,
+    crew: Crew,
+    seed: u64,
+    pace: &P,
 ) -> Result<Said<'a>, NoMemory>
-    ensures { IfOk result (λ s. Comes (command_now command.now) (program_of_tree program.now) (names_of program.now) graph.graph (said_of s)) }
+    ensures { IfOk result (λ s. Comes crew.bound seed (program_of_tree program.now) (names_of program.now) graph.graph (said_of s)) }
 {
-    let mut choices = Choices::of_seed(command.seed);
-    match execute(alloc, program, graph, command.bound, &mut choices) {
+    let mut choices = Choices::of_seed(seed);
+    match execute(rt, alloc, program, graph, crew, &mut choices, pace) {
         Outcome::Graph(journal) => Ok(Said::Graph(journal)),
         Outcome::Fail(journal) => Ok(Said::Fail(journal)),
-        Outcome::Bound(_) => Ok(Said::Bound(command.bound)),
+        Outcome::Bound(_) => Ok(Said::Bound(crew.bound)),
         Outcome::Fault(_, rule, kind) => number_fault(alloc, program, rule, kind),
         Outcome::NoMemory => Err(NoMemory),
     }

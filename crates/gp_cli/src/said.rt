@@ -1,5 +1,9 @@
 //! What is answered, before it has a text.
 
+ghost use Rattle.std.specs.Prelude.{IfOk};
+ghost use Rattle.gp_cli.specs.inside.Told.{said_of, IsAnswer};
+
+use gp_gen::Kind;
 use gp_hostfile::HostFault;
 use gp_journal::Journal;
 use gp_memory::NoMemory;
@@ -12,6 +16,8 @@ pub(crate) enum Said<'a> {
     /// The graph of this journal.
     Graph(Journal),
     Fail(Journal),
+    /// The kind and the size of a demo, and the journal of its run.
+    Demo(Kind, u64, Journal),
     Usage,
     LongProgram,
     BadProgram(ProgramFault),
@@ -41,5 +47,16 @@ impl<'a> From<NoMemory> for Stop<'a> {
 
     fn from(_: NoMemory) -> Self {
         Stop::NoMemory
+    }
+}
+
+/// The answer, or that memory was refused.
+pub(crate) fn settled<'a>(outcome: Result<Said<'a>, Stop<'a>>) -> Result<Said<'a>, NoMemory>
+    ensures { IfOk result (λ s. IsAnswer outcome.entry (said_of s)) }
+{
+    match outcome {
+        Ok(said) => Ok(said),
+        Err(Stop::Said(said)) => Ok(said),
+        Err(Stop::NoMemory) => Err(NoMemory),
     }
 }

@@ -1,10 +1,17 @@
 //! Programs on hosts through the top call.
 
+mod crews;
+mod paces;
+mod rows;
+
 use crate::gp2_main;
 use gp_io::{MemFiles, MemSink};
 use gp_memory::NoMemory;
-use std::alloc::Global;
+use opt_worker::{Free, Pace};
+use std::alloc::{AllocGlobal, Global};
+use std::sync::Wait;
 use std::test::Fail;
+use std::thread::Threads;
 
 const MAKE: &str = "Main = make make() [ | ] => [ (n0, 0) | ] interface = {}";
 
@@ -30,27 +37,23 @@ const GROW: &str =
 
 const TWO_ONES: &str = "[ (a, 1) (b, 1) (c, 2) | ]";
 
-const USAGE: &str = "2\t\tusage: gp2 run PROGRAM HOST [--bound N] [--seed N] [--journal]\n";
+const USAGE: &str =
+    "2\t\tusage: gp2 run PROGRAM HOST [--workers N] [--bound N] [--fan N] [--seed N] [--journal]\n       gp2 demo KIND SIZE SEED [--workers N] [--fan N]\n";
 
 // After how many bytes the first write on each sink fails, where it does.
 #[derive(Clone, Copy)]
-pub(crate) struct Cuts {
+struct Cuts {
     out: Option<u64>,
     err: Option<u64>,
 }
 
-pub(crate) const NO_CUTS: Cuts = Cuts {
+const NO_CUTS: Cuts = Cuts {
     out: None,
     err: None,
 };
 
 // Files p and h of these texts.
-pub(crate) fn two_files(
-    alloc: Global,
-    program: &str,
-    host: &str,
-    failing: &[u64],
-) -> Result<MemFiles, Fail> {
+fn two_files(alloc: Global, program: &str, host: &str, failing: &[u64]) -> Result<MemFiles, Fail> {
     let mut files = Vec::new(alloc);
     files.push((
         String::from_str(alloc, "p")?,
@@ -75,8 +78,8 @@ fn sink(alloc: Global, cut: Option<u64>) -> Result<MemSink, Fail> {
 }
 
 // The status of the words on the files, what is on out, and what is on err, with a tab between each two.
-pub(crate) fn answer(
-    rt: &HostRuntime,
+fn answer<R: AllocGlobal + Threads + Wait + Sync>(
+    rt: &R,
     words: &[&str],
     files: &mut MemFiles,
     cuts: Cuts,
@@ -90,16 +93,27 @@ pub(crate) fn answer(
 }
 
 // The same of owned words.
-pub(crate) fn answer_given(
-    rt: &HostRuntime,
+fn answer_given<R: AllocGlobal + Threads + Wait + Sync>(
+    rt: &R,
     given: Vec<String>,
     files: &mut MemFiles,
     cuts: Cuts,
 ) -> Result<Vec<u8>, Fail> {
+    answer_held(rt, given, files, cuts, &Free)
+}
+
+// The same with a pace that may hold workers.
+fn answer_held<P: Pace + Sync, R: AllocGlobal + Threads + Wait + Sync>(
+    rt: &R,
+    given: Vec<String>,
+    files: &mut MemFiles,
+    cuts: Cuts,
+    pace: &P,
+) -> Result<Vec<u8>, Fail> {
     let alloc = rt.alloc();
     let mut out = sink(alloc, cuts.out)?;
     let mut err = sink(alloc, cuts.err)?;
-    let status = gp2_main(rt, Ok(given), files, &mut out, &mut err);
+    let status = gp2_main(rt, Ok(given), files, &mut out, &mut err, pace);
     let mut shown = Vec::new(alloc);
     shown.push(b'0'.wrapping_add(status))?;
     shown.push(b'\t')?;
@@ -158,7 +172,10 @@ const NODES: [(&str, &str, &str); 4] = [
 ];
 
 // The first row whose run shows something else.
-fn first_wrong(rt: &HostRuntime, rows: &[(&str, &str, &str)]) -> Result<Option<usize>, Fail> {
+fn first_wrong<R: AllocGlobal + Threads + Wait + Sync>(
+    rt: &R,
+    rows: &[(&str, &str, &str)],
+) -> Result<Option<usize>, Fail> {
     for (place, (program, host, shown)) in rows.iter().enumerate() {
         let mut files = two_files(rt.alloc(), program, host, &[])?;
         let found = answer(rt, &["run", "p", "h"], &mut files, NO_CUTS)?;
@@ -324,10 +341,12 @@ fn refused_hosts_have_their_lines(rt: HostRuntime) -> Result<(), Fail> {
 
 #[test]
 fn other_words_are_refused(rt: HostRuntime) -> Result<(), Fail> {
-    let rows: [&[&str]; 5] = [
+    let rows: [&[&str]; 7] = [
         &[],
         &["run", "p"],
         &["run", "p", "h", "--workers", "0"],
+        &["run", "p", "h", "--workers", "65"],
+        &["demo", "closure", "3"],
         &["run", "p", "h", "--bound", "1099511627777"],
         &["demo", "tree", "19", "0"],
     ];
@@ -344,7 +363,7 @@ fn words_without_memory_end_in_silence(rt: HostRuntime) -> Result<(), Fail> {
     let mut files = two_files(rt.alloc(), MAKE, "[ | ]", &[])?;
     let mut out = sink(rt.alloc(), None)?;
     let mut err = sink(rt.alloc(), None)?;
-    let status = gp2_main(&rt, Err(NoMemory), &mut files, &mut out, &mut err);
+    let status = gp2_main(&rt, Err(NoMemory), &mut files, &mut out, &mut err, &Free);
     assert_eq!(rt; status, 7);
     assert_eq!(rt; out.bytes(), b"".as_slice());
     assert_eq!(rt; err.bytes(), b"".as_slice());
@@ -389,7 +408,7 @@ fn cuts_of(asked: Asked) -> Cuts {
     }
 }
 
-fn come_to(rt: &HostRuntime, asked: Asked) -> Result<Vec<u8>, Fail> {
+fn come_to<R: AllocGlobal + Threads + Wait + Sync>(rt: &R, asked: Asked) -> Result<Vec<u8>, Fail> {
     let mut files = files_of(rt.alloc(), asked)?;
     let cuts = cuts_of(asked);
     match asked {

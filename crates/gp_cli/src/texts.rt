@@ -1,10 +1,10 @@
 //! The text of an answer.
 
-ghost use Rattle.std.specs.Prelude.{◌≡◌, ◌++◌, [], IfOk, codes};
+ghost use Rattle.std.specs.Prelude.{◌≡◌, ◌++◌, Bool, [], IfOk, codes};
 ghost use Rattle.std.specs.Fmt.{decimal};
 ghost use Rattle.gp_hostfile.specs.GraphText.{IsGraphText};
 ghost use Rattle.gp_reader.specs.FaultLines.{line_of};
-ghost use Rattle.gp_cli.specs.Texts.{Shows, graph, failed, kind_text, number_text, bound_text, read_text, journal_text};
+ghost use Rattle.gp_cli.specs.Texts.{Shows, graph, failed, demo_done, kind_text, number_text, bound_text, read_text, journal_text};
 ghost use Rattle.gp_cli.specs.inside.Statuses.{status_code};
 ghost use Rattle.gp_cli.specs.inside.Told.{said_of};
 ghost use Rattle.gp_journal.specs.Journal.{items_of};
@@ -13,6 +13,8 @@ use crate::host_line::host_line;
 use crate::reply::Reply;
 use crate::said::Said;
 use crate::status::Status;
+use gp_demo::summary;
+use gp_gen::Kind;
 use gp_graph::Graph;
 use gp_hostfile::write_graph;
 use gp_journal::Journal;
@@ -23,7 +25,8 @@ use gp_trace::write_trace;
 use itoa::Buffer;
 use std::alloc::Global;
 
-const USAGE: &[u8] = b"usage: gp2 run PROGRAM HOST [--bound N] [--seed N] [--journal]\n";
+const USAGE: &[u8] =
+    b"usage: gp2 run PROGRAM HOST [--workers N] [--bound N] [--fan N] [--seed N] [--journal]\n       gp2 demo KIND SIZE SEED [--workers N] [--fan N]\n";
 
 fn bound_text(alloc: Global, bound: u64) -> Result<Vec<u8>, NoMemory>
     ensures { IfOk result (λ v. v.items ≡ bound_text bound) }
@@ -137,6 +140,14 @@ fn fail_reply(alloc: Global, asked: bool, journal: &Journal) -> Result<Reply, No
     Ok(on_out(alloc, Status::Fail, trace, text))
 }
 
+// The summary of a demo.
+fn demo_reply(alloc: Global, kind: Kind, size: u64, journal: &Journal) -> Result<Reply, NoMemory>
+    ensures { IfOk result (λ r. (asked : Bool) → Shows asked (demo_done kind size (items_of journal.now.items) journal.now.trail.graph) (status_code r.status) (r.journal.items ++ r.result.items) r.err.items) }
+{
+    let text = summary(alloc, kind, size, journal.graph(), journal.items())?;
+    Ok(on_out(alloc, Status::Graph, Vec::new(alloc), text))
+}
+
 // The bytes of a text.
 fn constant(alloc: Global, text: &[u8]) -> Result<Vec<u8>, NoMemory>
     ensures { IfOk result (λ v. v.items ≡ text.now) }
@@ -151,6 +162,7 @@ pub(crate) fn reply_of(alloc: Global, asked: bool, said: &Said<'_>) -> Result<Re
     match said {
         Said::Graph(journal) => graph_reply(alloc, asked, journal),
         Said::Fail(journal) => fail_reply(alloc, asked, journal),
+        Said::Demo(kind, size, journal) => demo_reply(alloc, *kind, *size, journal),
         Said::Usage => Ok(on_err(alloc, Status::Words, constant(alloc, USAGE)?)),
         Said::LongProgram => {
             let text = constant(alloc, b"program: TooLong\n")?;

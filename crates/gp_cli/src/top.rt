@@ -1,68 +1,97 @@
 //! The top call.
 
-ghost use Rattle.std.specs.Prelude.{◌≡◌, ◌++◌, List, map, string_bytes, option_map, false, IfOk, OnErr};
+ghost use Rattle.std.specs.Prelude.{◌≡◌, ◌++◌, List, map, string_bytes, Some, option_map, false, IfOk, IfSome, OnErr};
 ghost use Rattle.std.specs.Option.{option_map_or};
 ghost use Rattle.gp_values.specs.Names.{Name as AnyName};
 ghost use Rattle.gp_words.specs.CommandLine as spec;
-ghost use Rattle.gp_words.specs.Told.{command_now};
-ghost use Rattle.gp_cli.specs.Answer.{IsTrue, Replies, Answered, Completes, IsSilent};
+ghost use Rattle.gp_words.specs.Told.{run_now, command_now, HasSize};
+ghost use Rattle.gp_cli.specs.Answer.{wants_journal, IsTrue, Replies, Answered, Completes, IsSilent};
 ghost use Rattle.gp_cli.specs.Texts.{Shows};
 ghost use Rattle.gp_cli.specs.inside.Parts.{RunsFiles};
 ghost use Rattle.gp_cli.specs.inside.Statuses.{status_code};
 ghost use Rattle.gp_cli.specs.inside.Told.{said_of};
 
 use crate::deliver::deliver;
+use crate::demo::demo;
 use crate::files::{load_host, load_program};
 use crate::reply::Reply;
 use crate::run::run;
-use crate::said::{Said, Stop};
+use crate::said::{Said, Stop, settled};
 use crate::status::Status;
 use crate::texts::reply_of;
 use gp_io::{Files, Sink};
 use gp_memory::NoMemory;
 use gp_reader::laws::texts_have_one_fault;
-use gp_words::{Command, command_of};
+use gp_system::Crew;
+use gp_words::{Command, RunCommand, command_of};
+use opt_worker::Pace;
 use std::alloc::{AllocGlobal, Global};
+use std::sync::Wait;
+use std::thread::Threads;
 
 // What the files of a command come to.
-fn said_by_files<'a, F: Files>(
+fn said_by_files<'a, F: Files, P: Pace + Sync, R: Threads + Wait + Sync>(
+    rt: &R,
     alloc: Global,
-    command: Command<'a>,
+    command: RunCommand<'a>,
     files: &mut F,
+    pace: &P,
 ) -> Result<Said<'a>, Stop<'a>>
-    ensures { RunsFiles (F.content files.old) (record { before = F.faults files.old; now = F.faults files.new }) (command_now command.entry) result }
+    ensures { RunsFiles (F.content files.old) (record { before = F.faults files.old; now = F.faults files.new }) (run_now command.entry) result }
 {
     let program = load_program(alloc, files, command.program)?;
     let graph = load_host(alloc, files, command.host)?;
-    Ok(run(alloc, &program, graph, &command)?)
+    let crew = Crew {
+        workers: command.workers,
+        fan: command.fan,
+        bound: command.bound,
+    };
+    Ok(run(rt, alloc, &program, graph, crew, command.seed, pace)?)
+}
+
+// What a command comes to.
+fn said_by_command<'a, F: Files, P: Pace + Sync, R: Threads + Wait + Sync>(
+    rt: &R,
+    alloc: Global,
+    command: Command<'a>,
+    files: &mut F,
+    pace: &P,
+) -> Result<Said<'a>, NoMemory>
+    requires { HasSize command }
+    ensures { IfOk result (λ s. (words : List AnyName) → spec.command_of words ≡ Some (command_now command.entry) →
+        IsTrue words (F.content files.old) (record { before = F.faults files.old; now = F.faults files.new }) (said_of s)) }
+{
+    match command {
+        Command::Run(command) => settled(said_by_files(rt, alloc, command, files, pace)),
+        Command::Demo(command) => settled(demo(rt, alloc, command, pace)),
+    }
 }
 
 // What the words and the files come to.
-fn said_by<'a, F: Files>(
+fn said_by<'a, F: Files, P: Pace + Sync, R: Threads + Wait + Sync>(
+    rt: &R,
     alloc: Global,
     command: Option<Command<'a>>,
     files: &mut F,
+    pace: &P,
 ) -> Result<Said<'a>, NoMemory>
+    requires { IfSome command HasSize }
     ensures { IfOk result (λ s. (words : List AnyName) → option_map command_now command.entry ≡ spec.command_of words →
         IsTrue words (F.content files.old) (record { before = F.faults files.old; now = F.faults files.new }) (said_of s)) }
 {
     match command {
         None => Ok(Said::Usage),
-        Some(command) => match said_by_files(alloc, command, files) {
-            Ok(said) => Ok(said),
-            Err(Stop::Said(said)) => Ok(said),
-            Err(Stop::NoMemory) => Err(NoMemory),
-        },
+        Some(command) => said_by_command(rt, alloc, command, files, pace),
     }
 }
 
 // Whether the command asks for the journal.
 fn asks(command: Option<Command<'_>>) -> bool
-    ensures { result ≡ option_map_or (λ k. k.journal) (option_map command_now command.entry) false }
+    ensures { result ≡ option_map_or wants_journal (option_map command_now command.entry) false }
 {
     match command {
-        None => false,
-        Some(command) => command.journal,
+        Some(Command::Run(command)) => command.journal,
+        _ => false,
     }
 }
 
@@ -73,22 +102,30 @@ fn texts_of(alloc: Global, asked: bool, said: Said<'_>) -> Result<Reply, NoMemor
     reply_of(alloc, asked, &said)
 }
 
-fn reply_to<F: Files>(alloc: Global, words: &[String], files: &mut F) -> Result<Reply, NoMemory>
+fn reply_to<F: Files, P: Pace + Sync, R: Threads + Wait + Sync>(
+    rt: &R,
+    alloc: Global,
+    words: &[String],
+    files: &mut F,
+    pace: &P,
+) -> Result<Reply, NoMemory>
     ensures { IfOk result (λ r. Replies (map string_bytes words.now) (F.content files.old) (record { before = F.faults files.old; now = F.faults files.new })
         (status_code r.status) (r.journal.items ++ r.result.items) r.err.items) }
 {
     let command = command_of(alloc, words)?;
-    let said = said_by(alloc, command, files)?;
+    let said = said_by(rt, alloc, command, files, pace)?;
     texts_of(alloc, asks(command), said)
 }
 
 // Answers these words: all text is made before the first write.
-fn answer_words<F: Files, O: Sink, E: Sink>(
+fn answer_words<F: Files, O: Sink, E: Sink, P: Pace + Sync, R: Threads + Wait + Sync>(
+    rt: &R,
     alloc: Global,
     words: &[String],
     files: &mut F,
     out: &mut O,
     err: &mut E,
+    pace: &P,
 ) -> u8
     ensures answered { Answered (map string_bytes words.now) (F.content files.old)
         (record { before = F.faults files.old; now = F.faults files.new })
@@ -101,20 +138,22 @@ fn answer_words<F: Files, O: Sink, E: Sink>(
         (record { before = E.faults err.old; now = E.faults err.new }) result }
 {
     texts_have_one_fault();
-    match reply_to(alloc, words, files) {
+    match reply_to(rt, alloc, words, files, pace) {
         Ok(reply) => deliver(&reply, out, err),
         Err(NoMemory) => Status::NoMemory.code(),
     }
 }
 
-/// Runs the program's file on the host's, as the words say, and writes what comes of it. The answer is the status of
-/// the process. The words are those behind the program's name, or that memory was refused for them.
-pub fn gp2_main<R: AllocGlobal, F: Files, O: Sink, E: Sink>(
+/// Runs the program's file on the host's, or a demo, as the words say, and writes what comes of it. The answer is the
+/// status of the process. The words are those behind the program's name, or that memory was refused for them. With two
+/// workers or more the call starts threads, and the pace may hold them; it may wait then.
+pub fn gp2_main<R: AllocGlobal + Threads + Wait + Sync, F: Files, O: Sink, E: Sink, P: Pace + Sync>(
     rt: &R,
     words: Result<Vec<String>, NoMemory>,
     files: &mut F,
     out: &mut O,
     err: &mut E,
+    pace: &P,
 ) -> u8
     ensures answered { IfOk words (λ given. Answered (map string_bytes given.items) (F.content files.old)
         (record { before = F.faults files.old; now = F.faults files.new })
@@ -128,7 +167,7 @@ pub fn gp2_main<R: AllocGlobal, F: Files, O: Sink, E: Sink>(
     ensures refused { OnErr words (IsSilent (O.written out.old) (O.written out.new) (E.written err.old) (E.written err.new) result) }
 {
     match words {
-        Ok(words) => answer_words(rt.alloc(), &words, files, out, err),
+        Ok(words) => answer_words(rt, rt.alloc(), &words, files, out, err, pace),
         Err(NoMemory) => Status::NoMemory.code(),
     }
 }

@@ -15,7 +15,7 @@ unfolding clap_on_literals
 simple_and_free = refl
 
 -- nothing is refused: the command of what is found
-pub taken : (ws : List Name) (o : Option (Name × List Row)) → fault_of gp2 ws ≡ [] → o ≡ subcommand_of gp2 ws → option_and_then (λ (p : Name × List Row). command_at p.1) o ≡ command_of ws
+pub taken : (ws : List Name) (o : Option (Name × List Row)) → fault_of gp2 ws ≡ [] → o ≡ subcommand_of gp2 ws → option_and_then command_at o ≡ command_of ws
 unfolding command_of
 taken ws o e h = rw (e, h) refl
 

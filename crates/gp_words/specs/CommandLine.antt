@@ -5,15 +5,32 @@ use Rattle.std.specs.Str.Parse.{digits_value}
 use Rattle.clap.specs.Words.{App, Row, Rule, new_app, new_rule, with_rule, with_subcommand, first_of, subcommand_of, fault_of}
 use Rattle.clap.specs.declared.builder.action.ArgAction.TheVariants.{Set, SetTrue}
 use Rattle.gp_values.specs.Names.{Name, same_name}
+use Rattle.gp_gen.specs.declared.kind.Kind.{Kind}
+use Rattle.gp_gen.specs.declared.kind.Kind.TheVariants.{Closure, Colour, Tree}
+use Rattle.gp_gen.specs.Host.{largest}
 
--- the names of the program's file and of the host's, how many items may be counted, with what the choices of `or` begin,
--- and whether the journal is wanted
-pub record Command : Type 0 where
+-- `run`: the names of the program's file and of the host's, how many items may be counted, with what the choices of `or`
+-- begin, whether the journal is wanted, how many workers there are, and how many candidates they are wanted for
+pub record RunCommand : Type 0 where
   pub program : Name
   pub host : Name
   pub bound : ℕ
   pub seed : ℕ
   pub journal : Bool
+  pub workers : ℕ
+  pub fan : ℕ
+
+-- `demo`: the kind of the workload, its size, and the seed of its host
+pub record DemoCommand : Type 0 where
+  pub kind : Kind
+  pub size : ℕ
+  pub seed : ℕ
+  pub workers : ℕ
+  pub fan : ℕ
+
+pub data Command : Type 0 where
+  run : RunCommand → Command
+  demo : DemoCommand → Command
 
 -- ---- as clap reads them
 
@@ -29,16 +46,24 @@ option id = record (new_rule id) { long = Some id; action = Some Set }
 abbrev pub flag : Name → Rule
 flag id = record (new_rule id) { long = Some id; action = Some SetTrue }
 
+-- the options of both commands
+abbrev pub with_crew : App → App
+with_crew app = with_rule (with_rule app (option (codes "workers"))) (option (codes "fan"))
+
 -- `run PROGRAM HOST`, with its options in any order
-abbrev pub run : App
-run = with_rule (with_rule (with_rule (with_rule (with_rule (new_app (codes "run")) (place (codes "program"))) (place (codes "host"))) (option (codes "bound"))) (option (codes "seed"))) (flag (codes "journal"))
+abbrev pub run_app : App
+run_app = with_crew (with_rule (with_rule (with_rule (with_rule (with_rule (new_app (codes "run")) (place (codes "program"))) (place (codes "host"))) (option (codes "bound"))) (option (codes "seed"))) (flag (codes "journal")))
+
+-- `demo KIND SIZE SEED`, likewise
+abbrev pub demo_app : App
+demo_app = with_crew (with_rule (with_rule (with_rule (new_app (codes "demo")) (place (codes "kind"))) (place (codes "size"))) (place (codes "seed")))
 
 -- one level of commands, read behind the name of the program
 abbrev pub top : App
 top = record { top = record (new_app (codes "gp2")).top { no_binary_name = true; subcommand_required = true }; subs = [] }
 
 abbrev pub gp2 : App
-gp2 = with_subcommand top run.top
+gp2 = with_subcommand (with_subcommand top run_app.top) demo_app.top
 
 -- ---- numbers
 
@@ -47,16 +72,19 @@ abbrev pub is_numeral : Name → Bool
 is_numeral [] = false
 is_numeral (d ∷ ds) = all_ascii_digits (d ∷ ds)
 
--- the number that is written, where it is no greater than this
-abbrev pub number_within : ℕ → Name → Option ℕ
-number_within most ds = if is_numeral ds && nat_le (digits_value 10 ds) most then Some (digits_value 10 ds) else None
+abbrev pub is_between : ℕ → ℕ → ℕ → Bool
+is_between least most n = nat_le least n && nat_le n most
+
+-- the number that is written, where it is in this range
+abbrev pub number_between : ℕ → ℕ → Name → Option ℕ
+number_between least most ds = if is_numeral ds && is_between least most (digits_value 10 ds) then Some (digits_value 10 ds) else None
 
 -- the value that is written, or the usual one where none is
-abbrev pub value_or : ℕ → ℕ → Option Name → Option ℕ
-value_or usual most None = Some usual
-value_or usual most (Some word) = number_within most word
+abbrev pub value_or : ℕ → ℕ → ℕ → Option Name → Option ℕ
+value_or usual least most None = Some usual
+value_or usual least most (Some word) = number_between least most word
 
--- ---- the command
+-- ---- the values of a command
 
 abbrev pub usual_bound : ℕ
 usual_bound = 1000000
@@ -70,26 +98,78 @@ usual_seed = 0
 abbrev pub greatest_seed : ℕ
 greatest_seed = 2 ^ 64 - 1
 
+abbrev pub usual_workers : ℕ
+usual_workers = 1
+
+abbrev pub greatest_workers : ℕ
+greatest_workers = 64
+
+abbrev pub usual_fan : ℕ
+usual_fan = 64
+
+abbrev pub greatest_fan : ℕ
+greatest_fan = 2 ^ 32 - 1
+
+abbrev pub kind_name : Kind → Name
+kind_name Closure = codes "closure"
+kind_name Colour = codes "colour"
+kind_name Tree = codes "tree"
+
+abbrev pub is_named : Kind → Name → Bool
+is_named kind word = same_name word (kind_name kind)
+
+-- the kind of that name
+abbrev pub kind_named : Name → Option Kind
+kind_named word = if is_named Closure word then Some Closure else (if is_named Colour word then Some Colour else (if is_named Tree word then Some Tree else None))
+
 abbrev pub is_set : Option Name → Bool
 is_set None = false
 is_set (Some word) = same_name word (codes "true")
 
-abbrev pub with_numbers : Name → Name → Bool → Option ℕ → Option ℕ → Option Command
-with_numbers program host journal (Some bound) (Some seed) = Some (record { program = program; host = host; bound = bound; seed = seed; journal = journal })
-with_numbers program host journal bound seed = None
+-- what clap found under the name
+abbrev pub workers_of : List Row → Option ℕ
+workers_of rows = value_or usual_workers 1 greatest_workers (first_of (codes "workers") rows)
 
-abbrev pub with_files : List Row → Option Name → Option Name → Option Command
-with_files rows (Some program) (Some host) =
-    with_numbers program host (is_set (first_of (codes "journal") rows))
-    (value_or usual_bound greatest_bound (first_of (codes "bound") rows)) (value_or usual_seed greatest_seed (first_of (codes "seed") rows))
-with_files rows program host = None
+abbrev pub fan_of : List Row → Option ℕ
+fan_of rows = value_or usual_fan 1 greatest_fan (first_of (codes "fan") rows)
+
+-- ---- the command
+
+abbrev pub run_with : Name → Name → Bool → Option ℕ → Option ℕ → Option ℕ → Option ℕ → Option Command
+run_with program host journal (Some bound) (Some seed) (Some workers) (Some fan) =
+    Some (run (record { program = program; host = host; bound = bound; seed = seed; journal = journal; workers = workers; fan = fan }))
+run_with program host journal bound seed workers fan = None
+
+abbrev pub run_files : List Row → Option Name → Option Name → Option Command
+run_files rows (Some program) (Some host) =
+    run_with program host (is_set (first_of (codes "journal") rows))
+    (value_or usual_bound 0 greatest_bound (first_of (codes "bound") rows)) (value_or usual_seed 0 greatest_seed (first_of (codes "seed") rows))
+    (workers_of rows) (fan_of rows)
+run_files rows program host = None
 
 -- what clap found at `run`
-abbrev pub command_at : List Row → Option Command
-command_at rows = with_files rows (first_of (codes "program") rows) (first_of (codes "host") rows)
+abbrev pub run_of : List Row → Option Command
+run_of rows = run_files rows (first_of (codes "program") rows) (first_of (codes "host") rows)
+
+abbrev pub demo_with : Kind → Option ℕ → Option ℕ → Option ℕ → Option ℕ → Option Command
+demo_with kind (Some size) (Some seed) (Some workers) (Some fan) = Some (demo (record { kind = kind; size = size; seed = seed; workers = workers; fan = fan }))
+demo_with kind size seed workers fan = None
+
+abbrev pub demo_words : List Row → Option Name → Option Name → Option Name → Option Command
+demo_words rows (Some kind) (Some size) (Some seed) =
+    option_and_then (λ (k : Kind). demo_with k (number_between 1 (largest k) size) (number_between 0 greatest_seed seed) (workers_of rows) (fan_of rows)) (kind_named kind)
+demo_words rows kind size seed = None
+
+-- what clap found at `demo`
+abbrev pub demo_of : List Row → Option Command
+demo_of rows = demo_words rows (first_of (codes "kind") rows) (first_of (codes "size") rows) (first_of (codes "seed") rows)
+
+-- what clap found at the command of this name
+abbrev pub command_at : Name × List Row → Option Command
+command_at p = if same_name p.0 (codes "run") then run_of p.1 else (if same_name p.0 (codes "demo") then demo_of p.1 else None)
 
 abbrev pub command_if : Bool → List Name → Option Command
-command_if refused words = if refused then None else option_and_then (λ (p : Name × List Row). command_at p.1) (subcommand_of gp2 words)
+command_if refused words = if refused then None else option_and_then command_at (subcommand_of gp2 words)
 
 abbrev pub has_some : {A : Type 0} → List A → Bool
 has_some [] = false

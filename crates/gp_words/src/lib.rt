@@ -1,13 +1,17 @@
 //! The words of the command line, read by `clap`.
 //!
 //! Call `command_of` with the words behind the program's name. `specs/CommandLine` says which words are a command: it is
-//! clap's own function of words (`fault_of` and `subcommand_of` of clap) of one level of commands, and the numbers are
-//! read here.
+//! clap's own function of words (`fault_of` and `subcommand_of` of clap) of one level of commands, and the numbers and
+//! the kind of a demo are read here.
 #![tactic(auto)]
 
+mod apps;
+mod command;
+mod found;
 mod number;
 #[cfg(test)]
 mod tests;
 mod words;
 
-pub use words::{Command, command_of};
+pub use command::{Command, DemoCommand, RunCommand};
+pub use words::command_of;

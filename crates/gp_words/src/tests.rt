@@ -1,29 +1,39 @@
 //! Words that are a command, with what it is, and words that are none.
 
-use crate::command_of;
+use crate::{Command, command_of};
 use std::alloc::Global;
 use std::test::Fail;
 
-// The command of the words, its parts with a blank between each two, or `none`.
+// The parts of the command, with a blank between each two, or `none`.
+fn text_of(alloc: Global, command: Option<Command<'_>>) -> Result<String, Fail> {
+    match command {
+        None => Ok(String::from_str(alloc, "none")?),
+        Some(Command::Run(c)) => Ok(format!(in alloc;
+            "{} {} {} {} {} {} {}",
+            c.program, c.host, c.workers, c.bound, c.fan, c.seed, c.journal
+        )?),
+        Some(Command::Demo(c)) => Ok(format!(in alloc;
+            "{:?} {} {} {} {}",
+            c.kind, c.size, c.seed, c.workers, c.fan
+        )?),
+    }
+}
+
 fn shown(alloc: Global, words: &[&str]) -> Result<String, Fail> {
     let mut given = Vec::new(alloc);
     for word in words {
         given.push(String::from_str(alloc, word)?)?;
     }
     match command_of(alloc, &given) {
-        Ok(Some(c)) => Ok(format!(in alloc;
-            "{} {} {} {} {}",
-            c.program, c.host, c.bound, c.seed, c.journal
-        )?),
-        Ok(None) => Ok(String::from_str(alloc, "none")?),
+        Ok(command) => text_of(alloc, command),
         Err(_) => Err(Fail::from("memory was refused")),
     }
 }
 
-static COMMANDS: [(&[&str], &str); 8] = [
-    (&["run", "p", "h"], "p h 1000000 0 false"),
-    (&["run", "p", "h", "--bound", "10"], "p h 10 0 false"),
-    (&["run", "--bound=007", "p", "h"], "p h 7 0 false"),
+static COMMANDS: [(&[&str], &str); 17] = [
+    (&["run", "p", "h"], "p h 1 1000000 64 0 false"),
+    (&["run", "p", "h", "--bound", "10"], "p h 1 10 64 0 false"),
+    (&["run", "--bound=007", "p", "h"], "p h 1 7 64 0 false"),
     (
         &[
             "run",
@@ -33,18 +43,42 @@ static COMMANDS: [(&[&str], &str); 8] = [
             "h",
             "--journal",
         ],
-        "p h 1000000 18446744073709551615 true",
+        "p h 1 1000000 64 18446744073709551615 true",
     ),
     (
         &["run", "--journal", "--bound", "1099511627776", "p", "h"],
-        "p h 1099511627776 0 true",
+        "p h 1 1099511627776 64 0 true",
     ),
-    (&["run", "--", "-p", "--h"], "-p --h 1000000 0 false"),
-    (&["run", "", "h"], " h 1000000 0 false"),
-    (&["run", "-", "h"], "- h 1000000 0 false"),
+    (&["run", "--", "-p", "--h"], "-p --h 1 1000000 64 0 false"),
+    (&["run", "", "h"], " h 1 1000000 64 0 false"),
+    (&["run", "-", "h"], "- h 1 1000000 64 0 false"),
+    (
+        &["run", "p", "h", "--workers", "64"],
+        "p h 64 1000000 64 0 false",
+    ),
+    (
+        &["run", "--fan", "4294967295", "p", "--workers=001", "h"],
+        "p h 1 1000000 4294967295 0 false",
+    ),
+    (&["run", "p", "h", "--fan", "1"], "p h 1 1000000 1 0 false"),
+    (&["demo", "closure", "3", "1"], "Closure 3 1 1 64"),
+    (&["demo", "colour", "500", "007"], "Colour 500 7 1 64"),
+    (&["demo", "tree", "18", "0"], "Tree 18 0 1 64"),
+    (
+        &["demo", "closure", "1", "7", "--workers", "4", "--fan", "1"],
+        "Closure 1 7 4 1",
+    ),
+    (
+        &["demo", "--fan", "2", "--workers", "3", "tree", "1", "9"],
+        "Tree 1 9 3 2",
+    ),
+    (
+        &["demo", "closure", "500", "18446744073709551615"],
+        "Closure 500 18446744073709551615 1 64",
+    ),
 ];
 
-static OTHER_WORDS: [&[&str]; 16] = [
+static OTHER_WORDS: [&[&str]; 32] = [
     &[],
     &["run"],
     &["run", "p"],
@@ -59,6 +93,22 @@ static OTHER_WORDS: [&[&str]; 16] = [
     &["run", "p", "h", "--seed="],
     &["run", "p", "h", "--journal=true"],
     &["run", "p", "h", "--workers", "0"],
+    &["run", "p", "h", "--workers", "65"],
+    &["run", "p", "h", "--workers", "+2"],
+    &["run", "p", "h", "--fan", "0"],
+    &["run", "p", "h", "--fan", "4294967296"],
+    &["demo"],
+    &["demo", "closure", "3"],
+    &["demo", "closure", "3", "1", "2"],
+    &["demo", "tree", "19", "0"],
+    &["demo", "colour", "0", "1"],
+    &["demo", "cube", "1", "1"],
+    &["demo", "Tree", "1", "1"],
+    &["demo", "closure", "501", "0"],
+    &["demo", "closure", "3", "18446744073709551616"],
+    &["demo", "closure", "3", "1", "--journal"],
+    &["demo", "closure", "3", "1", "--bound", "5"],
+    &["demo", "closure", "3", "1", "--workers", "0"],
     &["--help"],
     &["help"],
 ];

@@ -10,12 +10,16 @@ use Rattle.gp_graph.specs.declared.graph.Graph.{Graph}
 use Rattle.gp_syntax.specs.declared.command.ProgramParts.{ProgramParts}
 use Rattle.gp_syntax.specs.declared.rule.RuleParts.{RuleParts}
 use Rattle.gp_syntax.specs.Tree.{program_of_tree}
-use Rattle.gp_words.specs.CommandLine.{Command}
+use Rattle.gp_reader.specs.declared.fault.ProgramFault.{ProgramFault}
+use Rattle.gp_reader.specs.Program.{IsFaultyText}
+use Rattle.gp_hostfile.specs.declared.fault.HostFault.{HostFault}
+use Rattle.gp_hostfile.specs.Host.{IsHostText, IsHostFault}
+use Rattle.gp_words.specs.CommandLine.{RunCommand, DemoCommand}
 use Rattle.gp_cli.specs.declared.said.Stop.{Stop}
 use Rattle.gp_cli.specs.declared.said.Stop.TheVariants as stops
 use Rattle.gp_cli.specs.declared.said.Said.{Said}
 use Rattle.gp_cli.specs.Texts as texts
-use Rattle.gp_cli.specs.Answer.{Count, HasRisen, HasBytes, HasLongFile, CannotRead, HasProgram, HasHost, StopsAtProgram, StopsAtHost, Comes}
+use Rattle.gp_cli.specs.Answer.{Count, HasRisen, HasBytes, HasLongFile, CannotRead, TellsProgram, HasProgram, HasHost, StopsAtProgram, StopsAtHost, RunAnswers, DemoAnswers}
 use Rattle.gp_cli.specs.inside.Told.{said_of}
 
 -- ---- files
@@ -33,6 +37,18 @@ ReadsFile content files name long (Err stops.NoMemory) = Free
 abbrev pub names_of : ProgramParts → List Name
 names_of p = map (λ (r : RuleParts). r.name) p.rules
 
+-- a program of the bytes, or its first fault
+abbrev pub TellsOrFaults : List ℕ → Result ProgramParts Stop → Type 0
+TellsOrFaults bytes (Ok p) = TellsProgram bytes (program_of_tree p) (names_of p)
+TellsOrFaults bytes (Err (stops.Said s)) = (f : ProgramFault) × (said_of s ≡ texts.bad_program f) × IsFaultyText bytes f
+TellsOrFaults bytes (Err stops.NoMemory) = Free
+
+-- a host of the bytes, or its first fault
+abbrev pub HostsOrFaults : List ℕ → Result Graph Stop → Type 0
+HostsOrFaults bytes (Ok g) = IsHostText bytes g.graph
+HostsOrFaults bytes (Err (stops.Said s)) = (f : HostFault) × (said_of s ≡ texts.bad_host bytes f) × IsHostFault bytes f
+HostsOrFaults bytes (Err stops.NoMemory) = Free
+
 abbrev pub LoadsProgram : Option Content → Count → Name → Result ProgramParts Stop → Type 0
 LoadsProgram content files name (Ok p) = HasProgram content name (program_of_tree p) (names_of p)
 LoadsProgram content files name (Err (stops.Said s)) = StopsAtProgram content files name (said_of s)
@@ -43,18 +59,17 @@ LoadsHost content files name (Ok g) = HasHost content name g.graph
 LoadsHost content files name (Err (stops.Said s)) = StopsAtHost content files name (said_of s)
 LoadsHost content files name (Err stops.NoMemory) = Free
 
--- ---- what the files of a command come to
+-- ---- what commands come to
 
-pub data Answers (content : Option Content) (files : Count) (k : Command) : texts.Said → Type 0 where
-  at_program : {said : texts.Said} → StopsAtProgram content files k.program said → Answers content files k said
-  at_host : {said : texts.Said} (p : ProgramParts) → HasProgram content k.program (program_of_tree p) (names_of p) → StopsAtHost content files k.host said → Answers content files k said
-  at_run : {said : texts.Said} (p : ProgramParts) (g : Graph) → HasProgram content k.program (program_of_tree p) (names_of p) → HasHost content k.host g.graph →
-      Comes k (program_of_tree p) (names_of p) g.graph said → Answers content files k said
-
-abbrev pub RunsFiles : Option Content → Count → Command → Result Said Stop → Type 0
-RunsFiles content files k (Ok s) = Answers content files k (said_of s)
-RunsFiles content files k (Err (stops.Said s)) = Answers content files k (said_of s)
+abbrev pub RunsFiles : Option Content → Count → RunCommand → Result Said Stop → Type 0
+RunsFiles content files k (Ok s) = RunAnswers content files k (said_of s)
+RunsFiles content files k (Err (stops.Said s)) = RunAnswers content files k (said_of s)
 RunsFiles content files k (Err stops.NoMemory) = Free
+
+abbrev pub RunsDemo : DemoCommand → Result Said Stop → Type 0
+RunsDemo k (Ok s) = DemoAnswers k (said_of s)
+RunsDemo k (Err (stops.Said s)) = DemoAnswers k (said_of s)
+RunsDemo k (Err stops.NoMemory) = Free
 
 -- ---- what is written
 

@@ -4,7 +4,7 @@ use Rattle.gp_journal.specs.Journal.{items_of}
 use Rattle.gp_cli.specs.declared.said.Said.{Said}
 use Rattle.gp_cli.specs.declared.said.Said.TheVariants as code
 use Rattle.gp_cli.specs.Texts as texts
-use Rattle.std.specs.Prelude.{ℕ}
+use Rattle.std.specs.Prelude.{◌≡◌, ℕ, Result, Ok, Err}
 use Rattle.std.specs.declared.vec.Vec.{Vec}
 use Rattle.std.specs.declared.alloc.Global.{Global}
 use Rattle.gp_reader.specs.declared.fault.ProgramFault.{ProgramFault}
@@ -17,6 +17,7 @@ use Rattle.gp_cli.specs.declared.said.Stop.TheVariants as stops
 abbrev pub said_of : Said → texts.Said
 said_of (code.Graph j) = texts.graph (items_of j.items) j.trail.graph
 said_of (code.Fail j) = texts.failed (items_of j.items)
+said_of (code.Demo kind size j) = texts.demo_done kind size (items_of j.items) j.trail.graph
 said_of code.Usage = texts.usage
 said_of code.LongProgram = texts.long_program
 said_of (code.BadProgram f) = texts.bad_program f
@@ -46,3 +47,9 @@ host_refused bytes (host.TwoEdges name) = stops.Said (code.BadHost bytes (host.T
 host_refused bytes (host.NoSuchEnd name) = stops.Said (code.BadHost bytes (host.NoSuchEnd name))
 host_refused bytes (host.WrongMark name) = stops.Said (code.BadHost bytes (host.WrongMark name))
 host_refused bytes host.NoMemory = stops.NoMemory
+
+-- this is answered, and not want of memory
+abbrev pub IsAnswer : Result Said Stop → texts.Said → Type 0
+IsAnswer (Ok s) said = said_of s ≡ said
+IsAnswer (Err (stops.Said s)) said = said_of s ≡ said
+IsAnswer (Err stops.NoMemory) said = ⊥

@@ -1,6 +1,5 @@
 use Rattle.std.proofs.lemmas.Result.{err_from_is_err_and}
-use Rattle.gp_cli.proofs.Loads.{host_stops}
-use Rattle.gp_cli.proofs.Faults.{host_refuses}
+use Rattle.gp_cli.proofs.Loads.{host_stops, host_loads}
 use Rattle.gp_cli.proofs.files.load_host.Goals as goal
 
 pub returns-in_err-text-clause-loads : goal.returns-in_err-text-clause-loads
@@ -9,6 +8,4 @@ returns-in_err-text-clause-loads g c =
     rw (p.1, p.2) (host_stops _ _ _ _ c.in_err-text.ensures.reads)
 
 pub returns-clause-loads : goal.returns-clause-loads
-returns-clause-loads g c =
-    let r = rw c.deref.ensures.value at c.in-Err.ensures in
-    rw c.host_refused.ensures (host_refuses _ _ _ _ _ c.in_ok-text.ensures.reads r)
+returns-clause-loads g c = host_loads _ _ _ _ _ c.in_ok-text.ensures.reads c.host_of.ensures

@@ -1,6 +1,5 @@
 use Rattle.std.proofs.lemmas.Result.{err_from_is_err_and}
-use Rattle.gp_cli.proofs.Loads.{program_stops}
-use Rattle.gp_cli.proofs.Faults.{program_refuses}
+use Rattle.gp_cli.proofs.Loads.{program_stops, program_loads}
 use Rattle.gp_cli.proofs.files.load_program.Goals as goal
 
 pub returns-in_err-text-clause-loads : goal.returns-in_err-text-clause-loads
@@ -8,12 +7,5 @@ returns-in_err-text-clause-loads g c =
     let p = err_from_is_err_and c.from_residual.result c.from_residual.ensures.1 in
     rw (p.1, p.2) (program_stops _ _ _ _ c.in_err-text.ensures.reads)
 
-pub returns-in-Ok-clause-loads : goal.returns-in-Ok-clause-loads
-returns-in-Ok-clause-loads g c =
-    let r = rw c.deref.ensures.value at c.in-Ok.ensures in
-    record { bytes = c.in_ok-text.text.items; has = c.in_ok-text.ensures.reads; text = r.0; names = r.1 }
-
 pub returns-clause-loads : goal.returns-clause-loads
-returns-clause-loads g c =
-    let r = rw c.deref.ensures.value at c.in-Err.ensures in
-    rw c.program_refused.ensures (program_refuses _ _ _ _ _ c.in_ok-text.ensures.reads r)
+returns-clause-loads g c = program_loads _ _ _ _ _ c.in_ok-text.ensures.reads (rw c.deref.ensures.value at c.program_of.ensures)

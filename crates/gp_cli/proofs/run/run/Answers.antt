@@ -3,7 +3,6 @@ use Rattle.std.proofs.lemmas.List.{length-map}
 use Rattle.std.proofs.lemmas.Option.{slice_get_within}
 use Rattle.std.proofs.lemmas.Result.{IfOk-weaker}
 use Rattle.gp_syntax.specs.Tree.{program_of_tree, rule_of_tree}
-use Rattle.gp_words.specs.Told.{command_now}
 use Rattle.gp_cli.specs.Texts.{Said}
 use Rattle.gp_cli.specs.Answer.{Comes, gives, fails, is_spent, is_faulty}
 use Rattle.gp_cli.specs.inside.Parts.{names_of}
@@ -12,27 +11,26 @@ use Rattle.gp_cli.proofs.Runs.{runs_to}
 use Rattle.gp_cli.proofs.run.run.Goals as goal
 
 pub returns-in-Graph : goal.returns-in-Graph
-returns-in-Graph c = gives (runs_to _ _ _ _ c.in-Graph.journal _ (rw c.of_seed-choices.ensures at c.in-Graph.ensures))
+returns-in-Graph g c = gives (runs_to _ _ _ _ _ c.in-Graph.journal _ (rw c.of_seed-choices.ensures at c.in-Graph.ensures))
 
 pub returns-in-Fail : goal.returns-in-Fail
-returns-in-Fail c = fails (runs_to _ _ _ _ c.in-Fail.journal _ (rw c.of_seed-choices.ensures at c.in-Fail.ensures))
+returns-in-Fail g c = fails (runs_to _ _ _ _ _ c.in-Fail.journal _ (rw c.of_seed-choices.ensures at c.in-Fail.ensures))
 
 pub returns-in-Bound : goal.returns-in-Bound
-returns-in-Bound c =
+returns-in-Bound g c =
     let e = rw c.of_seed-choices.ensures at c.in-Bound.ensures in
-    is_spent c.in-Bound.field-0.trail.graph (runs_to _ _ _ _ c.in-Bound.field-0 e.0 e.1) e.2 e.3
+    is_spent c.in-Bound.field-0.trail.graph (runs_to _ _ _ _ _ c.in-Bound.field-0 e.0 e.1) e.2 e.3
 
 pub number_fault-requires : goal.number_fault-requires
-number_fault-requires c =
+number_fault-requires g c =
     let e = c.in-Fault.ensures in
     let within : c.in-Fault.rule < length (map rule_of_tree c.args.program.now.rules) = slice_get_within (map rule_of_tree c.args.program.now.rules) c.in-Fault.rule e.2.the_rule e.2.is_rule in
     rw length-map at within
 
 pub returns-in-Fault : goal.returns-in-Fault
-returns-in-Fault c =
+returns-in-Fault g c =
     let e = rw c.of_seed-choices.ensures at c.in-Fault.ensures in
-    let k = command_now c.args.command.now in
     let p = c.args.program.now in
     IfOk-weaker c.number_fault.result _ _
-    (λ s h. subst (Comes k (program_of_tree p) (names_of p) c.args.graph.graph) (sym h.2) (is_faulty (runs_to k (program_of_tree p) c.args.graph.graph _ c.in-Fault.field-0 _ e.1) e.2 h.1))
+    (λ s h. subst (Comes c.args.crew.bound c.args.seed (program_of_tree p) (names_of p) c.args.graph.graph) (sym h.2) (is_faulty (runs_to c.args.crew.bound c.args.seed (program_of_tree p) c.args.graph.graph _ c.in-Fault.field-0 _ e.1) e.2 h.1))
     c.number_fault.ensures

@@ -8,7 +8,7 @@ pub returns : goal.returns
 returns g c = IfOk-weaker c.texts_of.result _ _
     (λ r h. record {
       said = said_of c.in_ok-said.said;
-      is_true = c.in_ok-said.ensures (map string_bytes c.args.words.now) c.in_ok-command.ensures;
-      shows = rw (c.asks.ensures, c.in_ok-command.ensures) at h;
+      is_true = c.in_ok-said.ensures (map string_bytes c.args.words.now) c.in_ok-command.ensures.command;
+      shows = rw (c.asks.ensures, c.in_ok-command.ensures.command) at h;
     })
     c.texts_of.ensures

@@ -1,5 +1,5 @@
 use Rattle.std.proofs.lemmas.Result.{err_from_is_err_and}
-use Rattle.gp_cli.specs.inside.Parts.{at_run}
+use Rattle.gp_cli.specs.Answer.{at_run}
 use Rattle.gp_cli.proofs.Loads.{program_stops_all, host_stops_all}
 use Rattle.gp_cli.proofs.top.said_by_files.Goals as goal
 
@@ -16,4 +16,4 @@ returns-in_err-graph g c =
 pub returns : goal.returns
 returns g c =
     let h = rw c.in_ok-program.ensures.same at c.in_ok-graph.ensures.loads in
-    at_run c.in_ok-program.program c.in_ok-graph.graph c.in_ok-program.ensures.loads h c.in_ok-run.ensures
+    at_run c.in_ok-program.ensures.loads h c.in_ok-run.ensures

@@ -4,17 +4,17 @@ use Rattle.clap.specs.Words.{App, Kinds, HasKind, fault_of, is_simple, is_simple
 use Rattle.gp_words.proofs.Commands.{simple, simple_and_free, taken, refused}
 use Rattle.gp_words.proofs.words.command_of.Goals as goal
 
-pub returns-in-Ok : goal.returns-in-Ok
-returns-in-Ok c =
+pub returns-in-Ok-clause-command : goal.returns-in-Ok-clause-command
+returns-in-Ok-clause-command c =
     let words = map string_bytes c.args.words.now in
     let is_gp2 = c.in_ok-command.ensures in
     let none = c.in-Ok.ensures.kinds (ap is_simple_and_free is_gp2 ∙ simple_and_free) in
     let found = c.in-Ok.ensures.ok.2 (ap is_simple is_gp2 ∙ simple) in
-    c.command_below.ensures
+    c.command_below.ensures.command
     ∙ taken words (subcommand_rows_of c.in-Ok.matches) (subst (λ (a : App). fault_of a words ≡ []) is_gp2 none) (found.1 ∙ ap (λ (a : App). subcommand_of a words) is_gp2)
 
-pub returns : goal.returns
-returns c =
+pub returns-clause-command : goal.returns-clause-command
+returns-clause-command c =
     let words = map string_bytes c.args.words.now in
     let is_gp2 = c.in_ok-command.ensures in
     let kinds = c.in-Err.ensures.kinds (ap is_simple_and_free is_gp2 ∙ simple_and_free) in

@@ -1,0 +1,57 @@
+//! What a demo comes to.
+
+ghost use Rattle.std.specs.Prelude.{◌≡◌};
+ghost use Rattle.gp_gen.specs.Host.{IsSize};
+ghost use Rattle.gp_words.specs.Told.{demo_now};
+ghost use Rattle.gp_cli.specs.Answer.{of_demo_run};
+ghost use Rattle.gp_cli.specs.inside.Parts.{RunsDemo};
+ghost use Rattle.gp_cli.specs.inside.Told.{said_of};
+
+use crate::parsed::{host_of, program_of};
+use crate::run::run;
+use crate::said::{Said, Stop};
+use gp_gen::generate;
+use gp_system::Crew;
+use gp_words::DemoCommand;
+use opt_worker::Pace;
+use std::alloc::Global;
+use std::sync::Wait;
+use std::thread::Threads;
+
+/// How many items a demo may count.
+const BOUND: u64 = 1 << 40;
+
+/// With what the choices of its run begin.
+const CHOICES: u64 = 0;
+
+// In place of a graph a demo answers what it has done.
+fn of_demo_run<'a>(command: DemoCommand, said: Said<'a>) -> Said<'a>
+    ensures { said_of result ≡ of_demo_run (demo_now command) (said_of said.entry) }
+{
+    match said {
+        Said::Graph(journal) => Said::Demo(command.kind, command.size, journal),
+        other => other,
+    }
+}
+
+/// What a demo comes to: its program's text and its host's are made, read and run.
+pub(crate) fn demo<'a, P: Pace + Sync, R: Threads + Wait + Sync>(
+    rt: &R,
+    alloc: Global,
+    command: DemoCommand,
+    pace: &P,
+) -> Result<Said<'a>, Stop<'a>>
+    requires { IsSize command.kind command.size }
+    ensures { RunsDemo (demo_now command) result }
+{
+    let texts = generate(alloc, command.kind, command.size, command.seed)?;
+    let program = program_of(alloc, &texts.0)?;
+    let graph = host_of(alloc, texts.1)?;
+    let crew = Crew {
+        workers: command.workers,
+        fan: command.fan,
+        bound: BOUND,
+    };
+    let said = run(rt, alloc, &program, graph, crew, CHOICES, pace)?;
+    Ok(of_demo_run(command, said))
+}

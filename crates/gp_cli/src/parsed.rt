@@ -1,0 +1,52 @@
+//! The program and the host of texts, or the answer that says why not.
+
+ghost use Rattle.std.specs.Prelude.{◌≡◌};
+ghost use Rattle.gp_cli.specs.inside.Parts.{TellsOrFaults, HostsOrFaults};
+ghost use Rattle.gp_cli.specs.inside.Told.{program_refused, host_refused};
+
+use crate::said::{Said, Stop};
+use gp_graph::Graph;
+use gp_hostfile::{HostFault, read_host};
+use gp_reader::{ProgramFault, read_program};
+use gp_syntax::Program;
+use std::alloc::Global;
+
+// What is answered where a program is refused so.
+fn program_refused<'a>(fault: ProgramFault) -> Stop<'a>
+    ensures { result ≡ program_refused fault }
+{
+    match fault {
+        ProgramFault::NoMemory => Stop::NoMemory,
+        other => Stop::Said(Said::BadProgram(other)),
+    }
+}
+
+// The same of a host of these bytes.
+fn host_refused<'a>(bytes: Vec<u8>, fault: HostFault) -> Stop<'a>
+    ensures { result ≡ host_refused bytes fault }
+{
+    match fault {
+        HostFault::NoMemory => Stop::NoMemory,
+        other => Stop::Said(Said::BadHost(bytes, other)),
+    }
+}
+
+/// The program of a text.
+pub(crate) fn program_of<'a>(alloc: Global, text: &[u8]) -> Result<Program, Stop<'a>>
+    ensures { TellsOrFaults text.now result }
+{
+    match read_program(alloc, text) {
+        Ok(program) => Ok(program),
+        Err(fault) => Err(program_refused(fault)),
+    }
+}
+
+/// The graph of a host's text.
+pub(crate) fn host_of<'a>(alloc: Global, text: Vec<u8>) -> Result<Graph, Stop<'a>>
+    ensures { HostsOrFaults text.items result }
+{
+    match read_host(alloc, &text) {
+        Ok(graph) => Ok(graph),
+        Err(fault) => Err(host_refused(text, fault)),
+    }
+}

@@ -1,0 +1,2 @@
+-- Stepping stones that bodies and proofs alone need.
+pub mod Depth

@@ -1,0 +1,34 @@
+//! Commands.
+
+use gp_gen::Kind;
+
+/// `run PROGRAM HOST` with its options: the names of the files, how many items may be counted, with what the choices of
+/// `or` begin, whether the journal is wanted, how many workers there are (1 to 64), and how many candidates they are
+/// wanted for.
+#[derive(Clone, Copy)]
+pub struct RunCommand<'a> {
+    pub program: &'a str,
+    pub host: &'a str,
+    pub bound: u64,
+    pub seed: u64,
+    pub journal: bool,
+    pub workers: u32,
+    pub fan: u64,
+}
+
+/// `demo KIND SIZE SEED` with its options: the workload, and workers and candidates as for `run`.
+#[derive(Clone, Copy)]
+pub struct DemoCommand {
+    pub kind: Kind,
+    pub size: u64,
+    pub seed: u64,
+    pub workers: u32,
+    pub fan: u64,
+}
+
+/// What the words ask for.
+#[derive(Clone, Copy)]
+pub enum Command<'a> {
+    Run(RunCommand<'a>),
+    Demo(DemoCommand),
+}

@@ -1,0 +1,170 @@
+//! The command of what `clap` found.
+
+ghost use Rattle.std.specs.Prelude.{◌≡◌, ◌≤◌, Option, Some, IfSome, option_map};
+ghost use Rattle.clap.specs.Words.{found_of, rows_of, first_of};
+ghost use Rattle.gp_gen.specs.Host.{largest};
+ghost use Rattle.gp_words.specs.CommandLine as spec;
+ghost use Rattle.gp_words.specs.Told.{command_now, HasSize};
+
+use crate::command::{Command, DemoCommand, RunCommand};
+use crate::number::{number_between, value_or};
+use clap::ArgMatches;
+use gp_gen::Kind;
+
+/// The bound where none is written, and the greatest.
+const USUAL_BOUND: u64 = 1_000_000;
+
+const GREATEST_BOUND: u64 = 1 << 40;
+
+/// The number of workers where none is written, and the greatest.
+const USUAL_WORKERS: u64 = 1;
+
+const GREATEST_WORKERS: u64 = 64;
+
+/// How many candidates more workers are wanted for, where none is written, and the greatest.
+const USUAL_FAN: u64 = 64;
+
+const GREATEST_FAN: u64 = (1 << 32) - 1;
+
+// The value that clap found under a name.
+fn text_of<'a>(matches: &ArgMatches<'a>, id: &str) -> Option<&'a str>
+    ensures { option_map (λ s. s.now) result ≡ first_of id.now (rows_of (found_of matches.now)) }
+{
+    matches.get_str(id)
+}
+
+fn is_set(word: Option<&str>) -> bool
+    ensures { result ≡ spec.is_set (option_map (λ w. w.now) word.entry) }
+{
+    match word {
+        None => false,
+        Some(word) => word == "true",
+    }
+}
+
+fn workers_of(matches: &ArgMatches<'_>) -> Option<u32>
+    ensures { result ≡ spec.workers_of (rows_of (found_of matches.now)) }
+{
+    let word = text_of(matches, "workers");
+    match value_or(USUAL_WORKERS, 1, GREATEST_WORKERS, word) {
+        None => None,
+        Some(workers) => Some(workers as u32),
+    }
+}
+
+fn fan_of(matches: &ArgMatches<'_>) -> Option<u64>
+    ensures { result ≡ spec.fan_of (rows_of (found_of matches.now)) }
+{
+    value_or(USUAL_FAN, 1, GREATEST_FAN, text_of(matches, "fan"))
+}
+
+// The run of these files, with the values that clap found.
+fn run_files<'a>(matches: &ArgMatches<'a>, program: &'a str, host: &'a str) -> Option<Command<'a>>
+    ensures run { option_map command_now result ≡ spec.run_files (rows_of (found_of matches.now)) (Some program.entry.now) (Some host.entry.now) }
+    ensures size { IfSome result HasSize }
+{
+    let journal = is_set(text_of(matches, "journal"));
+    let bound = value_or(USUAL_BOUND, 0, GREATEST_BOUND, text_of(matches, "bound"));
+    let seed = value_or(0, 0, u64::MAX, text_of(matches, "seed"));
+    match (bound, seed, workers_of(matches), fan_of(matches)) {
+        (Some(bound), Some(seed), Some(workers), Some(fan)) => Some(Command::Run(RunCommand {
+            program,
+            host,
+            bound,
+            seed,
+            journal,
+            workers,
+            fan,
+        })),
+        _ => None,
+    }
+}
+
+fn run_of<'a>(matches: &ArgMatches<'a>) -> Option<Command<'a>>
+    ensures run { option_map command_now result ≡ spec.run_of (rows_of (found_of matches.now)) }
+    ensures size { IfSome result HasSize }
+{
+    match (text_of(matches, "program"), text_of(matches, "host")) {
+        (Some(program), Some(host)) => run_files(matches, program, host),
+        _ => None,
+    }
+}
+
+fn kind_named(word: &str) -> Option<Kind>
+    ensures { result ≡ spec.kind_named word.now }
+{
+    if word == "closure" {
+        Some(Kind::Closure)
+    } else if word == "colour" {
+        Some(Kind::Colour)
+    } else if word == "tree" {
+        Some(Kind::Tree)
+    } else {
+        None
+    }
+}
+
+fn largest(kind: Kind) -> u64
+    ensures { result ≡ largest kind }
+{
+    match kind {
+        Kind::Closure | Kind::Colour => 500,
+        Kind::Tree => 18,
+    }
+}
+
+// The demo of this kind, with the values that clap found.
+fn demo_with<'a>(
+    matches: &ArgMatches<'a>,
+    kind: Kind,
+    size: &str,
+    seed: &str,
+) -> Option<Command<'a>>
+    ensures demo { option_map command_now result ≡ spec.demo_with kind (spec.number_between 1 (largest kind) size.now) (spec.number_between 0 spec.greatest_seed seed.now)
+        (spec.workers_of (rows_of (found_of matches.now))) (spec.fan_of (rows_of (found_of matches.now))) }
+    ensures size { IfSome result HasSize }
+{
+    let size = number_between(1, largest(kind), size);
+    let seed = number_between(0, u64::MAX, seed);
+    match (size, seed, workers_of(matches), fan_of(matches)) {
+        (Some(size), Some(seed), Some(workers), Some(fan)) => Some(Command::Demo(DemoCommand {
+            kind,
+            size,
+            seed,
+            workers,
+            fan,
+        })),
+        _ => None,
+    }
+}
+
+fn demo_of<'a>(matches: &ArgMatches<'a>) -> Option<Command<'a>>
+    ensures demo { option_map command_now result ≡ spec.demo_of (rows_of (found_of matches.now)) }
+    ensures size { IfSome result HasSize }
+{
+    match (
+        text_of(matches, "kind"),
+        text_of(matches, "size"),
+        text_of(matches, "seed"),
+    ) {
+        (Some(kind), Some(size), Some(seed)) => match kind_named(kind) {
+            Some(kind) => demo_with(matches, kind, size, seed),
+            None => None,
+        },
+        _ => None,
+    }
+}
+
+/// The command of that name at which clap found these matches.
+pub(crate) fn command_at<'a>(name: &str, matches: &ArgMatches<'a>) -> Option<Command<'a>>
+    ensures command { option_map command_now result ≡ spec.command_at (name.now, rows_of (found_of matches.now)) }
+    ensures size { IfSome result HasSize }
+{
+    if name == "run" {
+        run_of(matches)
+    } else if name == "demo" {
+        demo_of(matches)
+    } else {
+        None
+    }
+}
