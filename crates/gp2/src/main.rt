@@ -6,7 +6,7 @@
 use gp_cli::gp2_main;
 use gp_io::{DiskFiles, StdSink};
 use gp_memory::NoMemory;
-use opt_worker::Free;
+use opt_worker::Pacing;
 use std::alloc::Global;
 use std::env;
 use std::io::ErrorKind;
@@ -35,5 +35,5 @@ fn main(rt: HostRuntime) -> ExitCode {
     let mut files = DiskFiles::new(&rt);
     let mut out = StdSink::new(rt.stdout());
     let mut err = StdSink::new(rt.stderr());
-    ExitCode::from(gp2_main(&rt, words, &mut files, &mut out, &mut err, &Free))
+    ExitCode::from(gp2_main(&rt, words, &mut files, &mut out, &mut err, &Pacing::Free))
 }

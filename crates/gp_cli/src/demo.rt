@@ -13,7 +13,7 @@ use crate::said::{Said, Stop};
 use gp_gen::generate;
 use gp_system::Crew;
 use gp_words::DemoCommand;
-use opt_worker::Pace;
+use opt_worker::Pacing;
 use std::alloc::Global;
 use std::sync::Wait;
 use std::thread::Threads;
@@ -35,11 +35,11 @@ fn of_demo_run<'a>(command: DemoCommand, said: Said<'a>) -> Said<'a>
 }
 
 /// What a demo comes to: its program's text and its host's are made, read and run.
-pub(crate) fn demo<'a, P: Pace + Sync, R: Threads + Wait + Sync>(
+pub(crate) fn demo<'a, R: Threads + Wait + Sync>(
     rt: &R,
     alloc: Global,
     command: DemoCommand,
-    pace: &P,
+    pace: &Pacing,
 ) -> Result<Said<'a>, Stop<'a>>
     requires { IsSize command.kind command.size }
     ensures { RunsDemo (demo_now command) result }

@@ -14,7 +14,7 @@ use gp_graph::Graph;
 use gp_memory::NoMemory;
 use gp_syntax::{Name, NumberKind, Program};
 use gp_system::{Crew, Outcome, execute};
-use opt_worker::Pace;
+use opt_worker::Pacing;
 use std::alloc::Global;
 use std::sync::Wait;
 use std::thread::Threads;
@@ -35,14 +35,14 @@ fn number_fault<'a>(
 }
 
 /// Runs the program on the graph, with the choices of the seed.
-pub(crate) fn run<'a, P: Pace + Sync, R: Threads + Wait + Sync>(
+pub(crate) fn run<'a, R: Threads + Wait + Sync>(
     rt: &R,
     alloc: Global,
     program: &Program,
     graph: Graph,
     crew: Crew,
     seed: u64,
-    pace: &P,
+    pace: &Pacing,
 ) -> Result<Said<'a>, NoMemory>
     ensures { IfOk result (λ s. Comes crew.bound seed (program_of_tree program.now) (names_of program.now) graph.graph (said_of s)) }
 {

@@ -1,13 +1,12 @@
 //! Programs on hosts through the top call.
 
 mod crews;
-mod paces;
 mod rows;
 
 use crate::gp2_main;
 use gp_io::{MemFiles, MemSink};
 use gp_memory::NoMemory;
-use opt_worker::{Free, Pace};
+use opt_worker::Pacing;
 use std::alloc::{AllocGlobal, Global};
 use std::sync::Wait;
 use std::test::Fail;
@@ -99,16 +98,16 @@ fn answer_given<R: AllocGlobal + Threads + Wait + Sync>(
     files: &mut MemFiles,
     cuts: Cuts,
 ) -> Result<Vec<u8>, Fail> {
-    answer_held(rt, given, files, cuts, &Free)
+    answer_held(rt, given, files, cuts, &Pacing::Free)
 }
 
 // The same with a pace that may hold workers.
-fn answer_held<P: Pace + Sync, R: AllocGlobal + Threads + Wait + Sync>(
+fn answer_held<R: AllocGlobal + Threads + Wait + Sync>(
     rt: &R,
     given: Vec<String>,
     files: &mut MemFiles,
     cuts: Cuts,
-    pace: &P,
+    pace: &Pacing,
 ) -> Result<Vec<u8>, Fail> {
     let alloc = rt.alloc();
     let mut out = sink(alloc, cuts.out)?;
@@ -363,7 +362,14 @@ fn words_without_memory_end_in_silence(rt: HostRuntime) -> Result<(), Fail> {
     let mut files = two_files(rt.alloc(), MAKE, "[ | ]", &[])?;
     let mut out = sink(rt.alloc(), None)?;
     let mut err = sink(rt.alloc(), None)?;
-    let status = gp2_main(&rt, Err(NoMemory), &mut files, &mut out, &mut err, &Free);
+    let status = gp2_main(
+        &rt,
+        Err(NoMemory),
+        &mut files,
+        &mut out,
+        &mut err,
+        &Pacing::Free,
+    );
     assert_eq!(rt; status, 7);
     assert_eq!(rt; out.bytes(), b"".as_slice());
     assert_eq!(rt; err.bytes(), b"".as_slice());

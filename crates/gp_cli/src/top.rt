@@ -24,18 +24,18 @@ use gp_memory::NoMemory;
 use gp_reader::laws::texts_have_one_fault;
 use gp_system::Crew;
 use gp_words::{Command, RunCommand, command_of};
-use opt_worker::Pace;
+use opt_worker::Pacing;
 use std::alloc::{AllocGlobal, Global};
 use std::sync::Wait;
 use std::thread::Threads;
 
 // What the files of a command come to.
-fn said_by_files<'a, F: Files, P: Pace + Sync, R: Threads + Wait + Sync>(
+fn said_by_files<'a, F: Files, R: Threads + Wait + Sync>(
     rt: &R,
     alloc: Global,
     command: RunCommand<'a>,
     files: &mut F,
-    pace: &P,
+    pace: &Pacing,
 ) -> Result<Said<'a>, Stop<'a>>
     ensures { RunsFiles (F.content files.old) (record { before = F.faults files.old; now = F.faults files.new }) (run_now command.entry) result }
 {
@@ -50,12 +50,12 @@ fn said_by_files<'a, F: Files, P: Pace + Sync, R: Threads + Wait + Sync>(
 }
 
 // What a command comes to.
-fn said_by_command<'a, F: Files, P: Pace + Sync, R: Threads + Wait + Sync>(
+fn said_by_command<'a, F: Files, R: Threads + Wait + Sync>(
     rt: &R,
     alloc: Global,
     command: Command<'a>,
     files: &mut F,
-    pace: &P,
+    pace: &Pacing,
 ) -> Result<Said<'a>, NoMemory>
     requires { HasSize command }
     ensures { IfOk result (λ s. (words : List AnyName) → spec.command_of words ≡ Some (command_now command.entry) →
@@ -68,12 +68,12 @@ fn said_by_command<'a, F: Files, P: Pace + Sync, R: Threads + Wait + Sync>(
 }
 
 // What the words and the files come to.
-fn said_by<'a, F: Files, P: Pace + Sync, R: Threads + Wait + Sync>(
+fn said_by<'a, F: Files, R: Threads + Wait + Sync>(
     rt: &R,
     alloc: Global,
     command: Option<Command<'a>>,
     files: &mut F,
-    pace: &P,
+    pace: &Pacing,
 ) -> Result<Said<'a>, NoMemory>
     requires { IfSome command HasSize }
     ensures { IfOk result (λ s. (words : List AnyName) → option_map command_now command.entry ≡ spec.command_of words →
@@ -102,12 +102,12 @@ fn texts_of(alloc: Global, asked: bool, said: Said<'_>) -> Result<Reply, NoMemor
     reply_of(alloc, asked, &said)
 }
 
-fn reply_to<F: Files, P: Pace + Sync, R: Threads + Wait + Sync>(
+fn reply_to<F: Files, R: Threads + Wait + Sync>(
     rt: &R,
     alloc: Global,
     words: &[String],
     files: &mut F,
-    pace: &P,
+    pace: &Pacing,
 ) -> Result<Reply, NoMemory>
     ensures { IfOk result (λ r. Replies (map string_bytes words.now) (F.content files.old) (record { before = F.faults files.old; now = F.faults files.new })
         (status_code r.status) (r.journal.items ++ r.result.items) r.err.items) }
@@ -118,14 +118,14 @@ fn reply_to<F: Files, P: Pace + Sync, R: Threads + Wait + Sync>(
 }
 
 // Answers these words: all text is made before the first write.
-fn answer_words<F: Files, O: Sink, E: Sink, P: Pace + Sync, R: Threads + Wait + Sync>(
+fn answer_words<F: Files, O: Sink, E: Sink, R: Threads + Wait + Sync>(
     rt: &R,
     alloc: Global,
     words: &[String],
     files: &mut F,
     out: &mut O,
     err: &mut E,
-    pace: &P,
+    pace: &Pacing,
 ) -> u8
     ensures answered { Answered (map string_bytes words.now) (F.content files.old)
         (record { before = F.faults files.old; now = F.faults files.new })
@@ -147,13 +147,13 @@ fn answer_words<F: Files, O: Sink, E: Sink, P: Pace + Sync, R: Threads + Wait + 
 /// Runs the program's file on the host's, or a demo, as the words say, and writes what comes of it. The answer is the
 /// status of the process. The words are those behind the program's name, or that memory was refused for them. With two
 /// workers or more the call starts threads, and the pace may hold them; it may wait then.
-pub fn gp2_main<R: AllocGlobal + Threads + Wait + Sync, F: Files, O: Sink, E: Sink, P: Pace + Sync>(
+pub fn gp2_main<R: AllocGlobal + Threads + Wait + Sync, F: Files, O: Sink, E: Sink>(
     rt: &R,
     words: Result<Vec<String>, NoMemory>,
     files: &mut F,
     out: &mut O,
     err: &mut E,
-    pace: &P,
+    pace: &Pacing,
 ) -> u8
     ensures answered { IfOk words (λ given. Answered (map string_bytes given.items) (F.content files.old)
         (record { before = F.faults files.old; now = F.faults files.new })

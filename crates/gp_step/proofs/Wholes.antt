@@ -197,7 +197,7 @@ numbered_stepped : (r : Rule) (g : Graph) (m : Found) (a : Assignment) → IsNum
 numbered_stepped r g m a b w o =
     let first = below_nodes (gone (is_kept r) m.nodes) (drop_edges m.edges g) (below_edges m.edges g b) in
     let second = below_put m (made_node r g m a) r.right_nodes (drop_nodes (gone (is_kept r) m.nodes) (drop_edges m.edges g)) first
-        (λ j i q h e. subst (λ k. slice_index m.nodes i < k) (sym (cleared_next r m g)) (node_below r g m a b w o i (o.origins j i q h e))) in
+    (λ j i q h e. subst (λ k. slice_index m.nodes i < k) (sym (cleared_next r m g)) (node_below r g m a b w o i (o.origins j i q h e))) in
     below_put_edges (map (made_edge r g m a (images_of r g m)) r.right_edges) (put_nodes m (made_node r g m a) r.right_nodes (drop_nodes (gone (is_kept r) m.nodes) (drop_edges m.edges g))) second
 
 pub numbered_after : (r : Rule) (g : Graph) (m : Found) → IsWellFormed r → IsNumbered g → Applies r g m → IsNumbered (after r g m)

@@ -140,11 +140,11 @@ crewed_on v w gp workers replicas had k g =
       system = k.system ∙ ap (λ (p : ProgramParts). system_of p gp.further) (sym g.program);
       some = k.some;
       within = (
-        let a : length (items_of w.journal.items) ≡ length (items_of v.journal.items ++ g.more) = ap (λ (l : List meant.Item). length l) g.items in
-        let b = length-append (items_of v.journal.items) g.more in
-        let c = length-items w.journal.items in
-        omega arith
-      );
+          let a : length (items_of w.journal.items) ≡ length (items_of v.journal.items ++ g.more) = ap (λ (l : List meant.Item). length l) g.items in
+          let b = length-append (items_of v.journal.items) g.more in
+          let c = length-items w.journal.items in
+          omega arith
+          );
       follow = subst (λ (p : ProgramParts). All (λ t. Leads (map rule_of_tree p.rules) (take had (items_of w.journal.items)) (fresh (root_of w.journal.trail)) t) replicas) (sym g.program)
           (subst (λ (x : Graph). All (λ t. Leads (map rule_of_tree v.program.rules) (take had (items_of w.journal.items)) (fresh x) t) replicas) (sym g.first)
           (subst (λ (l : List meant.Item). All (λ t. Leads (map rule_of_tree v.program.rules) l (fresh (root_of v.journal.trail)) t) replicas) (sym same) k.follow));

@@ -94,15 +94,15 @@ module _ (s : RuleSystem) (w : All IsWellFormed (rules_of s)) where
   blocked_in : (goal : CallGoal) (set : List ℕ) (t : Trail) → slice_get s.sets goal.call ≡ Some set → ((m : Found) → (gp_means s).judged goal t m ≡ neither) → Blocked (rules_of s) set t.graph
   blocked_in goal set t e none = record {
     none_applies = λ i r m c f a.
-    let n : Found = record m { rule = i } in
-    let j : (gp_means s).judged goal t n ≡ applies = there judged_match s w goal set t.graph n r e c f ∙ judged_applies r t.graph n (judged_match r t.graph n (well_formed_at (rules_of s) i r w f)) (renumbered_applies r t.graph m i a) in
-    let k : neither ≡ applies = sym (none n) ∙ j in
-    absurd cc;
+        let n : Found = record m { rule = i } in
+        let j : (gp_means s).judged goal t n ≡ applies = there judged_match s w goal set t.graph n r e c f ∙ judged_applies r t.graph n (judged_match r t.graph n (well_formed_at (rules_of s) i r w f)) (renumbered_applies r t.graph m i a) in
+        let k : neither ≡ applies = sym (none n) ∙ j in
+        absurd cc;
     none_faulty = λ i r m kind c f a.
-    let n : Found = record m { rule = i } in
-    let j : (gp_means s).judged goal t n ≡ faulty (record { rule = i; kind = kind }) = there judged_match s w goal set t.graph n r e c f ∙ judged_faulty r t.graph n (judged_match r t.graph n (well_formed_at (rules_of s) i r w f)) kind (renumbered_faulty r t.graph m i kind a) in
-    let k : neither ≡ faulty (record { rule = i; kind = kind }) = sym (none n) ∙ j in
-    absurd cc;
+        let n : Found = record m { rule = i } in
+        let j : (gp_means s).judged goal t n ≡ faulty (record { rule = i; kind = kind }) = there judged_match s w goal set t.graph n r e c f ∙ judged_faulty r t.graph n (judged_match r t.graph n (well_formed_at (rules_of s) i r w f)) kind (renumbered_faulty r t.graph m i kind a) in
+        let k : neither ≡ faulty (record { rule = i; kind = kind }) = sym (none n) ∙ j in
+        absurd cc;
   }
 
 -- ---- a goal between two moments
@@ -246,8 +246,7 @@ called_so c ending.Blocked v w l h =
     fails_still c ending.Blocked v w h set.0 set.1 (no_entry c ending.Blocked v w h (λ e. cc)) (legal (one c) ending.Blocked v w h).ended
 called_so c ending.Bound v w l h =
     let set = element v.program.sets c l in
-    let z = (legal (one c) ending.Bound v w h).ended in
-    (
+    let z = (legal (one c) ending.Bound v w h).ended in (
       stands_still c ending.Bound v w h (no_entry c ending.Bound v w h (λ e. cc)),
       elim z.1 [
         | inl q ↦ absurd (let e : Once ≡ Saturate = q.0 in cc)
@@ -389,13 +388,13 @@ bound_so c u v w l made h =
     let none : w.left ≡ 0 = z.0 in
     elim i.2 [
       | inl e ↦ (
-        let used : v.left ≡ w.left + 2 * length h.entries = omega arith in
-        elim z.1 [
-          | inl q ↦ absurd (let d : v.left + 1 ≡ 2 * length h.entries = q.1 in omega arith)
-          | inr q ↦ turns_spent c u (mid c ending.Bound u v w h made) (view_of w) (view_of w) (full_turns c ending.Bound u v w h made used) (last_turn c ending.Bound u v w h made used)
-            (call_stands_now c ending.Bound u v w h made, spent_now (all c) ending.Bound v w h set.0 set.1 none q.0 q.1)
-        ]
-      )
+          let used : v.left ≡ w.left + 2 * length h.entries = omega arith in
+          elim z.1 [
+            | inl q ↦ absurd (let d : v.left + 1 ≡ 2 * length h.entries = q.1 in omega arith)
+            | inr q ↦ turns_spent c u (mid c ending.Bound u v w h made) (view_of w) (view_of w) (full_turns c ending.Bound u v w h made used) (last_turn c ending.Bound u v w h made used)
+                (call_stands_now c ending.Bound u v w h made, spent_now (all c) ending.Bound v w h set.0 set.1 none q.0 q.1)
+          ]
+          )
       | inr e ↦ turns_bound c u (view_of w) (view_of w) (but_turns c ending.Bound u v w h made h.entries refl (let d : i.0 + 1 ≡ 2 * length h.entries = e.0 in omega arith)) (refl, none)
     ]
 

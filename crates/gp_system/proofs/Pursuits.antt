@@ -32,7 +32,6 @@ use Rattle.gp_system.specs.inside.Pursued.{HasUsed, turns_first, noted_but_last_
 use Rattle.gp_system.proofs.Searches.{renumbered_applies, renumbered_faulty}
 use Rattle.gp_system.proofs.Systems.{contains_has, step_of, by_set, well_formed_at}
 
-
 -- ---- one entry
 
 -- the match is of a rule of the call's set, and applies

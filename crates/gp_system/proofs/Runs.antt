@@ -2,6 +2,7 @@
 use Rattle.std.proofs.Common.{◌≡◌, ℕ, ◌+◌, Bool, List, map, sym, ap, subst, ◌∙◌, arith}
 use Rattle.gp_values.specs.Graph.{Graph}
 use Rattle.gp_syntax.specs.declared.command.ProgramParts.{ProgramParts}
+use Rattle.gp_syntax.specs.declared.kinds.NumberKind.{NumberKind}
 use Rattle.gp_syntax.specs.Run.{Program, Item, Run, Ending, Gives, Fails, Breaks, At, AtTurn, counted}
 use Rattle.gp_syntax.specs.Tree.{rule_of_tree, program_of_tree}
 use Rattle.gp_journal.specs.Journal.{Journal, IsJournalOf, items_of}
@@ -10,7 +11,7 @@ use Rattle.gp_run.specs.Finished as finished
 use Rattle.gp_run.specs.Finished.{HasFinished}
 use Rattle.gp_run.specs.declared.interpreter.Finish.TheVariants as finish
 use Rattle.gp_system.specs.declared.outcome.Outcome.TheVariants as outcome
-use Rattle.gp_system.specs.Ended.{HasApplyingCall, MayGoOn, HasRun, HasEnded}
+use Rattle.gp_system.specs.Ended.{HasApplyingCall, HasFaultyCall, MayGoOn, HasRun, HasEnded}
 use Rattle.gp_system.specs.inside.Viewed.{Shown, view_of, begun}
 
 may_go_on : (p : ProgramParts) (n : Shown) (x : Ending) → program_of_tree n.program ≡ program_of_tree p → StandsSpent (view_of n) x → MayGoOn (program_of_tree p) n.journal.trail.graph x × (n.left ≡ 0)
@@ -42,3 +43,16 @@ module _ {S : Type 0} (answer : S → Bool) (next : S → S) (p : ProgramParts) 
   pub ends_at_bound : (b n : Shown) (j : Journal) → b ≡ begun p host bound → j ≡ n.journal → IsJournalOf (map rule_of_tree n.program.rules) j → HasFinished answer next finish.Bound (view_of b).program.main (view_of b) (view_of n) s u → HasEnded answer next (program_of_tree p) host bound s u (outcome.Bound j)
   ends_at_bound b n j e f w a =
       rw f (at_bound n (subst (IsJournalOf (map rule_of_tree n.program.rules)) f w) (subst (λ (y : Shown). HasFinished answer next finish.Bound (view_of y).program.main (view_of y) (view_of n) s u) e a))
+
+  at_fault : (n : Shown) (rule : ℕ) (kind : NumberKind) → IsJournalOf (map rule_of_tree n.program.rules) n.journal → HasFinished answer next (finish.Fault rule kind) (program_of_tree p).main (view_of (begun p host bound)) (view_of n) s u → HasEnded answer next (program_of_tree p) host bound s u (outcome.Fault n.journal rule kind)
+  at_fault n rule kind w a = (
+    a.0,
+    has_run n (At a.0 n.journal.trail.graph) a.1 w,
+    subst (λ (q : Program). HasFaultyCall q a.0 rule kind n.journal.trail.graph) a.1.makes.adds.program
+        (record { set = a.2.set; is_set = a.2.is_set; in_set = a.2.in_set; the_rule = a.2.the_rule; is_rule = a.2.is_rule; found = a.2.found; faulty = a.2.faulty }),
+  )
+
+  pub ends_at_fault : (b n : Shown) (j : Journal) (rule : ℕ) (kind : NumberKind) → b ≡ begun p host bound → j ≡ n.journal → IsJournalOf (map rule_of_tree n.program.rules) j → HasFinished answer next (finish.Fault rule kind) (view_of b).program.main (view_of b) (view_of n) s u
+      → HasEnded answer next (program_of_tree p) host bound s u (outcome.Fault j rule kind)
+  ends_at_fault b n j rule kind e f w a =
+      rw f (at_fault n rule kind (subst (IsJournalOf (map rule_of_tree n.program.rules)) f w) (subst (λ (y : Shown). HasFinished answer next (finish.Fault rule kind) (view_of y).program.main (view_of y) (view_of n) s u) e a))

@@ -66,7 +66,8 @@ fn called(ending: Ending<Fault>) -> Called
 impl<'a> CrewSession<'a> {
     // Whether the call goes to the crew.
     fn is_wide(&self, call: u32) -> bool {
-        self.system.is_wide(call, self.session.graph(), self.crew.fan)
+        self.system
+            .is_wide(call, self.session.graph(), self.crew.fan)
     }
 }
 
@@ -122,7 +123,8 @@ impl<'a> CrewSession<'a> {
         note_used(&mut items, pursued.entries, goal.mode, used)?;
         self.had = items.as_slice().len();
         self.replicas = pursued.replicas;
-        self.session.put_together(pursued.trail, items, pursued.left);
+        self.session
+            .put_together(pursued.trail, items, pursued.left);
         Ok(pursued.ending)
     }
 

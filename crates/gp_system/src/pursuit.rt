@@ -54,7 +54,12 @@ fn bring(rules: &[Rule], missing: &[Item], replica: &mut Trail) -> Result<(), No
 }
 
 // The same for each of them.
-fn bring_all(rules: &[Rule], missing: &[Item], trail: &Trail, replicas: Vec<Trail>) -> Result<Vec<Trail>, NoMemory>
+fn bring_all(
+    rules: &[Rule],
+    missing: &[Item],
+    trail: &Trail,
+    replicas: Vec<Trail>,
+) -> Result<Vec<Trail>, NoMemory>
     requires well_formed { All IsWellFormed (map rule_of_tree rules.now) }
     requires way { All (λ t. Leads (map rule_of_tree rules.now) (items_of missing.now) t trail.now) replicas.items }
     requires settled { trail.now.caught ≡ 0 }

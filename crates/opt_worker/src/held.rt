@@ -36,9 +36,18 @@ impl Held {
         self.late.load(Ordering::SeqCst)
     }
 
-    /// Whether a search of each of the two was heard of.
-    pub fn heard_both(&self) -> bool {
-        self.zero_searched.load(Ordering::SeqCst) && self.one_searched.load(Ordering::SeqCst)
+    /// Whether a search of each of the two was heard of, and they searched at the same time.
+    pub fn met(&self) -> bool {
+        let zero = self.zero_searched.load(Ordering::SeqCst);
+        let one = self.one_searched.load(Ordering::SeqCst);
+        zero && one && !self.was_late()
+    }
+
+    /// Whether no search was heard of.
+    pub fn is_untold(&self) -> bool {
+        let zero = self.zero_searched.load(Ordering::SeqCst);
+        let one = self.one_searched.load(Ordering::SeqCst);
+        !zero && !one
     }
 
     /// Whether the first report of worker 0 committed a match.

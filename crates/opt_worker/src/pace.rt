@@ -30,6 +30,16 @@ pub enum Pacing {
     Held(Held),
 }
 
+impl Pacing {
+    /// What holds the workers, if there is such.
+    pub fn held(&self) -> Option<&Held> {
+        match self {
+            Pacing::Free => None,
+            Pacing::Held(held) => Some(held),
+        }
+    }
+}
+
 impl Pace for Pacing {
     fn searched(&self, rt: &impl Wait, worker: u32, told: u64) {
         match self {

@@ -1,8 +1,8 @@
 //! Demos, and workers that search at the same time.
 
-use crate::tests::paces::Held;
 use crate::tests::{NO_CUTS, answer, answer_held, two_files};
 use gp_io::MemFiles;
+use opt_worker::{Held, Pacing};
 use std::alloc::{AllocGlobal, Global};
 use std::sync::Wait;
 use std::test::Fail;
@@ -65,7 +65,7 @@ fn two_deleted<R: AllocGlobal + Threads + Wait + Sync>(
     rt: &R,
     workers: &str,
     fan: &str,
-    pace: &Held,
+    pace: &Pacing,
 ) -> Result<Vec<u8>, Fail> {
     let alloc = rt.alloc();
     let mut files = two_files(alloc, DEL, "[ (a, 1) (b, 2) | ]", &[])?;
@@ -96,10 +96,10 @@ fn journal_of(alloc: Global, first: u64, second: u64) -> Result<String, Fail> {
 
 #[test]
 fn two_workers_search_at_the_same_time(rt: HostRuntime) -> Result<(), Fail> {
-    let pace = Held::new(1_000_000_000);
+    let pace = Pacing::Held(Held::new(1_000_000_000));
     let found = two_deleted(&rt, "2", "1", &pace)?;
     assert_eq!(rt; found.as_slice(), journal_of(rt.alloc(), 1, 0)?.as_bytes());
-    assert!(rt; pace.met());
+    assert!(rt; pace.held().is_some_and(|held| held.met()));
     Ok(())
 }
 
@@ -107,12 +107,12 @@ fn two_workers_search_at_the_same_time(rt: HostRuntime) -> Result<(), Fail> {
 fn few_candidates_and_one_worker_need_no_crew(rt: HostRuntime) -> Result<(), Fail> {
     let alloc = rt.alloc();
     for (workers, fan) in [("2", "3"), ("1", "1")] {
-        let pace = Held::new(1000);
+        let pace = Pacing::Held(Held::new(1000));
         let found = two_deleted(&rt, workers, fan, &pace)?;
         let one = found.as_slice() == journal_of(alloc, 0, 1)?.as_bytes();
         let other = found.as_slice() == journal_of(alloc, 1, 0)?.as_bytes();
         assert!(rt; one || other);
-        assert!(rt; pace.is_untold());
+        assert!(rt; pace.held().is_some_and(|held| held.is_untold()));
     }
     Ok(())
 }
