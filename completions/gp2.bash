@@ -3,20 +3,25 @@ _gp2() {
   local word=${COMP_WORDS[COMP_CWORD]} before=${COMP_WORDS[COMP_CWORD - 1]} files=0 i pattern
   COMPREPLY=()
   case $before in
-    --bound | --seed) return ;;
+    --bound | --seed | --workers | --fan) return ;;
   esac
   if [ "$COMP_CWORD" -eq 1 ]; then
-    mapfile -t COMPREPLY < <(compgen -W "run" -- "$word")
+    mapfile -t COMPREPLY < <(compgen -W "run demo" -- "$word")
+    return
+  fi
+  if [ "${COMP_WORDS[1]}" = demo ]; then
+    if [ "$COMP_CWORD" -eq 2 ]; then mapfile -t COMPREPLY < <(compgen -W "closure colour tree" -- "$word")
+    elif [[ $word == -* ]]; then mapfile -t COMPREPLY < <(compgen -W "--workers --fan" -- "$word"); fi
     return
   fi
   if [[ $word == -* ]]; then
-    mapfile -t COMPREPLY < <(compgen -W "--bound --seed --journal" -- "$word")
+    mapfile -t COMPREPLY < <(compgen -W "--bound --seed --journal --workers --fan" -- "$word")
     return
   fi
   # How many files stand before this word: the first is the program, the second the host.
   for ((i = 2; i < COMP_CWORD; i++)); do
     case ${COMP_WORDS[i]} in
-      --bound | --seed) i=$((i + 1)) ;;
+      --bound | --seed | --workers | --fan) i=$((i + 1)) ;;
       -*) ;;
       *) files=$((files + 1)) ;;
     esac
@@ -24,7 +29,7 @@ _gp2() {
   case $files in
     0) pattern='*.gp2' ;;
     1) pattern='*.host' ;;
-    *) mapfile -t COMPREPLY < <(compgen -W "--bound --seed --journal" -- "$word"); return ;;
+    *) mapfile -t COMPREPLY < <(compgen -W "--bound --seed --journal --workers --fan" -- "$word"); return ;;
   esac
   compopt -o filenames 2>/dev/null
   mapfile -t COMPREPLY < <(compgen -f -X "!$pattern" -- "$word"; compgen -d -- "$word")

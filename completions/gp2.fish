@@ -5,3 +5,7 @@ complete -c gp2 -n '__fish_seen_subcommand_from run' -l bound -x -d 'How many tu
 complete -c gp2 -n '__fish_seen_subcommand_from run' -l seed -x -d 'With what the choices of or begin'
 complete -c gp2 -n '__fish_seen_subcommand_from run' -l journal -d 'Print the steps of the run before its result'
 complete -c gp2 -n '__fish_seen_subcommand_from run' -k -a '(__fish_complete_suffix .host)(__fish_complete_suffix .gp2)'
+complete -c gp2 -n __fish_use_subcommand -a demo -d 'Run a workload made from a number'
+complete -c gp2 -n '__fish_seen_subcommand_from run demo' -l workers -x -d 'How many workers search at the same time'
+complete -c gp2 -n '__fish_seen_subcommand_from run demo' -l fan -x -d 'With how many candidates a search begins that all workers make'
+complete -c gp2 -n '__fish_seen_subcommand_from demo' -a 'closure colour tree'
