@@ -55,7 +55,37 @@ struct Row {
 }
 
 // Rows that any number of workers answers with the same bytes.
-static CREWED: [Row; 12] = [
+static CREWED: [Row; 16] = [
+    // The loop of deletes is taken back whole, and made again: 10 items are counted.
+    Row {
+        main: "try (del!; fail); del!",
+        rules: &[DEL],
+        host: "[ (a, 1) (b, 2) | ]",
+        options: &["--bound", "10"],
+        shown: "0\t[\n|\n]\n\t",
+    },
+    Row {
+        main: "try (del!; fail); del!",
+        rules: &[DEL],
+        host: "[ (a, 1) (b, 2) | ]",
+        options: &["--bound", "9"],
+        shown: "5\t\tbound 9\n",
+    },
+    // A step is left for and no turn after it; and no step.
+    Row {
+        main: "del!",
+        rules: &[DEL],
+        host: "[ (a, 1) (b, 2) | ]",
+        options: &["--bound", "4"],
+        shown: "5\t\tbound 4\n",
+    },
+    Row {
+        main: "del!",
+        rules: &[DEL],
+        host: "[ (a, 1) (b, 2) | ]",
+        options: &["--bound", "3"],
+        shown: "5\t\tbound 3\n",
+    },
     Row {
         main: "link!",
         rules: &[LINK],
