@@ -1,7 +1,7 @@
 -- What the top call may answer, and why.
 use Rattle.std.specs.Prelude.{◌≡◌, ◌≢◌, ◌⊎◌, ℕ, ◌^◌, ◌≤◌, ◌<◌, Bool, true, false, List, [], ◌∷◌, ◌++◌, length, map, take, slice_get, Option, Some, None}
 use Rattle.std.specs.Option.{option_map_or}
-use Rattle.gp_io.specs.Outside.{Content, Rose, HasFile, LacksFile, Gains}
+use Rattle.gp_io.specs.Outside.{Content, KnownFiles, KnownSink, Rose, HasFile, LacksFile, Gains}
 use Rattle.gp_values.specs.Names.{Name}
 use Rattle.gp_values.specs.Graph.{Graph}
 use Rattle.gp_syntax.specs.declared.kinds.NumberKind.{NumberKind}
@@ -20,14 +20,6 @@ use Rattle.gp_cli.specs.Texts.{Said, graph, failed, demo_done, usage, long_progr
 -- the greatest number of bytes of a file
 abbrev pub limit : ℕ
 limit = 2 ^ 28
-
--- a count of faults before the call and now
-pub record Count : Type 0 where
-  pub before : ℕ
-  pub now : ℕ
-
-abbrev pub HasRisen : Count → Type 0
-HasRisen count = Rose count.before count.now
 
 -- ---- texts
 
@@ -50,9 +42,9 @@ pub record HasLongFile (content : Option Content) (name : Name) : Type 0 where
   pub long : limit < length bytes
 
 -- the file cannot be read: the count of the files' faults rose, or the known content lacks it
-pub data CannotRead (content : Option Content) (files : Count) (name : Name) : Type 0 where
-  risen : HasRisen files → CannotRead content files name
-  lacking : LacksFile content name → CannotRead content files name
+pub data CannotRead (old new : KnownFiles) (name : Name) : Type 0 where
+  risen : Rose old.faults new.faults → CannotRead old new name
+  lacking : LacksFile old.content name → CannotRead old new name
 
 -- its bytes are this program, whose rules have these names
 pub record HasProgram (content : Option Content) (name : Name) (p : Program) (rule_names : List Name) : Type 0 where
@@ -91,24 +83,24 @@ pub data Comes (bound seed : ℕ) (p : Program) (rule_names : List Name) (g : Gr
 -- ---- `run`
 
 -- what is answered in place of a program
-pub data StopsAtProgram (content : Option Content) (files : Count) (name : Name) : Said → Type 0 where
-  program_is_long : HasLongFile content name → StopsAtProgram content files name long_program
-  program_is_bad : {bytes : List ℕ} {f : ProgramFault} → HasBytes content name bytes → IsFaultyText bytes f → StopsAtProgram content files name (bad_program f)
-  program_is_unread : CannotRead content files name → StopsAtProgram content files name (unread name)
+pub data StopsAtProgram (old new : KnownFiles) (name : Name) : Said → Type 0 where
+  program_is_long : HasLongFile old.content name → StopsAtProgram old new name long_program
+  program_is_bad : {bytes : List ℕ} {f : ProgramFault} → HasBytes old.content name bytes → IsFaultyText bytes f → StopsAtProgram old new name (bad_program f)
+  program_is_unread : CannotRead old new name → StopsAtProgram old new name (unread name)
 
 -- and in place of a host
-pub data StopsAtHost (content : Option Content) (files : Count) (name : Name) : Said → Type 0 where
-  host_is_long : HasLongFile content name → StopsAtHost content files name long_host
-  host_is_bad : {bytes : List ℕ} {f : HostFault} → HasBytes content name bytes → IsHostFault bytes f → StopsAtHost content files name (bad_host bytes f)
-  host_is_unread : CannotRead content files name → StopsAtHost content files name (unread name)
+pub data StopsAtHost (old new : KnownFiles) (name : Name) : Said → Type 0 where
+  host_is_long : HasLongFile old.content name → StopsAtHost old new name long_host
+  host_is_bad : {bytes : List ℕ} {f : HostFault} → HasBytes old.content name bytes → IsHostFault bytes f → StopsAtHost old new name (bad_host bytes f)
+  host_is_unread : CannotRead old new name → StopsAtHost old new name (unread name)
 
 -- The order is: program read, program, host read, host, run.
-pub data RunAnswers (content : Option Content) (files : Count) (k : RunCommand) : Said → Type 0 where
-  at_program : {said : Said} → StopsAtProgram content files k.program said → RunAnswers content files k said
-  at_host : {p : Program} {rule_names : List Name} {said : Said} → HasProgram content k.program p rule_names → StopsAtHost content files k.host said →
-      RunAnswers content files k said
-  at_run : {p : Program} {rule_names : List Name} {g : Graph} {said : Said} → HasProgram content k.program p rule_names → HasHost content k.host g →
-      Comes k.bound k.seed p rule_names g said → RunAnswers content files k said
+pub data RunAnswers (old new : KnownFiles) (k : RunCommand) : Said → Type 0 where
+  at_program : {said : Said} → StopsAtProgram old new k.program said → RunAnswers old new k said
+  at_host : {p : Program} {rule_names : List Name} {said : Said} → HasProgram old.content k.program p rule_names → StopsAtHost old new k.host said →
+      RunAnswers old new k said
+  at_run : {p : Program} {rule_names : List Name} {g : Graph} {said : Said} → HasProgram old.content k.program p rule_names → HasHost old.content k.host g →
+      Comes k.bound k.seed p rule_names g said → RunAnswers old new k said
 
 -- ---- `demo`
 
@@ -141,10 +133,10 @@ pub data DemoAnswers (k : DemoCommand) : Said → Type 0 where
 
 -- ---- when an answer is true
 
-pub data IsTrue (words : List Name) (content : Option Content) (files : Count) : Said → Type 0 where
-  of_words : command_of words ≡ None → IsTrue words content files usage
-  of_run : {k : RunCommand} {said : Said} → command_of words ≡ Some (run k) → RunAnswers content files k said → IsTrue words content files said
-  of_demo : {k : DemoCommand} {said : Said} → command_of words ≡ Some (demo k) → DemoAnswers k said → IsTrue words content files said
+pub data IsTrue (words : List Name) (old new : KnownFiles) : Said → Type 0 where
+  of_words : command_of words ≡ None → IsTrue words old new usage
+  of_run : {k : RunCommand} {said : Said} → command_of words ≡ Some (run k) → RunAnswers old new k said → IsTrue words old new said
+  of_demo : {k : DemoCommand} {said : Said} → command_of words ≡ Some (demo k) → DemoAnswers k said → IsTrue words old new said
 
 -- ---- what is written
 
@@ -158,30 +150,32 @@ abbrev pub asks_journal : List Name → Bool
 asks_journal words = option_map_or wants_journal (command_of words) false
 
 -- a true answer with its status, and its bytes on out and on err
-pub record Replies (words : List Name) (content : Option Content) (files : Count) (status : ℕ) (o e : List ℕ) : Type 0 where
+pub record Replies (words : List Name) (old new : KnownFiles) (status : ℕ) (o e : List ℕ) : Type 0 where
   pub said : Said
-  pub is_true : IsTrue words content files said
+  pub is_true : IsTrue words old new said
   pub shows : Shows (asks_journal words) said status o e
 
 -- What the top call answers: a reply, whole; want of memory, and then nothing; or, where the count of a sink rose on
 -- which the reply has bytes, what went out before that write failed and a beginning of its text. Out is written before
 -- err, and nothing is written after a failed write.
-pub data Answer (words : List Name) (content : Option Content) (files out err : Count) : ℕ → List ℕ → List ℕ → Type 0 where
-  replied : {status : ℕ} {o e : List ℕ} → Replies words content files status o e → Answer words content files out err status o e
-  no_memory : Answer words content files out err 7 [] []
-  out_fault : {status : ℕ} {o e : List ℕ} (n : ℕ) → Replies words content files status o e → o ≢ [] → HasRisen out → Answer words content files out err 9 (take n o) []
-  err_fault : {status : ℕ} {o e : List ℕ} (n : ℕ) → Replies words content files status o e → e ≢ [] → HasRisen err → Answer words content files out err 9 o (take n e)
+pub data Answer (words : List Name) (old new : KnownFiles) (out_old out_new err_old err_new : KnownSink) : ℕ → List ℕ → List ℕ → Type 0 where
+  replied : {status : ℕ} {o e : List ℕ} → Replies words old new status o e → Answer words old new out_old out_new err_old err_new status o e
+  no_memory : Answer words old new out_old out_new err_old err_new 7 [] []
+  out_fault : {status : ℕ} {o e : List ℕ} (n : ℕ) → Replies words old new status o e → o ≢ [] → Rose out_old.faults out_new.faults →
+      Answer words old new out_old out_new err_old err_new 9 (take n o) []
+  err_fault : {status : ℕ} {o e : List ℕ} (n : ℕ) → Replies words old new status o e → e ≢ [] → Rose err_old.faults err_new.faults →
+      Answer words old new out_old out_new err_old err_new 9 o (take n e)
 
 -- what went out on both sinks behind what was there, where that is known, is an answer of that status
-pub record Answered (words : List Name) (content : Option Content) (files out err : Count) (out_old out_new err_old err_new : Option (List ℕ)) (status : ℕ) : Type 0 where
+pub record Answered (words : List Name) (old new : KnownFiles) (out_old out_new err_old err_new : KnownSink) (status : ℕ) : Type 0 where
   pub on_out : List ℕ
   pub on_err : List ℕ
   pub gains_out : Gains out_old out_new on_out
   pub gains_err : Gains err_old err_new on_err
-  pub answer : Answer words content files out err status on_out on_err
+  pub answer : Answer words old new out_old out_new err_old err_new status on_out on_err
 
 -- want of memory for the words themselves: status 7, and nothing went out
-pub record IsSilent (out_old out_new err_old err_new : Option (List ℕ)) (status : ℕ) : Type 0 where
+pub record IsSilent (out_old out_new err_old err_new : KnownSink) (status : ℕ) : Type 0 where
   pub no_memory : status ≡ 7
   pub gains_out : Gains out_old out_new []
   pub gains_err : Gains err_old err_new []
@@ -192,22 +186,25 @@ abbrev pub IsOneOf : List ℕ → ℕ → Type 0
 IsOneOf [] status = ⊥
 IsOneOf (s ∷ ss) status = (status ≡ s) ⊎ IsOneOf ss status
 
-abbrev pub Stays : Count → Type 0
-Stays count = HasRisen count → ⊥
+-- a count of faults did not rise
+abbrev pub Stays : ℕ → ℕ → Type 0
+Stays before now = Rose before now → ⊥
 
 -- Where the files' content is known and no device fails, `run` of a program and a host gives a graph, fail, the spent
 -- bound or a number fault, or want of memory.
-abbrev pub RunCompletes : List Name → Option Content → Count → Count → Count → ℕ → Type 0
-RunCompletes words content files out err status =
-    (held : Content) (k : RunCommand) (p : Program) (rule_names : List Name) (g : Graph) → content ≡ Some held → command_of words ≡ Some (run k) →
-    HasProgram content k.program p rule_names → HasHost content k.host g → Stays files → Stays out → Stays err → IsOneOf (0 ∷ 1 ∷ 5 ∷ 6 ∷ 7 ∷ []) status
+abbrev pub RunCompletes : List Name → KnownFiles → KnownFiles → KnownSink → KnownSink → KnownSink → KnownSink → ℕ → Type 0
+RunCompletes words old new out_old out_new err_old err_new status =
+    (held : Content) (k : RunCommand) (p : Program) (rule_names : List Name) (g : Graph) → old.content ≡ Some held → command_of words ≡ Some (run k) →
+    HasProgram old.content k.program p rule_names → HasHost old.content k.host g →
+    Stays old.faults new.faults → Stays out_old.faults out_new.faults → Stays err_old.faults err_new.faults → IsOneOf (0 ∷ 1 ∷ 5 ∷ 6 ∷ 7 ∷ []) status
 
 -- Where no sink fails, `demo` gives its summary, or what its texts come to: the fault of one, fail, the spent bound or a
 -- number fault; or want of memory.
-abbrev pub DemoCompletes : List Name → Count → Count → ℕ → Type 0
-DemoCompletes words out err status =
-    (k : DemoCommand) → command_of words ≡ Some (demo k) → Stays out → Stays err → IsOneOf (0 ∷ 1 ∷ 3 ∷ 4 ∷ 5 ∷ 6 ∷ 7 ∷ []) status
+abbrev pub DemoCompletes : List Name → KnownSink → KnownSink → KnownSink → KnownSink → ℕ → Type 0
+DemoCompletes words out_old out_new err_old err_new status =
+    (k : DemoCommand) → command_of words ≡ Some (demo k) →
+    Stays out_old.faults out_new.faults → Stays err_old.faults err_new.faults → IsOneOf (0 ∷ 1 ∷ 3 ∷ 4 ∷ 5 ∷ 6 ∷ 7 ∷ []) status
 
-pub record Completes (words : List Name) (content : Option Content) (files out err : Count) (status : ℕ) : Type 0 where
-  pub runs : RunCompletes words content files out err status
-  pub demos : DemoCompletes words out err status
+pub record Completes (words : List Name) (old new : KnownFiles) (out_old out_new err_old err_new : KnownSink) (status : ℕ) : Type 0 where
+  pub runs : RunCompletes words old new out_old out_new err_old err_new status
+  pub demos : DemoCompletes words out_old out_new err_old err_new status

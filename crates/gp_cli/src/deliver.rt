@@ -10,8 +10,8 @@ use gp_io::{Failed, Sink};
 
 // Writes the piece, unless it is empty.
 fn write_piece<S: Sink>(sink: &mut S, piece: &[u8]) -> Result<(), Failed>
-    ensures writes { Writes (S.written sink.old) (S.written sink.new) (record { before = S.faults sink.old; now = S.faults sink.new }) piece.now result }
-    ensures later { S.faults sink.old ≤ S.faults sink.new }
+    ensures writes { Writes (S.known sink.old) (S.known sink.new) piece.now result }
+    ensures later { (S.known sink.old).faults ≤ (S.known sink.new).faults }
 {
     if piece.is_empty() {
         return Ok(());
@@ -21,7 +21,7 @@ fn write_piece<S: Sink>(sink: &mut S, piece: &[u8]) -> Result<(), Failed>
 
 // Writes the one piece and then the other.
 fn write_both<S: Sink>(sink: &mut S, first: &[u8], second: &[u8]) -> Result<(), Failed>
-    ensures { Writes (S.written sink.old) (S.written sink.new) (record { before = S.faults sink.old; now = S.faults sink.new }) (first.now ++ second.now) result }
+    ensures { Writes (S.known sink.old) (S.known sink.new) (first.now ++ second.now) result }
 {
     match write_piece(sink, first) {
         Err(Failed) => Err(Failed),
@@ -32,9 +32,7 @@ fn write_both<S: Sink>(sink: &mut S, first: &[u8], second: &[u8]) -> Result<(), 
 /// Writes the texts of the answer, and answers its status, or 9 where a write fails; then nothing more is written.
 pub(crate) fn deliver<O: Sink, E: Sink>(reply: &Reply, out: &mut O, err: &mut E) -> u8
     ensures { Delivers (status_code reply.now.status) (reply.now.journal.items ++ reply.now.result.items) reply.now.err.items
-        (record { before = O.faults out.old; now = O.faults out.new })
-        (record { before = E.faults err.old; now = E.faults err.new })
-        (O.written out.old) (O.written out.new) (E.written err.old) (E.written err.new) result }
+        (O.known out.old) (O.known out.new) (E.known err.old) (E.known err.new) result }
 {
     match write_both(out, &reply.journal, &reply.result) {
         Err(Failed) => Status::Write.code(),

@@ -21,9 +21,9 @@ fn read_file<'a, F: Files>(
     name: &'a str,
     long: Said<'a>,
 ) -> Result<Vec<u8>, Stop<'a>>
-    ensures reads { ReadsFile (F.content files.old) (record { before = F.faults files.old; now = F.faults files.new }) name.entry.now (said_of long.entry) result }
-    ensures later { F.faults files.old ≤ F.faults files.new }
-    ensures same { F.content files.new ≡ F.content files.old }
+    ensures reads { ReadsFile (F.known files.old) (F.known files.new) name.entry.now (said_of long.entry) result }
+    ensures later { (F.known files.old).faults ≤ (F.known files.new).faults }
+    ensures same { (F.known files.new).content ≡ (F.known files.old).content }
 {
     match files.read(alloc, name, LIMIT) {
         Ok(bytes) => Ok(bytes),
@@ -39,9 +39,9 @@ pub(crate) fn load_program<'a, F: Files>(
     files: &mut F,
     name: &'a str,
 ) -> Result<Program, Stop<'a>>
-    ensures loads { LoadsProgram (F.content files.old) (record { before = F.faults files.old; now = F.faults files.new }) name.entry.now result }
-    ensures later { F.faults files.old ≤ F.faults files.new }
-    ensures same { F.content files.new ≡ F.content files.old }
+    ensures loads { LoadsProgram (F.known files.old) (F.known files.new) name.entry.now result }
+    ensures later { (F.known files.old).faults ≤ (F.known files.new).faults }
+    ensures same { (F.known files.new).content ≡ (F.known files.old).content }
 {
     let text = read_file(alloc, files, name, Said::LongProgram)?;
     program_of(alloc, &text)
@@ -53,9 +53,9 @@ pub(crate) fn load_host<'a, F: Files>(
     files: &mut F,
     name: &'a str,
 ) -> Result<Graph, Stop<'a>>
-    ensures loads { LoadsHost (F.content files.old) (record { before = F.faults files.old; now = F.faults files.new }) name.entry.now result }
-    ensures later { F.faults files.old ≤ F.faults files.new }
-    ensures same { F.content files.new ≡ F.content files.old }
+    ensures loads { LoadsHost (F.known files.old) (F.known files.new) name.entry.now result }
+    ensures later { (F.known files.old).faults ≤ (F.known files.new).faults }
+    ensures same { (F.known files.new).content ≡ (F.known files.old).content }
 {
     let text = read_file(alloc, files, name, Said::LongHost)?;
     host_of(alloc, text)

@@ -37,7 +37,7 @@ fn said_by_files<'a, F: Files, R: Threads + Wait + Sync>(
     files: &mut F,
     pace: &Pacing,
 ) -> Result<Said<'a>, Stop<'a>>
-    ensures { RunsFiles (F.content files.old) (record { before = F.faults files.old; now = F.faults files.new }) (run_now command.entry) result }
+    ensures { RunsFiles (F.known files.old) (F.known files.new) (run_now command.entry) result }
 {
     let program = load_program(alloc, files, command.program)?;
     let graph = load_host(alloc, files, command.host)?;
@@ -59,7 +59,7 @@ fn said_by_command<'a, F: Files, R: Threads + Wait + Sync>(
 ) -> Result<Said<'a>, NoMemory>
     requires { HasSize command }
     ensures { IfOk result (λ s. (words : List AnyName) → spec.command_of words ≡ Some (command_now command.entry) →
-        IsTrue words (F.content files.old) (record { before = F.faults files.old; now = F.faults files.new }) (said_of s)) }
+        IsTrue words (F.known files.old) (F.known files.new) (said_of s)) }
 {
     match command {
         Command::Run(command) => settled(said_by_files(rt, alloc, command, files, pace)),
@@ -77,7 +77,7 @@ fn said_by<'a, F: Files, R: Threads + Wait + Sync>(
 ) -> Result<Said<'a>, NoMemory>
     requires { IfSome command HasSize }
     ensures { IfOk result (λ s. (words : List AnyName) → option_map command_now command.entry ≡ spec.command_of words →
-        IsTrue words (F.content files.old) (record { before = F.faults files.old; now = F.faults files.new }) (said_of s)) }
+        IsTrue words (F.known files.old) (F.known files.new) (said_of s)) }
 {
     match command {
         None => Ok(Said::Usage),
@@ -109,7 +109,7 @@ fn reply_to<F: Files, R: Threads + Wait + Sync>(
     files: &mut F,
     pace: &Pacing,
 ) -> Result<Reply, NoMemory>
-    ensures { IfOk result (λ r. Replies (map string_bytes words.now) (F.content files.old) (record { before = F.faults files.old; now = F.faults files.new })
+    ensures { IfOk result (λ r. Replies (map string_bytes words.now) (F.known files.old) (F.known files.new)
         (status_code r.status) (r.journal.items ++ r.result.items) r.err.items) }
 {
     let command = command_of(alloc, words)?;
@@ -127,15 +127,10 @@ fn answer_words<F: Files, O: Sink, E: Sink, R: Threads + Wait + Sync>(
     err: &mut E,
     pace: &Pacing,
 ) -> u8
-    ensures answered { Answered (map string_bytes words.now) (F.content files.old)
-        (record { before = F.faults files.old; now = F.faults files.new })
-        (record { before = O.faults out.old; now = O.faults out.new })
-        (record { before = E.faults err.old; now = E.faults err.new })
-        (O.written out.old) (O.written out.new) (E.written err.old) (E.written err.new) result }
-    ensures complete { Completes (map string_bytes words.now) (F.content files.old)
-        (record { before = F.faults files.old; now = F.faults files.new })
-        (record { before = O.faults out.old; now = O.faults out.new })
-        (record { before = E.faults err.old; now = E.faults err.new }) result }
+    ensures answered { Answered (map string_bytes words.now) (F.known files.old) (F.known files.new)
+        (O.known out.old) (O.known out.new) (E.known err.old) (E.known err.new) result }
+    ensures complete { Completes (map string_bytes words.now) (F.known files.old) (F.known files.new)
+        (O.known out.old) (O.known out.new) (E.known err.old) (E.known err.new) result }
 {
     texts_have_one_fault();
     match reply_to(rt, alloc, words, files, pace) {
@@ -155,16 +150,11 @@ pub fn gp2_main<R: AllocGlobal + Threads + Wait + Sync, F: Files, O: Sink, E: Si
     err: &mut E,
     pace: &Pacing,
 ) -> u8
-    ensures answered { IfOk words (λ given. Answered (map string_bytes given.items) (F.content files.old)
-        (record { before = F.faults files.old; now = F.faults files.new })
-        (record { before = O.faults out.old; now = O.faults out.new })
-        (record { before = E.faults err.old; now = E.faults err.new })
-        (O.written out.old) (O.written out.new) (E.written err.old) (E.written err.new) result) }
-    ensures complete { IfOk words (λ given. Completes (map string_bytes given.items) (F.content files.old)
-        (record { before = F.faults files.old; now = F.faults files.new })
-        (record { before = O.faults out.old; now = O.faults out.new })
-        (record { before = E.faults err.old; now = E.faults err.new }) result) }
-    ensures refused { OnErr words (IsSilent (O.written out.old) (O.written out.new) (E.written err.old) (E.written err.new) result) }
+    ensures answered { IfOk words (λ given. Answered (map string_bytes given.items) (F.known files.old) (F.known files.new)
+        (O.known out.old) (O.known out.new) (E.known err.old) (E.known err.new) result) }
+    ensures complete { IfOk words (λ given. Completes (map string_bytes given.items) (F.known files.old) (F.known files.new)
+        (O.known out.old) (O.known out.new) (E.known err.old) (E.known err.new) result) }
+    ensures refused { OnErr words (IsSilent (O.known out.old) (O.known out.new) (E.known err.old) (E.known err.new) result) }
 {
     match words {
         Ok(words) => answer_words(rt, rt.alloc(), &words, files, out, err, pace),

@@ -6,7 +6,7 @@ use Rattle.std.specs.String.{string_bytes}
 use Rattle.std.specs.declared.string.String.{String}
 use Rattle.std.specs.declared.vec.Vec.{Vec}
 use Rattle.std.specs.declared.alloc.Global.{Global}
-use Rattle.gp_io.specs.Outside.{Content}
+use Rattle.gp_io.specs.Outside.{Content, KnownFiles, KnownSink}
 
 -- the content of a list of names and bytes; of two files of one name the first counts
 abbrev pub content_of : List (String Global × Vec ℕ Global) → Content
@@ -18,6 +18,10 @@ pub record StoredFiles : Type 0 where
   pub failing : List ℕ
   pub calls : ℕ
   pub faults : ℕ
+
+-- what is known of them as of files
+abbrev pub known_files : StoredFiles → KnownFiles
+known_files files = record { content = Some files.content; faults = files.faults }
 
 abbrev pub content_code : Coded Content
 content_code = finite.code (coded_list coded_ℕ) (coded_list coded_ℕ)
@@ -36,6 +40,10 @@ pub record StoredBytes : Type 0 where
   pub failing : List (ℕ × ℕ)
   pub calls : ℕ
   pub faults : ℕ
+
+-- what is known of it as of a sink
+abbrev pub known_bytes : StoredBytes → KnownSink
+known_bytes sink = record { written = Some sink.written; faults = sink.faults }
 
 -- how many bytes a write of that number lets out before it fails, by the first pair that lists it
 abbrev pub bytes_before_failure : List (ℕ × ℕ) → ℕ → Option ℕ

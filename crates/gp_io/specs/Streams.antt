@@ -1,6 +1,7 @@
 -- A stream of the system, as contracts see the sink over it.
-use Rattle.std.specs.Prelude.{ℕ, List, take, Option, Result, Ok, Err, refl}
+use Rattle.std.specs.Prelude.{ℕ, List, take, Option, None, Result, Ok, Err, refl}
 use Rattle.std.specs.Io.KnownBytes.{Appends}
+use Rattle.gp_io.specs.Outside.{KnownSink}
 use Rattle.gp_io.specs.declared.outside.Failed.{Failed as Fault}
 use Rattle.std.specs.Coded.{Coded, code_by, coded×, coded_ℕ}
 
@@ -12,6 +13,10 @@ pub record CountedStream (S : Type 0) : Type 0 where
 abbrev pub stream_code : {S : Type 0} → Coded S → Coded (CountedStream S)
 stream_code {S} code =
     code_by (S × ℕ) (coded× code coded_ℕ) (λ s. (s.stream, s.faults)) (λ p. record { stream = p.0; faults = p.1 }) (λ _. refl)
+
+-- what is known of it as of a sink: what was written is not
+abbrev pub known_stream : {S : Type 0} → CountedStream S → KnownSink
+known_stream s = record { written = None; faults = s.faults }
 
 -- what a stream takes of a piece: all of it, or a prefix where the write failed
 abbrev pub Takes : Option (List ℕ) → Option (List ℕ) → List ℕ → Result (Unit {0}) Fault → Type 0

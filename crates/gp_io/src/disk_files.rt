@@ -107,9 +107,7 @@ fn read_file<R: rt::Files>(
 }
 
 impl<R: rt::Files> Files for DiskFiles<R> {
-    ghost content = { λ _. None };
-
-    ghost faults = { λ count. count };
+    ghost known = { λ count. record { content = None; faults = count } };
 
     fn read(&mut self, alloc: Global, name: &str, limit: u64) -> Result<Vec<u8>, ReadRefusal> {
         match read_file(&self.rt, alloc, name, limit) {

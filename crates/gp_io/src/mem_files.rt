@@ -4,7 +4,7 @@ ghost use Rattle.std.specs.Prelude.{◌≡◌, ◌≤◌, Some, IsErrOf, Contain
 ghost use Rattle.std.specs.Option.{option_copied};
 ghost use Rattle.std.specs.FinMap as map;
 ghost use Rattle.gp_io.specs.Outside.{ReadAnswers, LacksFile, raised};
-ghost use Rattle.gp_io.specs.Stored.{content_of};
+ghost use Rattle.gp_io.specs.Stored.{content_of, known_files};
 
 use crate::outside::{Files, ReadRefusal};
 use std::alloc::Global;
@@ -72,13 +72,10 @@ fn bytes_of<'a>(files: &'a [(String, Vec<u8>)], name: &str) -> Option<&'a [u8]>
 }
 
 impl Files for MemFiles {
-    ghost content = { λ m. Some m.content };
-
-    ghost faults = { λ m. m.faults };
+    ghost known = { known_files };
 
     fn read(&mut self, alloc: Global, name: &str, limit: u64) -> Result<Vec<u8>, ReadRefusal>
-        ensures answer { ReadAnswers (Some self.old.content) name.now limit
-            self.old.faults self.new.faults result }
+        ensures answer { ReadAnswers (known_files self.old) (known_files self.new) name.now limit result }
         ensures later { self.old.faults ≤ self.new.faults }
         ensures same { self.new.content ≡ self.old.content }
 

@@ -1,8 +1,8 @@
 //! A sink in memory.
 
-ghost use Rattle.std.specs.Prelude.{◌≡◌, ◌≤◌, ◌↔◌, ◌++◌, [], Some, None, IfOk, IsOk, OnErr, length, take};
+ghost use Rattle.std.specs.Prelude.{◌≡◌, ◌≤◌, ◌↔◌, ◌++◌, [], None, IfOk, IsOk, OnErr, length, take};
 ghost use Rattle.gp_io.specs.Outside.{WriteAnswers, raised};
-ghost use Rattle.gp_io.specs.Stored.{bytes_before_failure, bytes_let_out, room_left};
+ghost use Rattle.gp_io.specs.Stored.{known_bytes, bytes_before_failure, bytes_let_out, room_left};
 
 use crate::outside::{Failed, Sink};
 use gp_memory::NoMemory;
@@ -88,13 +88,10 @@ fn cut_of(failing: &[(u64, u64)], call: u64) -> Option<u64>
 }
 
 impl Sink for MemSink {
-    ghost written = { λ m. Some m.written };
-
-    ghost faults = { λ m. m.faults };
+    ghost known = { known_bytes };
 
     fn write(&mut self, piece: &[u8]) -> Result<(), Failed>
-        ensures answer { WriteAnswers (Some self.old.written) (Some self.new.written)
-            self.old.faults self.new.faults piece.now result }
+        ensures answer { WriteAnswers (known_bytes self.old) (known_bytes self.new) piece.now result }
         ensures later { self.old.faults ≤ self.new.faults }
 
         // It fails exactly where the call is listed or the piece does not fit: so with an empty list the

@@ -1,7 +1,7 @@
 //! What a program sees of the outside: files that it reads whole, and sinks that take bytes.
 
-ghost use Rattle.std.specs.Prelude.{◌≡◌, ◌≤◌, ℕ, List, Option};
-ghost use Rattle.gp_io.specs.Outside.{Content, ReadAnswers, WriteAnswers};
+ghost use Rattle.std.specs.Prelude.{◌≡◌, ◌≤◌};
+ghost use Rattle.gp_io.specs.Outside.{KnownFiles, KnownSink, ReadAnswers, WriteAnswers};
 ghost use Rattle.gp_io.specs.declared.outside.ReadRefusal.TheVariants as refusal;
 
 use std::alloc::{AllocError, Global};
@@ -31,32 +31,26 @@ pub struct Failed;
 
 /// Files that are read whole, by their names.
 pub trait Files {
-    /// The bytes of the files by their names, where these are known. No call changes them.
-    ghost content: { Self → Option Content };
-
-    /// How often a read failed. It never falls.
-    ghost faults: { Self → ℕ };
+    /// What is known of them: the bytes of the files by their names, where these are known, and how often a
+    /// read failed. No call changes the content, and the count never falls.
+    ghost known: { Self → KnownFiles };
 
     /// All bytes of the file of that name, where these are at most `limit`. `TooLong` comes where the
     /// file has more, and `Failed` where the count of faults rose or the known content lacks the name.
     fn read(&mut self, alloc: Global, name: &str, limit: u64) -> Result<Vec<u8>, ReadRefusal>
-        ensures answer { ReadAnswers (content self.old) name.now limit
-            (faults self.old) (faults self.new) result }
-        ensures later { faults self.old ≤ faults self.new }
-        ensures same { content self.new ≡ content self.old };
+        ensures answer { ReadAnswers (known self.old) (known self.new) name.now limit result }
+        ensures later { (known self.old).faults ≤ (known self.new).faults }
+        ensures same { (known self.new).content ≡ (known self.old).content };
 }
 
 /// What takes bytes, piece by piece.
 pub trait Sink {
-    /// The bytes that were written, where these are known.
-    ghost written: { Self → Option (List ℕ) };
-
-    /// How often a write failed. It never falls.
-    ghost faults: { Self → ℕ };
+    /// What is known of it: the bytes that were written, where these are known, and how often a write failed.
+    /// The count never falls.
+    ghost known: { Self → KnownSink };
 
     /// Writes the whole piece, or a prefix of it and then counts a fault. It takes no memory.
     fn write(&mut self, piece: &[u8]) -> Result<(), Failed>
-        ensures answer { WriteAnswers (written self.old) (written self.new)
-            (faults self.old) (faults self.new) piece.now result }
-        ensures later { faults self.old ≤ faults self.new };
+        ensures answer { WriteAnswers (known self.old) (known self.new) piece.now result }
+        ensures later { (known self.old).faults ≤ (known self.new).faults };
 }

@@ -1,8 +1,8 @@
 //! The standard streams. Contracts know nothing of what was written to them.
 
-ghost use Rattle.std.specs.Prelude.{◌≡◌, ◌≤◌, None};
+ghost use Rattle.std.specs.Prelude.{◌≡◌, ◌≤◌};
 ghost use Rattle.gp_io.specs.Outside.{WriteAnswers};
-ghost use Rattle.gp_io.specs.Streams.{Takes};
+ghost use Rattle.gp_io.specs.Streams.{known_stream, Takes};
 
 use crate::outside::{Failed, Sink};
 use std::io::Write;
@@ -61,12 +61,10 @@ fn write_whole<W: Write>(stream: &mut W, piece: &[u8]) -> Result<(), Failed>
 }
 
 impl<W: Write> Sink for StdSink<W> {
-    ghost written = { λ _. None };
-
-    ghost faults = { λ s. s.faults };
+    ghost known = { known_stream };
 
     fn write(&mut self, piece: &[u8]) -> Result<(), Failed>
-        ensures answer { WriteAnswers None None self.old.faults self.new.faults piece.now result }
+        ensures answer { WriteAnswers (known_stream self.old) (known_stream self.new) piece.now result }
         ensures later { self.old.faults ≤ self.new.faults }
 
         // A stream whose bytes are known gains the whole piece, or a prefix of it.

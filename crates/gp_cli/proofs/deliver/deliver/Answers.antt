@@ -5,7 +5,7 @@ use Rattle.gp_cli.proofs.deliver.deliver.Goals as goal
 pub returns-in-Err : goal.returns-in-Err
 returns-in-Err g c =
     let a = rw (c.deref.ensures.value, c.deref-2.ensures.value) at c.in-Err.ensures in
-    rw c.code.ensures (out_cut a.0 a.1 (gains_nothing _) a.2 a.3)
+    rw c.code.ensures (out_cut a.0 a.1 (gains_nothing (g.E.Sink.known c.args.err.now)) a.2 a.3)
 
 pub returns-in-Err-write_piece : goal.returns-in-Err-write_piece
 returns-in-Err-write_piece g c =

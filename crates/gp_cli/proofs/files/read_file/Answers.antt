@@ -10,4 +10,4 @@ returns-in-Err-TooLong-clause-reads g c =
 pub returns-in-Err-Failed-clause-reads : goal.returns-in-Err-Failed-clause-reads
 returns-in-Err-Failed-clause-reads g c =
     let a = rw c.in-Err-Failed.field-0-is at c.in-Err-Failed.ensures.answer in
-    unread (read_cause _ _ _ _ a)
+    unread (read_cause _ _ _ a)

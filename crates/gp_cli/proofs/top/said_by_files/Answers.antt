@@ -11,7 +11,7 @@ returns-in_err-program g c =
 pub returns-in_err-graph : goal.returns-in_err-graph
 returns-in_err-graph g c =
     let p = err_from_is_err_and c.from_residual-in_err-graph.result c.from_residual-in_err-graph.ensures.1 in
-    rw (p.1, p.2) (host_stops_all _ _ _ _ _ _ _ _ c.in_ok-program.ensures.same c.in_ok-program.ensures.later c.in_ok-program.ensures.loads c.in_err-graph.ensures.loads)
+    rw (p.1, p.2) (host_stops_all _ _ _ _ _ _ c.in_ok-program.ensures.same c.in_ok-program.ensures.later c.in_ok-program.ensures.loads c.in_err-graph.ensures.loads)
 
 pub returns : goal.returns
 returns g c =
