@@ -2,6 +2,7 @@
 
 use crate::tests::scopes::chains::chain;
 use crate::tests::scopes::{line, line_with, told};
+use gp_reader::read_program;
 use std::alloc::Global;
 use std::test::Fail;
 
@@ -165,6 +166,44 @@ fn seven_faults_are_answered_in_their_order(rt: HostRuntime) -> Result<(), Fail>
             wanted.as_str(),
             "{count} {text}"
         );
+    }
+    Ok(())
+}
+
+// A program with a fault, and how the error is shown.
+static MESSAGES: [Text; 9] = [
+    (0, "", "Main is not declared"),
+    (
+        0,
+        "Main = skip Main = skip",
+        "Main is declared more than once",
+    ),
+    (0, "Main = skip P = skip P = skip", "P is declared twice"),
+    (0, "Main = f", "f is called and is not visible there"),
+    (0, "Main = P P = P", "P calls itself"),
+    (65, "Main = skip", "P0 begins a chain of more than 64 calls"),
+    (0, "Main = break", "`break` stands outside a loop"),
+    (
+        0,
+        "Main = skip r() [ | ] => [ | ] interface = {a}",
+        "rule r: BadInterface a",
+    ),
+    (64, "Main = P0", "no fault"),
+];
+
+fn message(alloc: Global, text: &str) -> Result<String, Fail> {
+    match read_program(alloc, text.as_bytes()) {
+        Ok(_) => Ok(String::from_str(alloc, "no fault")?),
+        Err(fault) => Ok(format!(in alloc; "{fault}")?),
+    }
+}
+
+#[test]
+fn faults_are_shown_by_a_sentence(rt: HostRuntime) -> Result<(), Fail> {
+    let alloc = rt.alloc();
+    for (count, text, wanted) in MESSAGES.iter() {
+        let text = behind(alloc, *count, text)?;
+        assert_eq!(rt; message(alloc, &text)?.as_str(), *wanted, "{count} {text}");
     }
     Ok(())
 }
