@@ -303,7 +303,7 @@ struct Seen {
     is_back: bool,
 }
 
-fn seen(alloc: Global, rules: &[Rule], first: &Graph, items: &[Item]) -> Result<Seen, Fail> {
+fn caught_up_with(alloc: Global, rules: &[Rule], first: &Graph, items: &[Item]) -> Result<Seen, Fail> {
     let journal = played(alloc, rules, first, items)?;
     let mut trail = caught_up(alloc, rules, &journal, first)?;
     let copy = trail.copy()?;
@@ -335,7 +335,7 @@ fn trails_catch_up_with_journals(rt: HostRuntime) -> Result<(), Fail> {
         let first = host_of(alloc, row.host)?;
         let text = format!(in alloc; "gp2-trace 1\n{trace}end\n")?;
         let items = read_trace(alloc, text.as_bytes())?;
-        let seen = seen(alloc, rules.as_slice(), &first, &items)?;
+        let seen = caught_up_with(alloc, rules.as_slice(), &first, &items)?;
         assert_eq!(rt; seen.trace.as_slice(), text.as_bytes(), "{name}");
         assert_eq!(rt; seen.shown.as_str(), row.shown, "{name}");
         assert_eq!(rt;

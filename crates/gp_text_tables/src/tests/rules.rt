@@ -51,16 +51,16 @@ fn told(alloc: Global, rule: &str) -> Result<String, Fail> {
 // The fault of a rule, the rule, and its nearest rule that is accepted.
 type Row = (&'static str, &'static str, &'static str);
 
+fn is_told(found: &String, wanted: &str) -> bool {
+    found.as_str() == wanted
+}
+
 fn check_rows(rt: &impl Abort, alloc: Global, rows: &[Row]) -> Result<(), Fail> {
     for (fault, refused, accepted) in rows {
         let wanted = line_with(alloc, fault)?;
-        assert_eq!(rt;
-            line(alloc, refused)?.as_str(),
-            wanted.as_str(),
-            "{refused}"
-        );
-        assert_eq!(rt; told(alloc, refused)?.as_str(), *fault, "{refused}");
-        assert_eq!(rt; told(alloc, accepted)?.as_str(), "", "{accepted}");
+        assert!(rt; is_told(&line(alloc, refused)?, wanted.as_str()), "{refused}");
+        assert!(rt; is_told(&told(alloc, refused)?, fault), "{refused}");
+        assert!(rt; is_told(&told(alloc, accepted)?, ""), "{accepted}");
     }
     Ok(())
 }
