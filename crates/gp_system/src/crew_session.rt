@@ -18,7 +18,7 @@ use gp_memory::NoMemory;
 use gp_run::{Called, Engine, Repeated, Turned};
 use gp_syntax::Program;
 use opt_core::Ending;
-use opt_worker::Pacing;
+use opt_worker::{Pacing, SHARES_OF_A_WORKER};
 use std::alloc::Global;
 use std::marker::Model;
 use std::mem;
@@ -48,6 +48,14 @@ impl<'a> Model for CrewSession<'a> {
     ghost view = { λ a. a.session };
 
     ghost invariant = { λ a. IsCrewed a.session a.system a.crew.workers a.replicas.items a.had };
+}
+
+// How many shares a goal has for so many workers.
+fn shares_for(workers: u32) -> u32
+    requires { 0 < workers }
+    ensures { 0 < result }
+{
+    workers.checked_mul(SHARES_OF_A_WORKER).unwrap_or(workers)
 }
 
 // What came of a goal of one match.
@@ -86,7 +94,7 @@ impl<'a> CrewSession<'a> {
         let _sound = host.next_numbers();
         Ok(CrewSession {
             session: Session::new(alloc, program, host, crew.bound)?,
-            system: Gp::new(alloc, program, crew.workers)?,
+            system: Gp::new(alloc, program, shares_for(crew.workers))?,
             crew,
             pace,
             replicas: Vec::new(alloc),

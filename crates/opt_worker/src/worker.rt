@@ -1,6 +1,6 @@
 //! A worker's rounds.
 
-ghost use Rattle.std.specs.Prelude.{◌≡◌, ◌≤◌, ◌<◌, ℕ, true, false, take, length, OnOk, IfOk, IfSome, IfNone};
+ghost use Rattle.std.specs.Prelude.{◌≡◌, ◌≤◌, ◌<◌, ℕ, take, length, OnOk, IfOk, IfSome, IfNone};
 ghost use Rattle.opt_core.specs.Core.{reached, AllApply};
 ghost use Rattle.opt_gate.specs.Pass.{IsPassOf, start_of};
 ghost use Rattle.opt_gate.specs.Turn.{MayAsk, entries_told};
@@ -13,6 +13,16 @@ use opt_core::Reply;
 use opt_gate::{Ask, Gate, Pass};
 use opt_system::{Sought, System};
 use std::sync::Wait;
+
+/// How many shares a goal best has for each worker: a worker that is done early searches no more than one share that
+/// another searches too. It is a hint: no result depends on it.
+pub const SHARES_OF_A_WORKER: u32 = 4;
+
+// Where a worker looks after a share that it found barren: where all begin at the share of their number and none stops,
+// no two come to one share.
+fn share_after(task: u32, shares: u32) -> u32 {
+    task.wrapping_add(shares / SHARES_OF_A_WORKER)
+}
 
 /// Makes the steps of the entries on the replica. Where memory is refused, those before it are made.
 pub fn follow<S: System>(s: &S, at: &mut S::State, entries: &[S::Found]) -> Result<(), NoMemory>
@@ -35,6 +45,7 @@ fn catch_up<S: System, R: Wait>(
     gate: &Gate<S>,
     pass: &mut Pass<S>,
     at: &mut S::State,
+    from: u32,
 ) -> Result<Option<u32>, NoMemory>
     requires gate { IsPassOf gate.now pass.old }
     requires system { s.now ≡ (start_of gate.now).system }
@@ -45,7 +56,6 @@ fn catch_up<S: System, R: Wait>(
     ensures at { IfOk result (λ found. IfSome found (λ _. at.new ≡ reached (S.means s.now) (start_of gate.now).base (entries_told pass.new))) }
     ensures done { IfOk result (λ found. IfNone found (IsDone (S.means s.now) gate.now.key pass.new)) }
 {
-    let from = pass.number();
     match gate.turn(rt, pass, s, Ask::Look { from }) {
         Reply::News { entries, task } => {
             follow(s, at, entries.as_slice())?;
@@ -78,7 +88,7 @@ fn search<S: System>(
     }
 }
 
-// Searches the share and reports what was found. Whether the goal has ended.
+// Searches the share and reports what was found. Where to look next, or none where the goal has ended.
 fn report<S: System, P: Pace, R: Wait>(
     rt: &R,
     s: &S,
@@ -87,14 +97,14 @@ fn report<S: System, P: Pace, R: Wait>(
     at: &S::State,
     task: u32,
     pace: &P,
-) -> Result<bool, NoMemory>
+) -> Result<Option<u32>, NoMemory>
     requires gate { IsPassOf gate.now pass.old }
     requires system { s.now ≡ (start_of gate.now).system }
     requires task { task < (S.means s.now).shares (start_of gate.now).goal }
     requires at { at.now ≡ reached (S.means s.now) (start_of gate.now).base (entries_told pass.old) }
     ensures later { IsLater pass.old pass.new }
     ensures told { entries_told pass.new ≡ entries_told pass.old }
-    ensures done { IfOk result (λ ended. ended ≡ true → IsDone (S.means s.now) gate.now.key pass.new) }
+    ensures done { IfOk result (λ next. IfNone next (IsDone (S.means s.now) gate.now.key pass.new)) }
 {
     let worker = pass.number();
     let told = pass.told();
@@ -103,32 +113,34 @@ fn report<S: System, P: Pace, R: Wait>(
     let reply = gate.turn(rt, pass, s, found?);
     pace.turned(rt, worker, told, matches!(&reply, Reply::Committed(_)));
     match reply {
-        Reply::Closed(_) => Ok(true),
+        Reply::Closed(_) => Ok(None),
         Reply::NoMemory => Err(NoMemory),
-        _ => Ok(false),
+        Reply::Noted => Ok(Some(share_after(task, s.shares(gate.goal())))),
+        _ => Ok(Some(task)),
     }
 }
 
-// Catches up, searches and reports once. Whether the goal has ended.
+// Catches up, searches and reports once. Where to look next, or none where the goal has ended.
 fn round<S: System, P: Pace, R: Wait>(
     rt: &R,
     s: &S,
     gate: &Gate<S>,
     pass: &mut Pass<S>,
     at: &mut S::State,
+    from: u32,
     pace: &P,
-) -> Result<bool, NoMemory>
+) -> Result<Option<u32>, NoMemory>
     requires gate { IsPassOf gate.now pass.old }
     requires system { s.now ≡ (start_of gate.now).system }
     requires at { at.old ≡ reached (S.means s.now) (start_of gate.now).base (entries_told pass.old) }
     ensures later { IsLater pass.old pass.new }
     ensures replica { IsReplica (S.means s.now) (start_of gate.now).base pass.new.knows at.new }
-    ensures at { IfOk result (λ ended. ended ≡ false → at.new ≡ reached (S.means s.now) (start_of gate.now).base (entries_told pass.new)) }
-    ensures done { IfOk result (λ ended. ended ≡ true → IsDone (S.means s.now) gate.now.key pass.new) }
+    ensures at { IfOk result (λ next. IfSome next (λ _. at.new ≡ reached (S.means s.now) (start_of gate.now).base (entries_told pass.new))) }
+    ensures done { IfOk result (λ next. IfNone next (IsDone (S.means s.now) gate.now.key pass.new)) }
 {
-    match catch_up(rt, s, gate, pass, at)? {
+    match catch_up(rt, s, gate, pass, at, from)? {
         Some(task) => report(rt, s, gate, pass, at, task, pace),
-        None => Ok(true),
+        None => Ok(None),
     }
 }
 
@@ -149,10 +161,11 @@ pub fn work_on<S: System, P: Pace, R: Wait>(
     ensures done { IsDone (S.means s.now) gate.now.key pass.new }
     ensures replica { IsReplica (S.means s.now) (start_of gate.now).base pass.new.knows state.new }
 {
+    let mut from = pass.number();
     for _ in rt.forever() {
-        match round(rt, s, gate, pass, state, pace) {
-            Ok(false) => {}
-            Ok(true) => return,
+        match round(rt, s, gate, pass, state, from, pace) {
+            Ok(Some(next)) => from = next,
+            Ok(None) => return,
             Err(NoMemory) => {
                 gate.turn(rt, pass, s, Ask::Stop);
                 return;
