@@ -1,6 +1,6 @@
 //! Cores of two shares over the rules of a program: events of senders who were told of few entries, and their answers.
 
-mod send;
+mod sent;
 
 ghost use Rattle.std.specs.Prelude.{◌≡◌, [], OnOk};
 ghost use Rattle.opt_core.specs.Runs.{SameStart};
@@ -71,19 +71,19 @@ fn send(
     ensures entries { OnOk result (core.new.entries ≡ entries.new.items) }
 {
     match sent {
-        Sent::Look(told, from) => Ok(send::look(system, core, entries, told, from)),
+        Sent::Look(told, from) => Ok(sent::look(system, core, entries, told, from)),
         Sent::Offer(told, rule, node) => {
             let found = found_at(alloc, rule, node)?;
-            send::offer(system, core, entries, base.copy()?, told, found)
+            sent::offer(system, core, entries, base.copy()?, told, found)
         }
         Sent::Fault(told, rule, node) => {
             let found = found_at(alloc, rule, node)?;
-            Ok(send::fault(system, core, entries, base.copy()?, told, found))
+            Ok(sent::fault(system, core, entries, base.copy()?, told, found))
         }
         Sent::Quiet(told, share) => {
-            Ok(send::quiet(system, core, entries, base.copy()?, told, share))
+            Ok(sent::quiet(system, core, entries, base.copy()?, told, share))
         }
-        Sent::Stop => Ok(Some(send::stop(system, core))),
+        Sent::Stop => Ok(Some(sent::stop(system, core))),
     }
 }
 
@@ -92,7 +92,7 @@ fn text_of_ending(alloc: Global, ending: Ending<Fault>) -> Result<String, Fail> 
         Ending::Committed => String::from_str(alloc, "committed")?,
         Ending::Blocked => String::from_str(alloc, "blocked")?,
         Ending::Bound => String::from_str(alloc, "bound")?,
-        Ending::Fault(fault) => format!(in alloc; "fault {} {}", fault.rule, fault.kind)?,
+        Ending::Fault(fault) => format!(in alloc; "fault {} {:?}", fault.rule, fault.kind)?,
         Ending::Stopped => String::from_str(alloc, "stopped")?,
     })
 }
@@ -267,11 +267,11 @@ fn a_faulty_match_ends_a_goal_unless_it_is_stale(rt: HostRuntime) -> Result<(), 
         items: 0,
         events: &[
             (Sent::Offer(0, 0, 0), "may not come"),
-            (Sent::Fault(0, 0, 0), "closed fault 0 past-128-bits"),
+            (Sent::Fault(0, 0, 0), "closed fault 0 PastBits"),
         ],
         entries: 0,
         left: 0,
-        ending: "fault 0 past-128-bits",
+        ending: "fault 0 PastBits",
     };
     check_play(&rt, alloc, &row)?;
     let row = Play {
