@@ -2,7 +2,7 @@
 
 mod random;
 
-use super::replay::{catch_up, shown};
+use super::replay::{catch_up, leads, shown};
 use gp_journal::Trail;
 use gp_samples::{host_of, rule_of};
 use gp_trace::read_trace;
@@ -92,6 +92,15 @@ fn trails_catch_up_with_journals(rt: HostRuntime) -> Result<(), Fail> {
     Ok(())
 }
 
+// Whether items of a journal of `inc` lead from a host of one node on.
+fn is_led(alloc: Global, lines: &str) -> Result<bool, Fail> {
+    let rules = rule_of(alloc, INC)?;
+    let text = format!(in alloc; "gp2-trace 1\n{lines}end\n")?;
+    let items = read_trace(alloc, text.as_bytes())?;
+    let trail = Trail::new(alloc, host_of(alloc, ONE)?);
+    Ok(leads(alloc, rules.as_slice(), &items, &trail)?)
+}
+
 #[test]
 fn items_that_do_not_lead_on_are_found(rt: HostRuntime) -> Result<(), Fail> {
     for lines in [
@@ -103,7 +112,7 @@ fn items_that_do_not_lead_on_are_found(rt: HostRuntime) -> Result<(), Fail> {
         "step 0 nodes 0 edges 0\n",
         "step 0 nodes 0 edges\nback 2\n",
     ] {
-        assert!(rt; left(rt.alloc(), INC, ONE, lines).is_err(), "{lines}");
+        assert!(rt; !is_led(rt.alloc(), lines)?, "{lines}");
     }
     Ok(())
 }
