@@ -56,10 +56,10 @@ fn found_at(alloc: Global, rule: u32, node: u64) -> Result<Found, NoMemory> {
 }
 
 // The answer to one event, if it may come.
-fn send(
+fn send<'a>(
     alloc: Global,
-    system: &Gp,
-    core: &mut Core<Gp>,
+    system: &Gp<'a>,
+    core: &mut Core<Gp<'a>>,
     entries: &mut Vec<Found>,
     base: &Trail,
     sent: Sent,
