@@ -21,7 +21,7 @@ d(x:list) [ (n0, x) | ] => [ | ] interface = {}";
 
 // A program without its rules, the answers of `or` as bits, and what comes of it on a host of one node with bounds 0, 1
 // and so on, the last of them with all greater bounds too: steps, turns and Backs, and the end.
-const ROWS: [(&str, u64, &str); 27] = [
+const ROWS: [(&str, u64, &str); 28] = [
     ("Main = skip", 0, " graph"),
     ("Main = s; s", 0, " bound|s bound|ss graph"),
     // what stands behind a break is not run
@@ -42,7 +42,7 @@ const ROWS: [(&str, u64, &str); 27] = [
     ("Main = (s; f)!", 0, " bound|t bound|ts fault"),
     // a failed body is taken back, also of a loop in it
     ("Main = (s; fail)!", 0, " bound|t bound|tsb1 graph"),
-    ("Main = (s; d!; n)!", 0, " bound|t bound|ts bound|tst bound|tsts bound|tststb0b2 graph"),
+    ("Main = (s; d!; n)!", 0, " bound|t bound|ts bound|tst bound|tstd bound|tstdtb0b2 graph"),
     ("Main = try (d!; fail); d", 0, " bound|t bound|td bound|tdtb0b1 bound|tdtb0b1d graph"),
     // procedures that call others, and that break the loop which calls them
     ("Main = P P = Q; s Q = s", 0, " bound|s bound|ss graph"),
@@ -58,8 +58,9 @@ const ROWS: [(&str, u64, &str); 27] = [
     // choices
     ("Main = s or n", 0, " bound|s graph"),
     ("Main = s or n", 1, " fail"),
-    ("Main = (n or s or f); (f or s)", 3, " fault"),
-    ("Main = (n or s or f); (f or s)", 5, " bound|s bound|ss graph"),
+    ("Main = (n or s or f); (f or s)", 1, " fault"),
+    ("Main = (n or s or f); (f or s)", 2, " bound|s fault"),
+    ("Main = (n or s or f); (f or s)", 6, " bound|s bound|ss graph"),
 ];
 
 fn noted(alloc: Global, journal: &Journal, end: &str) -> Result<String, Fail> {
