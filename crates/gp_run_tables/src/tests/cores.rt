@@ -1,6 +1,6 @@
 //! Cores of two shares over the rules of a program: events of senders who were told of few entries, and their answers.
 
-mod sent;
+mod sending;
 
 ghost use Rattle.std.specs.Prelude.{◌≡◌, [], OnOk};
 ghost use Rattle.opt_core.specs.Runs.{SameStart};
@@ -71,19 +71,19 @@ fn send<'a>(
     ensures entries { OnOk result (core.new.entries ≡ entries.new.items) }
 {
     match sent {
-        Sent::Look(told, from) => Ok(sent::look(system, core, entries, told, from)),
+        Sent::Look(told, from) => Ok(sending::look(system, core, entries, told, from)),
         Sent::Offer(told, rule, node) => {
             let found = found_at(alloc, rule, node)?;
-            sent::offer(system, core, entries, base.copy()?, told, found)
+            sending::offer(system, core, entries, base.copy()?, told, found)
         }
         Sent::Fault(told, rule, node) => {
             let found = found_at(alloc, rule, node)?;
-            Ok(sent::fault(system, core, entries, base.copy()?, told, found))
+            Ok(sending::fault(system, core, entries, base.copy()?, told, found))
         }
         Sent::Quiet(told, share) => {
-            Ok(sent::quiet(system, core, entries, base.copy()?, told, share))
+            Ok(sending::quiet(system, core, entries, base.copy()?, told, share))
         }
-        Sent::Stop => Ok(Some(sent::stop(system, core))),
+        Sent::Stop => Ok(Some(sending::stop(system, core))),
     }
 }
 

@@ -1,6 +1,6 @@
 //! Items that are made on trails, each of which is asked first whether it may be made.
 
-ghost use Rattle.std.specs.Prelude.{IsTrue, IfOk, map, ◌×◌};
+ghost use Rattle.std.specs.Prelude.{IsTrue, IfOk, map};
 ghost use Rattle.gp_syntax.specs.Tree.{rule_of_tree, item_of};
 ghost use Rattle.gp_journal.specs.Leads.{AppliesBy, Goes, Leads};
 ghost use Rattle.gp_syntax.specs.Run.{Stepped};

@@ -69,7 +69,7 @@ fn step(
     random: &mut Lcg64Xsh32,
 ) -> Result<bool, NoMemory> {
     for _ in 0..1000 {
-        let rule = below(random, 5) as u32;
+        let rule = u32::try_from(below(random, 5)).unwrap_or(0);
         let found = guess(alloc, rule, journal.graph(), random)?;
         if applies(alloc, rules, journal.graph(), &found) {
             journal.step(rules, &found)?;
@@ -130,10 +130,10 @@ fn is_at(alloc: Global, trail: &Trail, journal: &Journal) -> Result<bool, Fail> 
 }
 
 fn count_of_backs(items: &[Item]) -> usize {
-    let mut count = 0;
+    let mut count: usize = 0;
     for item in items {
         if let Item::Back(_) = item {
-            count += 1;
+            count = count.saturating_add(1);
         }
     }
     count
