@@ -102,15 +102,14 @@ fn outcome<R: Threads + Wait + Sync>(
 
 // The answer of this bound.
 fn answer_for(answers: &'static str, bound: u64) -> &'static str {
-    let mut given = "";
-    let mut number = 0;
+    let mut left = bound;
     for answer in answers.split('|') {
-        if number <= bound {
-            given = answer;
+        if left == 0 {
+            return answer;
         }
-        number += 1;
+        left -= 1;
     }
-    given
+    answers.split('|').last().unwrap_or("")
 }
 
 fn is_told(found: &String, wanted: &str) -> bool {

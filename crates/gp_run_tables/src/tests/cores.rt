@@ -116,6 +116,28 @@ fn text_of(alloc: Global, reply: Option<Reply<Found, Fault>>) -> Result<String, 
     })
 }
 
+// Sends the events to a core without entries.
+fn send_all<'a>(
+    rt: &impl Abort,
+    alloc: Global,
+    row: &Play,
+    system: &Gp<'a>,
+    core: &mut Core<Gp<'a>>,
+    base: &Trail,
+) -> Result<(), Fail>
+    requires system { system.now ≡ core.old.system }
+    requires entries { core.old.entries ≡ [] }
+    requires base { base.now ≡ core.old.base }
+{
+    let mut entries = Vec::new(alloc);
+    for (sent, answer) in row.events {
+        let reply = send(alloc, system, core, &mut entries, base, *sent)?;
+        let text = text_of(alloc, reply)?;
+        assert_eq!(rt; text.as_str(), *answer);
+    }
+    Ok(())
+}
+
 // Sends the events to a new core, and gives the core back.
 fn played<'a>(
     rt: &impl Abort,
@@ -131,12 +153,7 @@ fn played<'a>(
     let Ok(mut core) = Core::start(alloc, system, base.copy()?, goal, row.items) else {
         return Err(Fail::from("no core was made"));
     };
-    let mut entries = Vec::new(alloc);
-    for (sent, answer) in row.events {
-        let reply = send(alloc, system, &mut core, &mut entries, &base, *sent)?;
-        let text = text_of(alloc, reply)?;
-        assert_eq!(rt; text.as_str(), *answer);
-    }
+    send_all(rt, alloc, row, system, &mut core, &base)?;
     Ok(core)
 }
 
