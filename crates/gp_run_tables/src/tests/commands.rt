@@ -26,41 +26,77 @@ const ROWS: [(&str, u64, &str); 28] = [
     ("Main = s; s", 0, " bound|s bound|ss graph"),
     // what stands behind a break is not run
     ("Main = (s; break; s)!", 0, " bound|t bound|ts graph"),
-    ("Main = (s; (n!; break)!; break)!", 0, " bound|t bound|ts bound|tst bound|tsttb0 graph"),
+    (
+        "Main = (s; (n!; break)!; break)!",
+        0,
+        " bound|t bound|ts bound|tst bound|tsttb0 graph",
+    ),
     // a break leaves the inner loop alone
     (
         "Main = ((s; break)!; s)!",
         0,
         " bound|t bound|tt bound|tts bound|ttss bound|ttsst bound|ttsstt bound",
     ),
-    ("Main = (s; n!; break)!", 0, " bound|t bound|ts bound|tstb0 graph"),
+    (
+        "Main = (s; n!; break)!",
+        0,
+        " bound|t bound|ts bound|tstb0 graph",
+    ),
     // a fault in a condition, in a part and in a body
     ("Main = if f then s else s", 0, " fault"),
     ("Main = try f then s else s", 0, " fault"),
     ("Main = if (s; f) then s", 0, " bound|s fault"),
-    ("Main = try (s; n) then f else (s; f)", 0, " bound|sb1 bound|sb1s fault"),
+    (
+        "Main = try (s; n) then f else (s; f)",
+        0,
+        " bound|sb1 bound|sb1s fault",
+    ),
     ("Main = (s; f)!", 0, " bound|t bound|ts fault"),
     // a failed body is taken back, also of a loop in it
     ("Main = (s; fail)!", 0, " bound|t bound|tsb1 graph"),
-    ("Main = (s; d!; n)!", 0, " bound|t bound|ts bound|tst bound|tstd bound|tstdtb0b2 graph"),
-    ("Main = try (d!; fail); d", 0, " bound|t bound|td bound|tdtb0b1 bound|tdtb0b1d graph"),
+    (
+        "Main = (s; d!; n)!",
+        0,
+        " bound|t bound|ts bound|tst bound|tstd bound|tstdtb0b2 graph",
+    ),
+    (
+        "Main = try (d!; fail); d",
+        0,
+        " bound|t bound|td bound|tdtb0b1 bound|tdtb0b1d graph",
+    ),
     // procedures that call others, and that break the loop which calls them
     ("Main = P P = Q; s Q = s", 0, " bound|s bound|ss graph"),
     ("Main = P! P = Q; break Q = s", 0, " bound|t bound|ts graph"),
-    ("Main = P; P P = [Q = d] if Q then s", 0, " bound|db1 bound|db1s bound|db1sdb1 bound|db1sdb1s graph"),
-    ("Main = P P = Q! Q = R R = s; n", 0, " bound|t bound|tsb1 graph"),
+    (
+        "Main = P; P P = [Q = d] if Q then s",
+        0,
+        " bound|db1 bound|db1s bound|db1sdb1 bound|db1sdb1s graph",
+    ),
+    (
+        "Main = P P = Q! Q = R R = s; n",
+        0,
+        " bound|t bound|tsb1 graph",
+    ),
     // sets of two rules
     ("Main = {n, s}", 0, " bound|s graph"),
     ("Main = {f, s}", 0, " bound|s graph"),
     ("Main = {n, f}", 0, " fault"),
-    ("Main = {n, s}!", 0, " bound|t bound|ts bound|tst bound|tsts bound|tstst bound|tststs bound"),
+    (
+        "Main = {n, s}!",
+        0,
+        " bound|t bound|ts bound|tst bound|tsts bound|tstst bound|tststs bound",
+    ),
     ("Main = {d, n}!", 0, " bound|t bound|td bound|tdtb0 graph"),
     // choices
     ("Main = s or n", 0, " bound|s graph"),
     ("Main = s or n", 1, " fail"),
     ("Main = (n or s or f); (f or s)", 1, " fault"),
     ("Main = (n or s or f); (f or s)", 2, " bound|s fault"),
-    ("Main = (n or s or f); (f or s)", 6, " bound|s bound|ss graph"),
+    (
+        "Main = (n or s or f); (f or s)",
+        6,
+        " bound|s bound|ss graph",
+    ),
 ];
 
 fn noted(alloc: Global, journal: &Journal, end: &str) -> Result<String, Fail> {
@@ -91,7 +127,15 @@ fn outcome<R: Threads + Wait + Sync>(
         fan: 1,
         bound,
     };
-    match execute(rt, alloc, program, host, crew, &mut Bits(bits), &Pacing::Free) {
+    match execute(
+        rt,
+        alloc,
+        program,
+        host,
+        crew,
+        &mut Bits(bits),
+        &Pacing::Free,
+    ) {
         Outcome::Graph(journal) => noted(alloc, &journal, " graph"),
         Outcome::Fail(journal) => noted(alloc, &journal, " fail"),
         Outcome::Bound(journal) => noted(alloc, &journal, " bound"),

@@ -31,11 +31,29 @@ const JOURNALS: [(&str, &str, &str, &str, u64); 9] = [
         1,
     ),
     // if del then skip else fail, and try (del; fail) else skip
-    (DEL, ONE, "step 0 nodes 0 edges\nback 1\n", "[\n  (n0, 1)\n|\n]\n", 0),
+    (
+        DEL,
+        ONE,
+        "step 0 nodes 0 edges\nback 1\n",
+        "[\n  (n0, 1)\n|\n]\n",
+        0,
+    ),
     // (inc; red)!: a failed body is taken back
-    (INC, ONE, "turn\nstep 0 nodes 0 edges\nback 1\n", "[\n  (n0, 1)\n|\n]\n", 0),
+    (
+        INC,
+        ONE,
+        "turn\nstep 0 nodes 0 edges\nback 1\n",
+        "[\n  (n0, 1)\n|\n]\n",
+        0,
+    ),
     // (inc; break)!
-    (INC, ONE, "turn\nstep 0 nodes 0 edges\n", "[\n  (n0, 2)\n|\n]\n", 1),
+    (
+        INC,
+        ONE,
+        "turn\nstep 0 nodes 0 edges\n",
+        "[\n  (n0, 2)\n|\n]\n",
+        1,
+    ),
     // three steps, of which two are taken back, and a fourth
     (
         INC,
@@ -79,7 +97,12 @@ fn left(
     catch_up(alloc, rules.as_slice(), &items, &mut trail)?;
     let caught = trail.caught();
     let copy = trail.copy()?;
-    Ok((shown(alloc, copy.graph())?, copy.depth(), caught, items.len()))
+    Ok((
+        shown(alloc, copy.graph())?,
+        copy.depth(),
+        caught,
+        items.len(),
+    ))
 }
 
 #[test]

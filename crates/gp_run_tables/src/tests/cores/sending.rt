@@ -116,16 +116,15 @@ pub(crate) fn fault<S: System>(
 }
 
 // Notes the match where it was committed.
-fn note<F: Drop, R>(
-    entries: &mut Vec<F>,
-    found: F,
-    reply: &Reply<F, R>,
-) -> Result<(), NoMemory>
+fn note<F: Drop, R>(entries: &mut Vec<F>, found: F, reply: &Reply<F, R>) -> Result<(), NoMemory>
     ensures { OnOk result (entries.new.items ≡ entries.old.items ++ added found reply.now) }
 {
     match reply {
         Reply::Committed(_) => entries.push(found)?,
-        Reply::News { entries: _, task: _ } => {}
+        Reply::News {
+            entries: _,
+            task: _,
+        } => {}
         Reply::Stale(_) => {}
         Reply::Noted => {}
         Reply::Closed(_) => {}

@@ -111,7 +111,12 @@ fn note(
 }
 
 // Makes the items one by one from the start. Whether that gives the journal's graph and depth.
-fn is_replayed(alloc: Global, rules: &[Rule], host: &Graph, journal: &Journal) -> Result<bool, Fail> {
+fn is_replayed(
+    alloc: Global,
+    rules: &[Rule],
+    host: &Graph,
+    journal: &Journal,
+) -> Result<bool, Fail> {
     let mut trail = Trail::new(alloc, host.copy(alloc)?);
     for item in journal.items() {
         if !go(alloc, rules, item, &mut trail)? {
