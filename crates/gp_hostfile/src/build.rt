@@ -13,20 +13,26 @@ use gp_names::NameTable;
 use gp_values::{Atom, List};
 use std::alloc::Global;
 
-/// The graph of a tree, by the names of its nodes. Where the tree has no fault, only memory can be wanting.
+/// The graph of a tree, by the names of its nodes. Where the tree has no fault, only memory can be wanting. The tree's
+/// nodes are let go before the graph's edges take memory.
 pub(crate) fn build(
     alloc: Global,
-    tree: &HostTree<'_>,
+    tree: HostTree<'_>,
     nodes: &NameTable,
 ) -> Result<Graph, HostFault>
-    requires { nodes.now ≡ node_names (tree_in tree.now) }
-    ensures made { Makes (λ g. g.graph) result (graph_made nodes.now (tree_in tree.now)) }
+    requires { nodes.now ≡ node_names (tree_in tree) }
+    ensures made { Makes (λ g. g.graph) result (graph_made nodes.now (tree_in tree.entry)) }
     ensures graph { IfOk result (λ g. IsGraph g.graph) }
 {
+    let HostTree {
+        nodes: node_trees,
+        edges: edge_trees,
+    } = tree;
     let mut graph = Graph::new(alloc);
-    graph.reserve(tree.nodes.len() as u64, tree.edges.len() as u64)?;
-    build_nodes(alloc, &tree.nodes, &mut graph)?;
-    build_edges(alloc, &tree.edges, nodes, &mut graph)?;
+    graph.reserve(node_trees.len() as u64, edge_trees.len() as u64)?;
+    build_nodes(alloc, &node_trees, &mut graph)?;
+    drop(node_trees);
+    build_edges(alloc, &edge_trees, nodes, &mut graph)?;
     let _sound = graph.next_numbers();
     Ok(graph)
 }

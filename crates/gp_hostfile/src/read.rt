@@ -21,7 +21,7 @@ pub fn read_host(alloc: Global, text: &[u8]) -> Result<Graph, HostFault>
 {
     let tree = tree_of_text(alloc, text)?;
     let nodes = check(alloc, &tree)?;
-    build(alloc, &tree, &nodes)
+    build(alloc, tree, &nodes)
 }
 
 // The tree of a text. Its tokens are let go.
