@@ -12,8 +12,6 @@ mod items;
 mod journal;
 pub mod laws;
 pub mod sharing;
-#[cfg(test)]
-mod tests;
 mod trail;
 
 pub use items::Items;

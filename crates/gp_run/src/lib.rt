@@ -9,18 +9,10 @@
 
 mod chooser;
 mod commands;
-mod empty_host;
 mod engine;
 mod interpreter;
 pub mod laws;
-mod sample;
-mod sample_rule;
-#[cfg(test)]
-mod tests;
 
 pub use chooser::Chooser;
-pub use empty_host::{EmptyHost, Event};
 pub use engine::{Called, Engine, Repeated, Turned};
 pub use interpreter::{Finish, run};
-pub use sample::{Bits, sample_program};
-pub use sample_rule::{SampleRule, sample_rules};

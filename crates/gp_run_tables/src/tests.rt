@@ -1,5 +1,6 @@
 //! Runs, by what they note and what they leave.
 
+mod bits;
 mod commands;
 mod cores;
 mod crews;

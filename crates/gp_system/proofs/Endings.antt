@@ -31,7 +31,7 @@ use Rattle.gp_run.specs.declared.engine.Called.TheVariants as called
 use Rattle.gp_run.specs.declared.engine.Turned.TheVariants as turned
 use Rattle.gp_run.specs.declared.engine.Repeated.{Repeated}
 use Rattle.gp_run.specs.declared.engine.Repeated.TheVariants as repeated
-use Rattle.gp_run.specs.inside.EmptyHost.{HasEnded}
+use Rattle.gp_run.specs.inside.Ended.{HasEnded}
 use Rattle.gp_run.proofs.Leads.{adds-nothing, counted-append}
 use Rattle.gp_run.proofs.Turns.{Turns, turns_none, turns_bound, turns_spent, turns_faulty, turns_end}
 use Rattle.gp_system.specs.declared.goal.CallGoal.{CallGoal}

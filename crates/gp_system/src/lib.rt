@@ -17,8 +17,6 @@ mod running;
 mod seeking;
 mod session;
 pub mod sharing;
-#[cfg(test)]
-mod tests;
 
 pub use crew::Crew;
 pub use crew_session::CrewSession;

@@ -1,8 +1,8 @@
 //! Commands with real steps, with bounds 0 to 6: what is noted, and how the run ends.
 
+use super::bits::Bits;
 use gp_journal::Journal;
 use gp_reader::read_program;
-use gp_run::Bits;
 use gp_samples::host_of;
 use gp_syntax::{Item, Program};
 use gp_system::{Crew, Outcome, execute};

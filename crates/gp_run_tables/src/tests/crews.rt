@@ -1,11 +1,11 @@
 //! Runs by several workers of a loop of three rules that contend for nodes, each of which is replayed by its printed
 //! journal.
 
+use super::bits::Bits;
 use super::replay::{catch_up, shown};
 use gp_graph::Graph;
 use gp_journal::{Journal, Trail};
 use gp_reader::read_program;
-use gp_run::Bits;
 use gp_samples::host_of;
 use gp_syntax::{Program, Rule};
 use gp_system::{Crew, Outcome, execute};

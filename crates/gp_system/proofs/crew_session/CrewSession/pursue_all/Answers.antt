@@ -2,7 +2,7 @@ use Rattle.std.proofs.Common.{◌<◌, ◌∙◌, length, ap, sym, subst}
 use Rattle.gp_syntax.specs.declared.command.ProgramParts.{ProgramParts}
 use Rattle.opt_core.specs.declared.event.Ending.{Ending}
 use Rattle.gp_run.specs.Engine.{HasRepeated, HasTurned, StandsSpent}
-use Rattle.gp_run.specs.inside.EmptyHost.{HasEnded}
+use Rattle.gp_run.specs.inside.Ended.{HasEnded}
 use Rattle.gp_run.specs.declared.engine.Repeated.TheVariants as repeated
 use Rattle.gp_run.specs.declared.engine.Turned.TheVariants as turned
 use Rattle.gp_system.specs.inside.Viewed.{Shown, view_of}
