@@ -18,8 +18,6 @@ mod reply;
 mod run;
 mod said;
 mod status;
-#[cfg(test)]
-mod tests;
 mod texts;
 mod top;
 

@@ -5,7 +5,5 @@
 
 mod counts;
 mod lines;
-#[cfg(test)]
-mod tests;
 
 pub use lines::summary;

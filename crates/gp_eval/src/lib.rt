@@ -13,8 +13,6 @@ mod denied;
 mod edges;
 mod expression;
 mod leaf;
-#[cfg(test)]
-mod tests;
 mod valued;
 
 pub use condition::holds;

@@ -11,8 +11,6 @@ mod kind;
 pub mod laws;
 mod lines;
 mod nodes;
-#[cfg(test)]
-mod tests;
 mod texts;
 
 pub use kind::Kind;

@@ -12,8 +12,6 @@ mod graph;
 mod rings;
 mod roots;
 mod slots;
-#[cfg(test)]
-mod tests;
 mod walk;
 
 pub use graph::Graph;

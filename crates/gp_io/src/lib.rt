@@ -17,6 +17,3 @@ pub use mem_files::MemFiles;
 pub use mem_sink::MemSink;
 pub use outside::{Failed, Files, ReadRefusal, Sink};
 pub use std_sink::StdSink;
-
-#[cfg(test)]
-mod tests;

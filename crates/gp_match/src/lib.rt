@@ -11,8 +11,6 @@ mod dangling;
 mod fault;
 pub mod laws;
 mod stand;
-#[cfg(test)]
-mod tests;
 
 pub use check::{Verdict, check_match, check_parts};
 pub use dangling::is_kept;

@@ -6,7 +6,5 @@
 #![tactic(auto)]
 
 mod table;
-#[cfg(test)]
-mod tests;
 
 pub use table::NameTable;

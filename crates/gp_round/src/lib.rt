@@ -6,7 +6,5 @@
 #![tactic(auto)]
 
 mod round;
-#[cfg(test)]
-mod tests;
 
 pub use round::{Round, numbers_of_share};

@@ -5,7 +5,5 @@
 #![tactic(auto)]
 
 mod sample;
-#[cfg(test)]
-mod tests;
 
 pub use sample::{host_of, rule_of};

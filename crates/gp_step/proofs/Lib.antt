@@ -5,4 +5,3 @@ pub mod Notes
 pub mod Labels
 pub mod Collecting
 pub mod Makes
-pub mod Samples

@@ -13,11 +13,8 @@ mod inverse;
 mod inverses;
 pub mod laws;
 mod made;
-pub mod sample;
 mod step;
 mod taking_back;
-#[cfg(test)]
-mod tests;
 
 pub use applying::apply;
 pub use inverse::Inverse;

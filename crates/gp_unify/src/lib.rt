@@ -11,8 +11,6 @@ pub mod laws;
 mod matched;
 mod mismatch;
 mod pieces;
-#[cfg(test)]
-mod tests;
 mod text;
 mod trail;
 mod unifier;

@@ -13,8 +13,6 @@ mod label;
 pub mod laws;
 mod list;
 mod marks;
-#[cfg(test)]
-mod tests;
 
 pub use atom::Atom;
 pub use chars::Chars;

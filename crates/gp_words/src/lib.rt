@@ -9,8 +9,6 @@ mod apps;
 mod command;
 mod found;
 mod number;
-#[cfg(test)]
-mod tests;
 mod words;
 
 pub use command::{Command, DemoCommand, RunCommand};

@@ -17,6 +17,3 @@ pub use cell_row::CellRow;
 pub use cell_system::Cells;
 pub use cells_goal::{CellsGoal, Never};
 pub use traps::Traps;
-
-#[cfg(test)]
-mod tests;

@@ -258,6 +258,3 @@ fn copies<S: System>(
     }
     Ok(all)
 }
-
-#[cfg(test)]
-mod tests;

@@ -13,6 +13,3 @@
 mod crew;
 
 pub use crew::pursue;
-
-#[cfg(test)]
-mod tests;

@@ -12,5 +12,3 @@ pub mod Rests
 mod Follows
 mod Taking
 mod Turned
-mod Replicas
-mod Cases

@@ -22,6 +22,3 @@ pub use ask::Ask;
 pub use gate::Gate;
 pub use key::Key;
 pub use pass::Pass;
-
-#[cfg(test)]
-mod tests;

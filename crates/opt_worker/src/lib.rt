@@ -19,6 +19,3 @@ pub use held::Held;
 pub use pace::{Free, Pace, Pacing};
 pub use sharing::job_may_be_taken;
 pub use worker::{SHARES_OF_A_WORKER, follow, work, work_on};
-
-#[cfg(test)]
-mod tests;

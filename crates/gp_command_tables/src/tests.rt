@@ -1,0 +1,11 @@
+//! What words, files and sinks come to.
+
+mod calls;
+mod crews;
+mod demos;
+mod devices;
+mod outside;
+mod refusals;
+mod runs;
+mod texts;
+mod words;

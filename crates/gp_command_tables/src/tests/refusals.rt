@@ -1,0 +1,217 @@
+//! What the top call refuses: words, programs and hosts, with the line of each.
+
+use crate::tests::calls::{answer, is_line};
+use crate::tests::runs::check_rows;
+use crate::tests::words::OTHER_WORDS;
+use std::alloc::AllocGlobal;
+use std::sync::Wait;
+use std::test::Fail;
+use std::thread::Threads;
+
+const PROGRAMS: &str = "
+% [ | ]
+% run p h
+% 3 err
+program: NoMain
+
+$
+% [ | ]
+% run p h
+% 3 err
+program: BadByte 0
+
+/*
+% [ | ]
+% run p h
+% 3 err
+program: OpenComment 0
+
+Main = skip!
+% [ | ]
+% run p h
+% 3 err
+program: Syntax line 1
+
+Main = skip
+;
+% [ | ]
+% run p h
+% 3 err
+program: Syntax line 2
+
+Main = skip Main = skip
+% [ | ]
+% run p h
+% 3 err
+program: TwoMains
+
+Main = f
+% [ | ]
+% run p h
+% 3 err
+program: Unknown f
+
+Main = P P = P
+% [ | ]
+% run p h
+% 3 err
+program: Recursive P
+
+Main = break
+% [ | ]
+% run p h
+% 3 err
+program: StrayBreak
+
+Main = (if break then skip)!
+% [ | ]
+% run p h
+% 3 err
+program: StrayBreak
+
+Main = one one() [ | ] => [ | ] interface = {} one() [ | ] => [ | ] interface = {}
+% [ | ]
+% run p h
+% 3 err
+program: TwoRules one
+
+Main = skip r(x,y:list) [ (n0, x:y) | ] => [ | ] interface = {}
+% [ | ]
+% run p h
+% 3 err
+program: rule r: NotSimple
+
+Main = skip r(x:list) [ (n0, 1) | ] => [ (n0, x) | ] interface = {n0}
+% [ | ]
+% run p h
+% 3 err
+program: rule r: Unbound x
+
+Main = skip r() [ | ] => [ | ] interface = {n1}
+% [ | ]
+% run p h
+% 3 err
+program: rule r: BadInterface n1
+
+Main = skip
+r() [ (n0, 170141183460469231731687303715884105728) | ] => [ | ] interface = {}
+% [ | ]
+% run p h
+% 3 err
+program: NumberRange line 2
+
+Main = break F = g
+% [ | ]
+% run p h
+% 3 err
+program: Unknown g";
+
+#[test]
+fn refused_programs_have_their_lines(rt: HostRuntime) -> Result<(), Fail> {
+    check_rows(&rt, PROGRAMS, "")
+}
+
+// 64 parentheses, and 65.
+const DEEP: &str =
+    "Main = ((((((((((((((((((((((((((((((((((((((((((((((((((((((((((((((((skip))))))))))))))))))))))))))))))))))))))))))))))))))))))))))))))))
+% [ | ]
+% run p h
+% 0 out
+[
+|
+]
+
+Main = (((((((((((((((((((((((((((((((((((((((((((((((((((((((((((((((((skip)))))))))))))))))))))))))))))))))))))))))))))))))))))))))))))))))
+% [ | ]
+% run p h
+% 3 err
+program: TooDeep line 1";
+
+#[test]
+fn parentheses_are_nested_64_deep_at_most(rt: HostRuntime) -> Result<(), Fail> {
+    check_rows(&rt, DEEP, "")
+}
+
+const HOSTS: &str = "Main = skip
+% [ (a, \"x
+% run p h
+% 4 err
+host: OpenString 6
+
+Main = skip
+% [ (a, 1)
+% run p h
+% 4 err
+host: Syntax line 1
+
+Main = skip
+% [ (a, 1)
+(b, 1) |
+% run p h
+% 4 err
+host: Syntax line 2
+
+Main = skip
+% [ (a, 1) (a, 2) | ]
+% run p h
+% 4 err
+host: TwoNodes a
+
+Main = skip
+% [ (a, 1) | (e, a, a, 1) (e, a, a, 2) ]
+% run p h
+% 4 err
+host: TwoEdges e
+
+Main = skip
+% [ (a, 1) | (e, a, b, 1) ]
+% run p h
+% 4 err
+host: NoSuchEnd b
+
+Main = skip
+% [ (a, 1 # dashed) | ]
+% run p h
+% 4 err
+host: WrongMark a
+
+Main = skip
+% [ (a, 170141183460469231731687303715884105728) | ]
+% run p h
+% 4 err
+host: NumberRange 6
+
+Main = skip
+% [ (a, 170141183460469231731687303715884105729) | ]
+% run p h
+% 4 err
+host: NumberTooLong 6
+
+Main = skip
+% [ (a, -170141183460469231731687303715884105729) | ]
+% run p h
+% 4 err
+host: NumberTooLong 7";
+
+#[test]
+fn refused_hosts_have_their_lines(rt: HostRuntime) -> Result<(), Fail> {
+    check_rows(&rt, HOSTS, "")
+}
+
+const USAGE: &str = "2 err
+usage: gp2 run PROGRAM HOST [--workers N] [--bound N] [--fan N] [--seed N] [--journal]
+       gp2 demo KIND SIZE SEED [--workers N] [--fan N]";
+
+// Whether the words come to the usage.
+fn is_usage<R: AllocGlobal + Threads + Wait + Sync>(rt: &R, words: &str) -> Result<bool, Fail> {
+    let found = answer(rt, "Main = skip", "[ | ]", words)?;
+    Ok(is_line(&found, USAGE))
+}
+
+#[test]
+fn other_words_are_refused(rt: HostRuntime) -> Result<(), Fail> {
+    for words in OTHER_WORDS.split('\n') {
+        assert!(rt; is_usage(&rt, words)?, "{words}");
+    }
+    Ok(())
+}

@@ -1,0 +1,3 @@
+//! The tables, one file for what they are about.
+
+mod graphs;

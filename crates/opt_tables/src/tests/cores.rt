@@ -1,0 +1,265 @@
+//! Cores over cells and traps: events of senders who were told of few entries, and their answers.
+
+mod sending;
+
+ghost use Rattle.std.specs.Prelude.{◌≡◌, OnOk};
+ghost use Rattle.opt_core.specs.Runs.{SameStart};
+
+use super::texts::{Numbered, event_of, text_of, text_of_ending};
+use opt_cells::{CellRow, Cells, CellsGoal, Traps};
+use opt_core::sharing::{
+    core_may_be_shared, core_may_be_taken, ending_may_be_taken, entries_may_be_taken,
+    event_may_be_taken, reply_may_be_taken,
+};
+use opt_core::{Core, Ending, Event, Reply};
+use opt_system::Mode;
+use sending::send;
+use std::alloc::Global;
+use std::fmt::Debug;
+use std::test::Fail;
+
+// Cells, true or false, with the mode, the shares and the items of a goal; the events that are sent to its core, each
+// with the number of entries that its sender was told of, and then the share to look from, the place of a match, or the
+// share that is barren; and the answers, with the entries, the items and the ending that the core has then.
+const ON_CELLS: [(&str, Mode, u32, u64, &str, &str); 12] = [
+    // a commit makes older reports stale
+    (
+        "t",
+        Mode::Saturate,
+        2,
+        10,
+        "look 0 0, quiet 0 0, quiet 0 1, look 0 1, offer 0 0, offer 0 0, quiet 0 1, look 0 1, offer 1 0, quiet 1 0, quiet 1 1, look 1 0",
+        "news [] 0, may not come, noted, news [] 0, committed 0, stale 1, stale 1, news [0] 1, may not come, noted, closed blocked, closed blocked, [0] 8 blocked",
+    ),
+    // a goal of one match ends with its commit
+    (
+        "tt",
+        Mode::Once,
+        1,
+        10,
+        "offer 0 1, offer 0 0",
+        "committed 0, closed committed, [1] 9 committed",
+    ),
+    (
+        "tt",
+        Mode::Once,
+        2,
+        5,
+        "offer 0 0, offer 0 1",
+        "committed 0, closed committed, [0] 4 committed",
+    ),
+    (
+        "t",
+        Mode::Once,
+        1,
+        1,
+        "offer 0 0",
+        "committed 0, [0] 0 committed",
+    ),
+    // a goal ends where no item is left
+    (
+        "tt",
+        Mode::Once,
+        1,
+        0,
+        "offer 0 0",
+        "closed bound, [] 0 bound",
+    ),
+    (
+        "tt",
+        Mode::Saturate,
+        2,
+        0,
+        "offer 0 1",
+        "closed bound, [] 0 bound",
+    ),
+    (
+        "tt",
+        Mode::Saturate,
+        2,
+        1,
+        "offer 0 0, look 0 0, look 1 0",
+        "committed 0, closed bound, closed bound, [0] 0 bound",
+    ),
+    (
+        "tt",
+        Mode::Saturate,
+        1,
+        2,
+        "offer 0 0, offer 0 1",
+        "committed 0, closed bound, [0] 0 bound",
+    ),
+    // a stopped goal stays stopped
+    (
+        "t",
+        Mode::Saturate,
+        1,
+        10,
+        "stop, offer 0 0",
+        "closed stopped, closed stopped, [] 10 stopped",
+    ),
+    (
+        "t",
+        Mode::Saturate,
+        2,
+        3,
+        "stop, look 0 0, quiet 0 1",
+        "closed stopped, closed stopped, closed stopped, [] 3 stopped",
+    ),
+    // a blocked goal needs no item
+    (
+        "",
+        Mode::Saturate,
+        2,
+        0,
+        "quiet 0 0, quiet 0 0, look 0 0, quiet 0 1",
+        "noted, noted, news [] 1, closed blocked, [] 0 blocked",
+    ),
+    (
+        "ff",
+        Mode::Once,
+        3,
+        0,
+        "quiet 0 1, look 0 4, quiet 0 2, look 0 5, quiet 0 0",
+        "noted, news [] 2, noted, news [] 0, closed blocked, [] 0 blocked",
+    ),
+];
+
+// The same of traps: the items, the events and the answers. A fault ends a goal unless it is stale.
+const ON_TRAPS: [(u64, &str, &str); 3] = [
+    (10, "fault 0 7", "closed fault 7, [] 10 fault 7"),
+    (
+        0,
+        "offer 0 7, fault 0 7",
+        "may not come, closed fault 7, [] 0 fault 7",
+    ),
+    (
+        9,
+        "offer 0 0, fault 0 7, quiet 1 0",
+        "committed 0, stale 1, closed blocked, [0] 7 blocked",
+    ),
+];
+
+// Sends the event, if it may come, and notes the answer.
+fn answer<S: Numbered>(
+    alloc: Global,
+    s: &S,
+    core: &mut Core<S>,
+    entries: &mut Vec<S::Found>,
+    base: S::State,
+    event: &str,
+    text: &mut String,
+) -> Result<(), Fail>
+where
+    S::Found: Debug,
+    requires system { s.now ≡ core.old.system }
+    requires entries { entries.old.items ≡ core.old.entries }
+    requires base { base ≡ core.old.base }
+    ensures start { SameStart core.old core.new }
+    ensures entries { OnOk result (core.new.entries ≡ entries.new.items) }
+{
+    let event = event_of::<S>(event)?;
+    let reply = send(s, core, entries, base, event)?;
+    text.push_str(text_of::<S>(alloc, reply)?.as_str())?;
+    text.push_str(", ")?;
+    Ok(())
+}
+
+// What the core is then.
+fn ended<S: Numbered>(alloc: Global, core: Core<S>, answers: String) -> Result<String, Fail>
+where
+    S::Found: Debug,
+{
+    let (_, entries, left, ending) = core.into_parts();
+    let ending = text_of_ending::<S>(alloc, ending)?;
+    Ok(format!(in alloc; "{answers}{:?} {left} {ending}", entries.as_slice())?)
+}
+
+fn cells_of(alloc: Global, text: &str) -> Result<Vec<bool>, Fail> {
+    let mut cells = Vec::new(alloc);
+    for letter in text.as_bytes() {
+        cells.push(*letter == b't')?;
+    }
+    Ok(cells)
+}
+
+// Sends the events to a new core over cells.
+fn told_of_cells(
+    alloc: Global,
+    cells: &[bool],
+    goal: CellsGoal,
+    items: u64,
+    events: &str,
+) -> Result<String, Fail> {
+    let base = CellRow::new(alloc, cells.to_vec(alloc)?);
+    let Ok(mut core) = Core::start(alloc, &Cells, base, goal, items) else {
+        return Err(Fail::from("no core was made"));
+    };
+    let mut entries = Vec::new(alloc);
+    let mut text = String::new(alloc);
+    for event in events.split(',') {
+        let base = CellRow::new(alloc, cells.to_vec(alloc)?);
+        answer(
+            alloc,
+            &Cells,
+            &mut core,
+            &mut entries,
+            base,
+            event,
+            &mut text,
+        )?;
+    }
+    ended(alloc, core, text)
+}
+
+// Sends the events to a new core over traps.
+fn told_of_traps(alloc: Global, items: u64, events: &str) -> Result<String, Fail> {
+    let Ok(mut core) = Core::start(alloc, &Traps, 0, (), items) else {
+        return Err(Fail::from("no core was made"));
+    };
+    let mut entries = Vec::new(alloc);
+    let mut text = String::new(alloc);
+    for event in events.split(',') {
+        answer(alloc, &Traps, &mut core, &mut entries, 0, event, &mut text)?;
+    }
+    ended(alloc, core, text)
+}
+
+#[test]
+fn cores_answer_each_event_as_their_senders_were_told(rt: HostRuntime) -> Result<(), Fail> {
+    let alloc = rt.alloc();
+    for (cells, mode, shares, items, events, answers) in &ON_CELLS {
+        assert!(rt; *shares > 0);
+        let goal = CellsGoal {
+            mode: *mode,
+            shares: *shares,
+        };
+        let cells = cells_of(alloc, cells)?;
+        let told = told_of_cells(alloc, &cells, goal, *items, events)?;
+        assert_eq!(rt; told.as_str(), *answers);
+    }
+    for (items, events, answers) in &ON_TRAPS {
+        let told = told_of_traps(alloc, *items, events)?;
+        assert_eq!(rt; told.as_str(), *answers);
+    }
+    Ok(())
+}
+
+#[test]
+fn threads_may_take_cores_events_and_answers(rt: HostRuntime) -> Result<(), Fail> {
+    let alloc = rt.alloc();
+    let Ok(mut core) = Core::start(alloc, &Traps, 0, (), 0) else {
+        return Err(Fail::from("no core was made"));
+    };
+    core_may_be_taken(&core);
+    core_may_be_shared(&core);
+    event_may_be_taken(&Event::<u64>::Stop);
+    ending_may_be_taken(&Ending::<u64>::Blocked);
+    let reply = sending::look(&Traps, &mut core, &[], 0, 0);
+    if let Some(Reply::News { entries, task: _ }) = &reply {
+        entries_may_be_taken(entries);
+    }
+    let reply = sending::stop(&Traps, &mut core);
+    reply_may_be_taken(&reply);
+    Ok(())
+}
