@@ -10,8 +10,6 @@ mod breaks;
 mod calls;
 mod components;
 mod recursion;
-#[cfg(test)]
-mod tests;
 
 pub use breaks::has_stray_break;
 pub use calls::{callees_of, deep_ones};

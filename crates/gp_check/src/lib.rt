@@ -14,8 +14,6 @@ mod expression;
 mod fault;
 mod pattern;
 mod places;
-#[cfg(test)]
-mod tests;
 
 pub use check::check_rule;
 pub use fault::RuleFault;

@@ -16,8 +16,6 @@ mod marks;
 mod names;
 mod scope;
 mod shape;
-#[cfg(test)]
-mod tests;
 mod typed;
 mod variables;
 

@@ -11,8 +11,6 @@ mod condition;
 mod expression;
 pub mod laws;
 mod ranged;
-#[cfg(test)]
-mod tests;
 
 pub use condition::{CondTree, LabelTree, read_condition, read_label};
 pub use expression::{read_list, read_name};

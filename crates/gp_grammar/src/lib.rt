@@ -13,8 +13,6 @@ mod error;
 pub mod laws;
 mod many;
 mod numeral;
-#[cfg(test)]
-mod tests;
 mod text;
 mod want;
 

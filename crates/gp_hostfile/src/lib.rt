@@ -13,8 +13,6 @@ mod fault;
 mod grammar;
 pub mod laws;
 mod read;
-#[cfg(test)]
-mod tests;
 mod text;
 mod tree;
 

@@ -15,8 +15,6 @@ pub mod laws;
 mod parse;
 mod program;
 mod rule;
-#[cfg(test)]
-mod tests;
 
 pub use depth::first_too_deep;
 pub use parse::{ParseFault, parse_program};

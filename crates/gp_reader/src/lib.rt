@@ -12,8 +12,6 @@ pub mod laws;
 mod line;
 mod read;
 mod rules;
-#[cfg(test)]
-mod tests;
 
 pub use fault::ProgramFault;
 pub use read::{read_program, read_rules};

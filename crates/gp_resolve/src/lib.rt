@@ -13,8 +13,6 @@ mod names;
 mod resolving;
 mod scoped;
 mod taken;
-#[cfg(test)]
-mod tests;
 
 pub use gp_scope::ScopeFault;
 pub use resolving::resolve;

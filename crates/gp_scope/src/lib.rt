@@ -18,8 +18,6 @@ mod meaning;
 mod number;
 mod strangers;
 mod survey;
-#[cfg(test)]
-mod tests;
 mod unknown;
 
 pub use bodies::{Bodies, bodies_of};

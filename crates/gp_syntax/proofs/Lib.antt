@@ -10,7 +10,6 @@ pub mod Declarations
 pub mod Constants
 pub mod Assignments
 pub mod Trees
-pub mod Smallest
 pub mod Simples
 pub mod Kept
 pub mod Values

@@ -18,8 +18,6 @@ pub mod laws;
 mod name;
 mod rule;
 pub mod sharing;
-#[cfg(test)]
-mod tests;
 mod tree;
 
 pub use assignment::Assignment;

@@ -14,8 +14,6 @@ mod keyword;
 pub mod laws;
 mod line;
 mod number;
-#[cfg(test)]
-mod tests;
 mod text;
 mod token;
 

@@ -10,8 +10,6 @@ mod fault;
 pub mod laws;
 mod line;
 mod reader;
-#[cfg(test)]
-mod tests;
 mod writer;
 
 pub use fault::TraceFault;

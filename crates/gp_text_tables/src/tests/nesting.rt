@@ -1,6 +1,6 @@
-//! What no contract shows: that the depth is the language's.
+//! How deep brackets and runs of signs may be.
 
-use super::*;
+use gp_program::first_too_deep;
 use gp_tokens::lex;
 use std::alloc::Global;
 use std::test::Fail;

@@ -1,6 +1,6 @@
-//! That calls succeed, and how many tokens an error counts.
+//! Cursors over tokens, and how many tokens an error counts.
 
-use super::*;
+use gp_grammar::{Numeral, ReadError, Tokens, Want, repeated_by, separated_by, stands_before};
 use gp_tokens::{Keyword, Kind, Token, lex};
 use std::test::Fail;
 

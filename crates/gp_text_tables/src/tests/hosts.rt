@@ -1,7 +1,7 @@
-//! What no contract shows: that calls succeed, and that the definitions are the format's.
+//! Hosts that are read and printed, and the first faults of other texts.
 
-use crate::{laws, read_host, write_graph};
 use gp_graph::Graph;
+use gp_hostfile::{laws, read_host, write_graph};
 use gp_memory::NoMemory;
 use gp_values::{Atom, Chars, EdgeMark, List, NodeMark};
 use std::alloc::Global;

@@ -1,6 +1,6 @@
 //! Traces read and written back, and texts that are none.
 
-use crate::{TraceFault, read_trace, write_trace};
+use gp_trace::{TraceFault, read_trace, write_trace};
 use std::alloc::Global;
 use std::test::Fail;
 

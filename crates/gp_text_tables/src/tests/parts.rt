@@ -1,9 +1,7 @@
-use crate::{
-    Assignment, Command, EdgeImage, Found, Item, Items, Name, Program, ProgramParts, Rule,
-    RuleParts, VariableType,
-};
+//! What runs are made of: names, matches and assignments.
+
+use gp_syntax::{Assignment, EdgeImage, Found, Item, Name, VariableType};
 use gp_values::{Atom, List};
-use std::alloc::Global;
 use std::test::Fail;
 
 #[test]
@@ -52,34 +50,5 @@ fn assignments_keep_values_of_their_types(rt: HostRuntime) -> Result<(), Fail> {
     assert!(rt; assignment.value(1).is_some());
     assignment.clear(1);
     assert!(rt; assignment.value(1).is_none());
-    Ok(())
-}
-
-fn empty_rule(alloc: Global) -> Result<Rule, Fail> {
-    let parts = RuleParts {
-        name: Name::from_slice(alloc, b"r")?,
-        types: Items::new(alloc),
-        left_nodes: Items::new(alloc),
-        left_edges: Items::new(alloc),
-        right_nodes: Items::new(alloc),
-        right_edges: Items::new(alloc),
-        condition: None,
-    };
-    Ok(Rule::new(parts))
-}
-
-#[test]
-fn rules_and_programs_lend_their_parts(rt: HostRuntime) -> Result<(), Fail> {
-    let mut rules = Items::new(rt.alloc());
-    rules.push(empty_rule(rt.alloc())?)?;
-    let program = Program::new(ProgramParts {
-        main: Command::Skip,
-        procedures: Items::new(rt.alloc()),
-        sets: Items::new(rt.alloc()),
-        rules,
-    });
-    for rule in program.parts().rules.as_slice() {
-        assert_eq!(rt; rule.parts().name.as_bytes(), b"r".as_slice());
-    }
     Ok(())
 }

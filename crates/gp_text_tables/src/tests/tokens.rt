@@ -1,6 +1,6 @@
-//! What no contract shows: that calls succeed, and that the definitions are the format's.
+//! Texts with their tokens, or their first fault.
 
-use super::*;
+use gp_tokens::{Keyword, LexFault, RESERVED, Token, is_reserved, lex, line_of_token};
 use std::alloc::Global;
 use std::process::Abort;
 use std::test::Fail;

@@ -1,6 +1,6 @@
-//! What no contract shows: that calls succeed, and that the definitions are the language's.
+//! Program texts that are read, and the lines that name the first faults of others.
 
-use crate::{ProgramFault, read_program};
+use gp_reader::{ProgramFault, read_program};
 use std::alloc::Global;
 use std::test::Fail;
 

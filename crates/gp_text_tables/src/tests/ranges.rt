@@ -1,6 +1,6 @@
 //! Where a numeral is out of range.
 
-use crate::read_list;
+use gp_expressions::read_list;
 use gp_grammar::Tokens;
 use gp_tokens::lex;
 use std::alloc::Global;

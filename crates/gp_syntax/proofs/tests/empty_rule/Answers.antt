@@ -1,5 +1,0 @@
-use Rattle.gp_syntax.proofs.Smallest.{empty_is_checked}
-use Rattle.gp_syntax.proofs.tests.empty_rule.Goals as goal
-
-pub new-requires-6 : goal.new-requires-6
-new-requires-6 c = rw (c.new.ensures, c.new-2.ensures, c.new-3.ensures, c.new-4.ensures, c.new-5.ensures) empty_is_checked
