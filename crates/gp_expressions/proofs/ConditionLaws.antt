@@ -22,7 +22,7 @@ use Rattle.gp_syntax.specs.declared.kinds.VariableType.{VariableType}
 use Rattle.gp_syntax.specs.declared.kinds.VariableType.TheVariants as types
 use Rattle.gp_expressions.proofs.ListLaws.{heads, list_signs, IsListPart, list_part}
 use Rattle.gp_expressions.specs.Expressions.{Tree, unary, quotients, product, differences, sum, dots, joins, name, argument, leaf, nested, operand, list}
-use Rattle.gp_expressions.specs.Conditions.{CondTree, mark, label, comparison, typed, edge_label, edge_test, comparing, test, condition_signs, tells, encloses, condition_ahead, conjunction, disjunction, in_parentheses, negated_in, negation, condition}
+use Rattle.gp_expressions.specs.Conditions.{CondTree, mark, label, comparison, typed, edge_label, edge_test, comparing, plain_test, condition_signs, tells, encloses, condition_ahead, conjunction, disjunction, in_parentheses, negated_in, negation, condition}
 
 -- ---- what the test finds at one token
 
@@ -273,8 +273,8 @@ list_front n =
     made_front _ _ (separated_front colon _ (made_front _ _ (separated_front dot _ (made_front _ _ (separated_front plus _ (made_front _ _ (separated_front minus _ (made_front _ _
     (made_front _ _ (separated_front star _ (made_front _ _ (separated_front slash _ (made_front _ _ (unary_front n))))))))))))))
 
-test_front : (n : ℕ) → Fronts (shape_of (test (list n)))
-unfolding test edge_test comparing excludes meets same_kind
+test_front : (n : ℕ) → Fronts (shape_of (plain_test (list n)))
+unfolding plain_test edge_test comparing excludes meets same_kind
 test_front n ts rest x (one h) = token_front int_word refl ts h.shape.mid h.of.0 h.shape.first
 test_front n ts rest x (other (one h)) = token_front char_word refl ts h.shape.mid h.of.0 h.shape.first
 test_front n ts rest x (other (other (one h))) = token_front string_word refl ts h.shape.mid h.of.0 h.shape.first
@@ -319,8 +319,8 @@ comparison_meets =
     (either_meets _ _ (made_meets _ _ (token_meets greater 4 refl))
     (made_meets _ _ (token_meets greater_equal 5 refl))))))
 
-test_meets : (m : ℕ) → Meets (shape_of (test (list m)))
-unfolding test edge_test comparing
+test_meets : (m : ℕ) → Meets (shape_of (plain_test (list m)))
+unfolding plain_test edge_test comparing
 test_meets m =
     either_meets _ _ (made_meets _ _ (first_meets _ _ (token_meets int_word 10 refl)))
     (either_meets _ _ (made_meets _ _ (first_meets _ _ (token_meets char_word 11 refl)))
@@ -406,22 +406,22 @@ typed_fits : (l : Grammar (Ranged Tree)) → IsListPart l → (type : VariableTy
 unfolding typed excludes meets same_kind
 typed_fits l p type = let f = p.fits in rw p.ends (search f)
 
-test_fits : (l : Grammar (Ranged Tree)) → IsListPart l → Fits (test l)
-unfolding test excludes meets same_kind
+test_fits : (l : Grammar (Ranged Tree)) → IsListPart l → Fits (plain_test l)
+unfolding plain_test excludes meets same_kind
 test_fits l p =
     let a = comparing_avoids l p in let c = comparing_fits l p in let e = edge_fits l p in let b = edge_begins l in let d = edge_avoids l in
     let t = typed_fits l p types.Int in let u = typed_fits l p types.Char in let v = typed_fits l p types.String in let w = typed_fits l p types.Atom in search (a, c, e, b, d, t, u, v, w)
 
-test_full : (l : Grammar (Ranged Tree)) → IsListPart l → nullable (test l) ≡ false
-unfolding edge_test test
+test_full : (l : Grammar (Ranged Tree)) → IsListPart l → nullable (plain_test l) ≡ false
+unfolding edge_test plain_test
 test_full l p = rw (comparing_full l p) refl
 
-test_ends : (l : Grammar (Ranged Tree)) → IsListPart l → enders (test l) ≡ list_signs
-unfolding name edge_label typed edge_test test
+test_ends : (l : Grammar (Ranged Tree)) → IsListPart l → enders (plain_test l) ≡ list_signs
+unfolding name edge_label typed edge_test plain_test
 test_ends l p = rw (p.full, comparing_full l p, comparing_ends l p) refl
 
-test_avoids : (l : Grammar (Ranged Tree)) → IsListPart l → Avoids not_word (test l)
-unfolding test excludes meets same_kind
+test_avoids : (l : Grammar (Ranged Tree)) → IsListPart l → Avoids not_word (plain_test l)
+unfolding plain_test excludes meets same_kind
 test_avoids l p = let a = comparing_avoids l p in let d = edge_avoids l in search (a, d)
 
 -- what must not come behind a condition

@@ -82,8 +82,8 @@ module _ (lists : Grammar (Ranged Tree)) where
   comparing = Made compared (lists followed_by comparison followed_by lists)
 
   -- Test = ("int" | "char" | "string" | "atom") "(" List ")" | "edge" "(" Item "," Item ["," Label] ")" | List Comparison List
-  unfoldable pub test : Grammar (Ranged CondTree)
-  test =
+  unfoldable pub plain_test : Grammar (Ranged CondTree)
+  plain_test =
       At int_word (Made second_of (One int_word followed_by typed types.Int))
       (At char_word (Made second_of (One char_word followed_by typed types.Char))
       (At string_word (Made second_of (One string_word followed_by typed types.String))
@@ -134,7 +134,7 @@ denied (_, r) = with c.Not r
 
 -- Neg = "not" Neg | "(" Cond ")" | Test
 unfoldable pub negated_in : Grammar (Ranged Tree) → Grammar (Ranged CondTree) → Grammar (Ranged CondTree)
-negated_in lists negation = At not_word (Made denied (One not_word followed_by negation)) (If condition_ahead (in_parentheses negation) (test lists))
+negated_in lists negation = At not_word (Made denied (One not_word followed_by negation)) (If condition_ahead (in_parentheses negation) (plain_test lists))
 
 -- the number is the room: one less at each bracket and each `not`
 unfoldable pub negation : Grammar (Ranged Tree) → ℕ → Grammar (Ranged CondTree)

@@ -180,9 +180,9 @@ fn read_comparing(tokens: &mut Tokens<'_, '_>, lists: u64) -> Result<Ranged<Cond
 }
 
 // Test
-#[tactic(auto, unfolding(crate::specs::Conditions::test))]
+#[tactic(auto, unfolding(crate::specs::Conditions::plain_test))]
 fn read_test(tokens: &mut Tokens<'_, '_>, lists: u64) -> Result<Ranged<CondTree>, ReadError>
-    ensures { Reads (reader_of (spec.test (list lists)) tokens.old) result tokens.new }
+    ensures { Reads (reader_of (spec.plain_test (list lists)) tokens.old) result tokens.new }
 {
     if tokens.eat(Want::Keyword(Keyword::Int)) {
         return read_typed(tokens, lists, VariableType::Int);

@@ -22,7 +22,7 @@ use Rattle.gp_syntax.specs.declared.tree.CommandTree.{CommandTree}
 use Rattle.gp_expressions.specs.declared.ranged.Ranged.{Ranged}
 use Rattle.gp_expressions.specs.Signs.{not_word, and_word, or_word, edge_word, then_word}
 use Rattle.gp_expressions.specs.Expressions.{Tree, signed_by, behind, unary, quotients, product, differences, sum, dots, joins, name, nested, operand, list}
-use Rattle.gp_expressions.specs.Conditions.{CondTree, mark, label, comparison, typed, edge_label, edge_test, comparing, test, conjunction, disjunction, in_parentheses, negated_in, negation, condition}
+use Rattle.gp_expressions.specs.Conditions.{CondTree, mark, label, comparison, typed, edge_label, edge_test, comparing, plain_test, conjunction, disjunction, in_parentheses, negated_in, negation, condition}
 use Rattle.gp_expressions.proofs.ListLaws.{never_empty}
 use Rattle.gp_expressions.proofs.ConditionLaws.{negation_full}
 use Rattle.gp_program.specs.Rules.{position, place, flag, node, edge, nodes, edges, body, barred, graph, variables, interface, where_part, rule_with, rule}
@@ -149,8 +149,8 @@ module _ (k : ℕ) (l m : Grammar (Ranged Tree)) (p : Within k (shape_of l) (sha
   unfolding comparing
   comparing_within = made_within k _ _ _ (then_within k _ _ _ _ (keeps l) p (then_within k _ _ _ _ (keeps comparison) (same k _) p))
 
-  test_within : Within k (shape_of (test l)) (shape_of (test m))
-  unfolding test
+  test_within : Within k (shape_of (plain_test l)) (shape_of (plain_test m))
+  unfolding plain_test
   test_within =
       either_within k _ _ _ _ (made_within k _ _ _ (skip k _ _ _ (typed_within types.Int)))
       (either_within k _ _ _ _ (made_within k _ _ _ (skip k _ _ _ (typed_within types.Char)))
