@@ -7,11 +7,11 @@ use std::alloc::Global;
 use std::fmt::Debug;
 use std::test::Fail;
 
-/// A system whose matches are numbers, as its reasons are.
+/// A system whose matches are numbers, as are the reasons of its faults, if it has faults.
 pub(crate) trait Numbered: System {
     fn found(number: u32) -> Self::Found;
 
-    fn number(reason: Self::Reason) -> u64;
+    fn reason(ending: &Ending<Self::Reason>) -> Option<u64>;
 }
 
 impl Numbered for Cells {
@@ -19,8 +19,8 @@ impl Numbered for Cells {
         number as usize
     }
 
-    fn number(reason: Never) -> u64 {
-        match reason {}
+    fn reason(_ending: &Ending<Never>) -> Option<u64> {
+        None
     }
 }
 
@@ -29,8 +29,11 @@ impl Numbered for Traps {
         u64::from(number)
     }
 
-    fn number(reason: u64) -> u64 {
-        reason
+    fn reason(ending: &Ending<u64>) -> Option<u64> {
+        match ending {
+            Ending::Fault(reason) => Some(*reason),
+            _ => None,
+        }
     }
 }
 
@@ -69,19 +72,28 @@ pub(crate) fn event_of<S: Numbered>(text: &str) -> Result<Event<S::Found>, Fail>
     Ok(Event::Fault { told, found })
 }
 
+fn word_of<R>(ending: &Ending<R>) -> &'static str {
+    match ending {
+        Ending::Committed => "committed",
+        Ending::Blocked => "blocked",
+        Ending::Bound => "bound",
+        Ending::Fault(_) => "fault",
+        Ending::Stopped => "stopped",
+    }
+}
+
 /// How a goal ended.
 pub(crate) fn text_of_ending<S: Numbered>(
     alloc: Global,
     ending: Option<Ending<S::Reason>>,
 ) -> Result<String, Fail> {
-    Ok(match ending {
-        Some(Ending::Committed) => String::from_str(alloc, "committed")?,
-        Some(Ending::Blocked) => String::from_str(alloc, "blocked")?,
-        Some(Ending::Bound) => String::from_str(alloc, "bound")?,
-        Some(Ending::Fault(reason)) => format!(in alloc; "fault {}", S::number(reason))?,
-        Some(Ending::Stopped) => String::from_str(alloc, "stopped")?,
-        None => String::from_str(alloc, "running")?,
-    })
+    let Some(ending) = ending else {
+        return Ok(String::from_str(alloc, "running")?);
+    };
+    if let Some(reason) = S::reason(&ending) {
+        return Ok(format!(in alloc; "fault {reason}")?);
+    }
+    Ok(String::from_str(alloc, word_of(&ending))?)
 }
 
 /// An answer.
