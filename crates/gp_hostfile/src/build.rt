@@ -14,7 +14,7 @@ use gp_values::{Atom, List};
 use std::alloc::Global;
 
 /// The graph of a tree, by the names of its nodes. Where the tree has no fault, only memory can be wanting. The tree's
-/// nodes are let go before the graph's edges take memory.
+/// nodes are let go before its edges are made.
 pub(crate) fn build(
     alloc: Global,
     tree: HostTree<'_>,
