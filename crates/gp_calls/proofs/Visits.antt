@@ -47,18 +47,6 @@ none_of_replicate n marks e k h = none_in_replicate n k (subst (λ m. IsMarked m
 
 -- ---- visits
 
-pub nothing_visited : (seen : List Bool) (left : List ℕ) → Visited [] seen seen left left
-nothing_visited seen left = record {
-  same_length = refl;
-  all_found = λ k h. absurd (omega (arith, h.1));
-  kept = λ k h. h;
-  only = λ k h. inl h;
-  still_left = λ k h. h;
-  new_left = λ k h. inl h;
-  left_seen = λ k h. inl h;
-  balance = refl;
-}
-
 pub visited_again : (f : List ℕ) (x : ℕ) (s0 s : List Bool) (l0 l : List ℕ) → IsMarked s x → Visited f s0 s l0 l → Visited (f ++ x ∷ []) s0 s l0 l
 visited_again f x s0 s l0 l h m = record {
   same_length = m.same_length;

@@ -4,9 +4,8 @@ use Rattle.std.specs.Option.{option_or}
 use Rattle.gp_values.specs.Names.{Name, first_unknown}
 use Rattle.gp_syntax.specs.declared.expression.Expr.{Expr}
 use Rattle.gp_syntax.specs.declared.expression.Cond.{Cond}
-use Rattle.gp_syntax.specs.declared.kinds.VariableType.{VariableType}
 use Rattle.gp_syntax.specs.declared.kinds.Comparison.{Comparison}
-use Rattle.gp_syntax.specs.Expression.{Expression, Number, Text, Variable, In_degree, Out_degree, Length_of, Negated, Empty, HasType, HasEdge, HasEdgeWith, Compared, Not}
+use Rattle.gp_syntax.specs.Expression.{Expression, Compared}
 use Rattle.gp_syntax.specs.Declaration.{variables_in, nodes_in}
 use Rattle.gp_syntax.specs.Fault.{first_told}
 use Rattle.gp_syntax.specs.Tree.{expression_of}
@@ -20,30 +19,6 @@ use Rattle.gp_clauses.specs.declared.condition_shape.Connective.{Connective}
 use Rattle.gp_clauses.specs.declared.condition_shape.Connective.TheVariants as connectives
 use Rattle.gp_clauses.specs.inside.ConditionShapes.{NamedCondition, named_condition, connected, with_part, condition_chain}
 use Rattle.gp_clauses.specs.inside.Known.{names_known, references, references_in_condition, unknown_in, unknown_in_condition}
-
-pub unknown-Number : (k : Known) (z : ℤ) → unknown_in k (Number z) ≡ None
-unknown-Number (known.Nodes s) z = refl
-unknown-Number (known.Variables t) z = refl
-
-pub unknown-Text : (k : Known) (s : List ℕ) → unknown_in k (Text s) ≡ None
-unknown-Text (known.Nodes s) z = refl
-unknown-Text (known.Variables t) z = refl
-
-pub unknown-Empty : (k : Known) → unknown_in k Empty ≡ None
-unknown-Empty (known.Nodes s) = refl
-unknown-Empty (known.Variables t) = refl
-
-pub unknown-Out_degree : (k : Known) (n : Name) → unknown_in k (Out_degree n) ≡ unknown_in k (In_degree n)
-unknown-Out_degree (known.Nodes s) n = refl
-unknown-Out_degree (known.Variables t) n = refl
-
-pub unknown-Length_of : (k : Known) (n : Name) → unknown_in k (Length_of n) ≡ unknown_in k (Variable n)
-unknown-Length_of (known.Nodes s) n = refl
-unknown-Length_of (known.Variables t) n = refl
-
-pub unknown-Negated : (k : Known) (e : Expression Name) → unknown_in k (Negated e) ≡ unknown_in k e
-unknown-Negated (known.Nodes s) e = refl
-unknown-Negated (known.Variables t) e = refl
 
 pub or_none : {A : Type 0} (a : Option A) → option_or a None ≡ a
 or_none None = refl
@@ -81,26 +56,9 @@ unknown_chain k e (l ∷ ls) =
 
 -- ---- conditions
 
-pub unknown-HasType : (k : Known) (w : VariableType) (e : Expression Name) → unknown_in_condition k (HasType w e) ≡ unknown_in k e
-unknown-HasType (known.Nodes s) w e = refl
-unknown-HasType (known.Variables t) w e = refl
-
-pub unknown-HasEdge : (k : Known) (a b : Name) → unknown_in_condition k (HasEdge a b) ≡ option_or (unknown_in k (In_degree a)) (unknown_in k (In_degree b))
-unknown-HasEdge (known.Nodes s) a b = unknown_append (names_known (known.Nodes s)) (a ∷ []) (b ∷ [])
-unknown-HasEdge (known.Variables t) a b = refl
-
-pub unknown-HasEdgeWith : (k : Known) (a b : Name) (e : Expression Name) (m : Option Name) → unknown_in_condition k (HasEdgeWith a b e m) ≡ option_or (option_or (unknown_in k (In_degree a)) (unknown_in k (In_degree b))) (unknown_in k e)
-unknown-HasEdgeWith (known.Nodes s) a b e m =
-    unknown_append (names_known (known.Nodes s)) (a ∷ b ∷ []) (nodes_in e) ∙ ap (λ o. option_or o (unknown_in (known.Nodes s) e)) (unknown_append (names_known (known.Nodes s)) (a ∷ []) (b ∷ []))
-unknown-HasEdgeWith (known.Variables t) a b e m = refl
-
 pub unknown-Compared : (k : Known) (op : Comparison) (d e : Expression Name) → unknown_in_condition k (Compared op d e) ≡ option_or (unknown_in k d) (unknown_in k e)
 unknown-Compared (known.Nodes s) op d e = unknown_append (names_known (known.Nodes s)) (nodes_in d) (nodes_in e)
 unknown-Compared (known.Variables t) op d e = unknown_append (names_known (known.Variables t)) (variables_in d) (variables_in e)
-
-pub unknown-Not : (k : Known) (c : NamedCondition) → unknown_in_condition k (Not c) ≡ unknown_in_condition k c
-unknown-Not (known.Nodes s) c = refl
-unknown-Not (known.Variables t) c = refl
 
 references_connected : (k : Known) (by : Connective) (c d : NamedCondition) → references_in_condition k (connected by c d) ≡ references_in_condition k c ++ references_in_condition k d
 references_connected (known.Nodes s) connectives.And c d = refl

@@ -24,9 +24,6 @@ few_sum a b = grind (arith, nat_tests)
 at_most_one : (a b : ℕ) → nat_le (a + b) 1 ≡ nat_le (few a + few b) 1
 at_most_one a b = grind (arith, nat_tests)
 
-pub one_of_few : (a : ℕ) → nat_le a 1 ≡ nat_le (few a) 1
-one_of_few a = grind (arith, nat_tests)
-
 plain-Negated : {Ref : Type 0} (e : Expression Ref) → has_no_operation (Negated e) ≡ is_numeral e
 plain-Negated (Number z) = refl
 plain-Negated (Text s) = refl

@@ -5,9 +5,9 @@ use Rattle.gp_tokens.specs.declared.token.Token.{Token}
 use Rattle.gp_grammar.specs.declared.error.ReadError.{ReadError}
 use Rattle.gp_grammar.specs.declared.error.ReadError.TheVariants as error
 use Rattle.gp_grammar.specs.declared.want.Want.{Want}
-use Rattle.gp_grammar.specs.Shape.{second_of, list_of}
+use Rattle.gp_grammar.specs.Shape.{second_of}
 use Rattle.gp_grammar.specs.Wants.{meets}
-use Rattle.gp_grammar.specs.inside.Reading.{Reader, ◌>>=◌, Fails, begins, behind, token, ◌and◌, made, many, repeated, separated}
+use Rattle.gp_grammar.specs.inside.Reading.{Reader, ◌>>=◌, Fails, begins, behind, token, ◌and◌, made, many, repeated}
 
 -- what was read before, and what is still read
 abbrev pub with_front : {A : Type 0} → List A → Option (List A × List Token) → Option (List A × List Token)
@@ -70,20 +70,6 @@ module _ {A : Type 0} (want : Want) (one : Reader A) (whole : Option (List A × 
 -- a sign, and one more
 abbrev pub next_of : {A : Type 0} → Want → Reader A → Reader A
 next_of sign one = made second_of (token sign and one)
-
--- once the first is read
-pub starts_behind : {A : Type 0} (sign : Want) (one : Reader A) (ts : List Token) (x : A) (start : List Token) → one ts ≡ Some (x, start)
-    → GoesOn sign (next_of sign one) (separated sign one ts) (x ∷ []) (length start) start
-starts_behind {A} sign one ts x start h = record { same = rw h (joined (many sign (next_of sign one) (length start) start)) }
-  where
-    joined : (read : Option (List A × List Token)) → with_front (x ∷ []) read ≡ made list_of (λ _. ◌>>=◌ {A = List A × List Token} {B = (A × List A) × List Token} read (λ y. Some ((x, y.0), y.1))) start
-    joined None = refl
-    joined (Some y) = refl
-
--- nothing is read where the first is not
-pub fails_first : {A : Type 0} (e : ReadError) (sign : Want) (one : Reader A) (ts : List Token) → Fails e (one ts) → Fails e (separated sign one ts)
-fails_first error.NoMemory sign one ts h = tt
-fails_first (error.Syntax k) sign one ts h = rw h refl
 
 pub next_is : {A : Type 0} (sign : Want) (one : Reader A) (ts : List Token) → begins sign ts ≡ true → next_of sign one ts ≡ one (behind sign ts)
 next_is sign one [] b = absurd cc

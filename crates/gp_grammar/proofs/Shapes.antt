@@ -123,10 +123,6 @@ pub many_never : {A : Type 0} (want : Want) (R : Shape A) → NeverBegins want R
 many_never want R p ts _ _ none e = e
 many_never want R p ts rest _ (more {mid = mid} {x = x} h hs) e = p ts mid x h tt
 
--- whatever comes behind it
-pub never_less : {A : Type 0} (want : Want) (R : Shape A) (F : List Token → Type 0) → NeverBegins want R Anything → NeverBegins want R F
-never_less want R F p ts rest x h f = p ts rest x h tt
-
 pub separated_begins : {A : Type 0} (want sign : Want) (R : Shape A) → Begins want R → Begins want (Separated sign R)
 separated_begins want sign R p = made_begins want list_of _ (then_begins want R _ p)
 

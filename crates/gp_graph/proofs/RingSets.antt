@@ -214,7 +214,3 @@ rings_remove first count nx pv first' count' nx' pv' Holds Holds' key e r one th
                 (λ m. (λ h. (q n m).1 (h, λ is. ne (one n key e (subst (Holds n) is h) there)), λ h. ((q n m).0 h).0)) (r.walks n),
           )
     ])
-
--- a ring counts its numbers
-pub ring_count : (first count nx pv : ℕ → ℕ) (Holds : ℕ → ℕ → Type 0) (n : ℕ) → AreRings first count nx pv Holds → length (follow nx (count n) (first n)) ≡ count n
-ring_count first count nx pv Holds n r = length-follow nx (count n) (first n)

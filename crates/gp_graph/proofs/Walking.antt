@@ -53,14 +53,8 @@ counts_in ns es n r = sym (length-follow (next_of Ending es) (count_of Ending ns
 abbrev pub gone_round : Side → Option ℕ → List (Option NodeSlot) → List (Option EdgeSlot) → ℕ → List ℕ
 gone_round side wanted ns es n = those (passes side wanted es) (ring_list side ns es n)
 
-pub walks_out_all : (ns : List (Option NodeSlot)) (es : List (Option EdgeSlot)) (n : ℕ) → HasRings Beginning ns es → Walks (gone_round Beginning None ns es n) (BeginsAt (graph_from ns es) n)
-walks_out_all ns es n r = rw (all_kept (ring_list Beginning ns es n)) (walks_out ns es n r)
-
 pub walks_in_all : (ns : List (Option NodeSlot)) (es : List (Option EdgeSlot)) (n : ℕ) → HasRings Ending ns es → Walks (gone_round Ending None ns es n) (EndsAt (graph_from ns es) n)
 walks_in_all ns es n r = rw (all_kept (ring_list Ending ns es n)) (walks_in ns es n r)
-
-pub counts_out_all : (ns : List (Option NodeSlot)) (es : List (Option EdgeSlot)) (n : ℕ) → HasRings Beginning ns es → length (gone_round Beginning None ns es n) ≡ out_degree (graph_from ns es) n
-counts_out_all ns es n r = out_degree-walk (graph_from ns es) n (gone_round Beginning None ns es n) (walks_out_all ns es n r)
 
 pub counts_in_all : (ns : List (Option NodeSlot)) (es : List (Option EdgeSlot)) (n : ℕ) → HasRings Ending ns es → length (gone_round Ending None ns es n) ≡ in_degree (graph_from ns es) n
 counts_in_all ns es n r = in_degree-walk (graph_from ns es) n (gone_round Ending None ns es n) (walks_in_all ns es n r)

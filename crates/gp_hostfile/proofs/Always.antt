@@ -11,9 +11,8 @@ use Rattle.gp_tokens.specs.declared.token.Token.{Token}
 use Rattle.gp_tokens.specs.Cut.{IsStuck, bad_byte, bad_byte_in_string, open_string, open_comment, number_too_long, IsFaultFrom, here, later}
 use Rattle.gp_tokens.specs.Lexed.{tokens_of}
 use Rattle.gp_tokens.proofs.Cuts.{fault_of}
-use Rattle.gp_grammar.specs.declared.numeral.Numeral.{Numeral}
 use Rattle.gp_grammar.specs.Grammar.{shape_of}
-use Rattle.gp_grammar.specs.Numerals.{integer_of, signed}
+use Rattle.gp_grammar.specs.Numerals.{signed}
 use Rattle.gp_grammar.specs.Shape.{Is, ◌then◌, Made, Many, one, other, none, more, second_of}
 use Rattle.gp_grammar.specs.Signs.{colon}
 use Rattle.gp_grammar.specs.inside.Reading.{◌>>=◌, reader_of}
@@ -48,7 +47,7 @@ some_fault bytes e h = fault_is_no_memory bytes 0 e (fault_of bytes e h)
 -- ---- the strings of a tree are texts
 
 abbrev pub HasText : AtomTree → Type 0
-HasText (atoms.Number n start) = Unit {0}
+HasText (atoms.Number negative start value) = Unit {0}
 HasText (atoms.String s) = IsText s
 
 abbrev pub AllTexts : List AtomTree → Type 0
@@ -110,7 +109,7 @@ mapped f None y h = absurd cc
 mapped f (Some x) y h = (x, refl, some_is (f x) y h)
 
 value_is_atom : (a : AtomTree) (x : Atom) → HasText a → atom_of a ≡ Some x → IsAtom x
-value_is_atom (atoms.Number n start) x t h = let p = mapped Int (integer_of n) x h in subst IsAtom p.2 (signed_fits n.negative n.value p.0 p.1)
+value_is_atom (atoms.Number negative start value) x t h = let p = mapped Int (signed negative value) x h in subst IsAtom p.2 (signed_fits negative value p.0 p.1)
 value_is_atom (atoms.String s) x t h = subst IsAtom (some_is (Str s) x h) t
 
 pub values_are_atoms : (label : List AtomTree) (v : List Atom) → AllTexts label → atoms_of label ≡ Some v → AreAtoms v

@@ -3,7 +3,7 @@ use Rattle.std.proofs.Common.{◌≡◌, ℕ, zero, suc, ◌+◌, ◌<◌, ◌�
 use Rattle.std.specs.Prelude.{slice_get, IsSome, option_map}
 use Rattle.std.specs.List.{position_from}
 use Rattle.gp_grammar.specs.inside.Reading.{◌>>=◌}
-use Rattle.gp_grammar.specs.Numerals.{integer_of}
+use Rattle.gp_grammar.specs.Numerals.{signed}
 use Rattle.gp_grammar.proofs.Shapes.{bind_some, some_is}
 use Rattle.gp_values.specs.declared.atom.Atom.{Atom}
 use Rattle.gp_values.specs.declared.atom.Atom.TheVariants.{Int, Str}
@@ -164,9 +164,9 @@ there y None h = absurd cc
 there y (Some x) h = (x, refl)
 
 valued : (a : AtomTree) → atom_fault a ≡ None → (x : Atom) × (atom_of a ≡ Some x)
-valued (atoms.Number n start) h = by (integer_of n) refl h
+valued (atoms.Number negative start value) h = by (signed negative value) refl h
   where
-    by : (o : Option _) → integer_of n ≡ o → option_map faults.NumberRange (unless start o) ≡ None → (x : Atom) × (option_map Int (integer_of n) ≡ Some x)
+    by : (o : Option _) → signed negative value ≡ o → option_map faults.NumberRange (unless start o) ≡ None → (x : Atom) × (option_map Int (signed negative value) ≡ Some x)
     by None e h = absurd cc
     by (Some z) e h = (Int z, rw e refl)
 valued (atoms.String s) h = (Str s, refl)

@@ -2,7 +2,7 @@
 use Rattle.std.proofs.Common.{◌≡◌, ℕ, zero, suc, ◌+◌, ◌^◌, ◌≤◌, true, List, [], ◌∷◌, ◌++◌, length, map, Option, Some, None, ℤ, decimal, refl, ap, subst, ◌∙◌, arith}
 use Rattle.std.specs.Prelude.{slice_get, option_map, flat_map}
 use Rattle.std.specs.Option.{option_or}
-use Rattle.gp_grammar.specs.Numerals.{integer_of}
+use Rattle.gp_grammar.specs.Numerals.{signed}
 use Rattle.gp_grammar.proofs.Shapes.{some_is}
 use Rattle.gp_values.specs.declared.atom.Atom.{Atom}
 use Rattle.gp_values.specs.declared.atom.Atom.TheVariants.{Int}
@@ -53,7 +53,7 @@ found_joined {A} {B} f (x ∷ xs) ys a b = go (f x) refl a (λ h. found_joined f
 -- ---- integers
 
 in_range : (a : AtomTree) (x : Atom) → atom_of a ≡ Some x → out_of_range a ≡ None
-in_range (atoms.Number n start) x h = go (integer_of n) h
+in_range (atoms.Number negative start value) x h = go (signed negative value) h
   where
     go : (o : Option ℤ) → option_map Int o ≡ Some x → unless start o ≡ None
     go None h = absurd cc

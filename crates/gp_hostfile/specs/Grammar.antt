@@ -25,10 +25,10 @@ optional want g = At want g (Absent (tt {0}))
 -- ---- labels
 
 abbrev pub positive : ℕ × ℕ → AtomTree
-positive (value, start) = atoms.Number (record { negative = false; value = value }) start
+positive (value, start) = atoms.Number false start value
 
 abbrev pub negative : Token × (ℕ × ℕ) → AtomTree
-negative (_, (value, start)) = atoms.Number (record { negative = true; value = value }) start
+negative (_, (value, start)) = atoms.Number true start value
 
 abbrev pub characters : List ℕ → AtomTree
 characters cs = atoms.String cs
@@ -79,7 +79,7 @@ unfoldable pub root : Grammar Bool
 root = At open_sign (Made rooted (One open_sign followed_by One root_word followed_by One close_sign)) (Absent false)
 
 abbrev pub node_of : Token × (Token × (Bool × (Token × ((List AtomTree × Option Name) × (Unit {0} × Token))))) → NodeTree
-node_of (_, (name, (root, (_, (label, _))))) = record { name = name.text; root = root; label = label.0; mark = label.1 }
+node_of (_, (name, (root, (_, (label, _))))) = record { name = name.text; label = label.0; mark = label.1; root = root }
 
 -- Node = "(" Item ["(" "R" ")"] "," Label [Position] ")"
 unfoldable pub node : Grammar NodeTree

@@ -5,7 +5,7 @@ use Rattle.gp_tokens.specs.declared.fault.LexFault.{LexFault}
 use Rattle.gp_tokens.specs.declared.fault.LexFault.TheVariants as lex_faults
 use Rattle.gp_tokens.specs.declared.token.Token.{Token}
 use Rattle.gp_tokens.specs.Lexed.{tokens_of}
-use Rattle.gp_grammar.specs.Numerals.{integer_of}
+use Rattle.gp_grammar.specs.Numerals.{signed}
 use Rattle.gp_grammar.specs.inside.Reading.{◌>>=◌}
 use Rattle.gp_values.specs.declared.atom.Atom.{Atom}
 use Rattle.gp_values.specs.declared.atom.Atom.TheVariants.{Int, Str}
@@ -30,7 +30,7 @@ use Rattle.gp_memory.specs.Free.{Free}
 
 -- the value of an atom; 2 ^ 127 without a minus has none
 abbrev pub atom_of : AtomTree → Option Atom
-atom_of (atoms.Number n start) = option_map Int (integer_of n)
+atom_of (atoms.Number negative start value) = option_map Int (signed negative value)
 atom_of (atoms.String s) = Some (Str s)
 
 -- the list of a label, where each of its atoms has a value
@@ -72,7 +72,7 @@ unless y (Some x) = None
 
 -- the offset of a number that has no value
 abbrev pub out_of_range : AtomTree → Option ℕ
-out_of_range (atoms.Number n start) = unless start (integer_of n)
+out_of_range (atoms.Number negative start value) = unless start (signed negative value)
 out_of_range (atoms.String s) = None
 
 -- the first, in the labels of nodes and then of edges

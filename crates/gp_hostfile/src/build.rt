@@ -103,7 +103,11 @@ fn atom_value(alloc: Global, atom: &AtomTree) -> Result<Atom, HostFault>
     ensures { Makes (λ a. a) result (atom_of atom.now) }
 {
     match atom {
-        AtomTree::Number(numeral, start) => Ok(Atom::Int(integer(numeral, *start)?)),
+        AtomTree::Number {
+            negative,
+            start,
+            value,
+        } => Ok(Atom::Int(integer(*negative, *value, *start)?)),
         AtomTree::String(characters) => Ok(Atom::Str(characters.copy(alloc)?)),
     }
 }

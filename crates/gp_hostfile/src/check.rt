@@ -2,7 +2,7 @@
 
 ghost use Rattle.std.specs.Prelude.{◌≡◌, map, IfOk, option_map};
 ghost use Rattle.std.specs.Option.{option_or};
-ghost use Rattle.gp_grammar.specs.Numerals.{integer_of};
+ghost use Rattle.gp_grammar.specs.Numerals.{signed};
 ghost use Rattle.gp_values.specs.Names.{place_of, first_doubled};
 ghost use Rattle.gp_hostfile.specs.Host.{node_mark, edge_mark, first_found, first_fault, first_out_of_range, first_wrong_mark, node_names};
 ghost use Rattle.gp_hostfile.specs.inside.Stages.{Checks, Finds, tree_in, atom_fault, label_fault, ends_fault, node_mark_fault, edge_mark_fault};
@@ -68,16 +68,22 @@ fn check_label(label: &[AtomTree]) -> Result<(), HostFault>
 fn check_atom(atom: &AtomTree) -> Result<(), HostFault>
     ensures { Checks result (atom_fault atom.now) }
 {
-    if let AtomTree::Number(numeral, start) = atom {
-        integer(numeral, *start)?;
+    if let AtomTree::Number {
+        negative,
+        start,
+        value,
+    } = atom
+    {
+        integer(*negative, *value, *start)?;
     }
     Ok(())
 }
 
 /// The integer, or the fault that it is out of range.
-pub(crate) fn integer(numeral: &Numeral, start: u64) -> Result<i128, HostFault>
-    ensures { Finds result (integer_of numeral.now) (faults.NumberRange start) }
+pub(crate) fn integer(negative: bool, value: u128, start: u64) -> Result<i128, HostFault>
+    ensures { Finds result (signed negative value) (faults.NumberRange start) }
 {
+    let numeral = Numeral { negative, value };
     match numeral.integer() {
         Some(value) => Ok(value),
         None => Err(HostFault::NumberRange(start)),

@@ -6,7 +6,7 @@ ghost use Rattle.gp_grammar.specs.inside.Reading.{reader_of};
 ghost use Rattle.gp_hostfile.specs.Grammar as spec;
 
 use crate::tree::{AtomTree, AtomTrees, EdgeTree, HostTree, NodeTree};
-use gp_grammar::{Numeral, ReadError, Tokens, Want, repeated_by, separated_by, stands_before};
+use gp_grammar::{ReadError, Tokens, Want, repeated_by, separated_by, stands_before};
 use gp_tokens::{Keyword, Kind, Slice, Token};
 
 const OPEN: Want = Want::Kind(Kind::OpenParenthesis);
@@ -33,7 +33,11 @@ fn read_atom(tokens: &mut Tokens<'_, '_>) -> Result<AtomTree, ReadError>
     let negative = tokens.eat(MINUS);
     if negative || tokens.begins(NUMBER) {
         let (value, start) = tokens.number_at()?;
-        return Ok(AtomTree::Number(Numeral { negative, value }, start));
+        return Ok(AtomTree::Number {
+            negative,
+            start,
+            value,
+        });
     }
     Ok(AtomTree::String(tokens.string()?))
 }
@@ -43,12 +47,11 @@ fn read_atom(tokens: &mut Tokens<'_, '_>) -> Result<AtomTree, ReadError>
 fn read_atoms(tokens: &mut Tokens<'_, '_>) -> Result<AtomTrees, ReadError>
     ensures { Reads (reader_of spec.atom_list tokens.old) result tokens.new }
 {
-    let alloc = tokens.alloc();
     if tokens.eat(Want::Keyword(Keyword::Empty)) {
-        return Ok(AtomTrees::new(alloc));
+        return Ok(AtomTrees::new(tokens.alloc()));
     }
     let atoms = separated_by(tokens, Want::Kind(Kind::Colon), read_atom)?;
-    Ok(AtomTrees::from_vec(alloc, atoms)?)
+    Ok(AtomTrees::from_vec(atoms))
 }
 
 // ["#" Word]
@@ -128,9 +131,9 @@ fn read_node<'t>(tokens: &mut Tokens<'_, 't>) -> Result<NodeTree<'t>, ReadError>
     tokens.expect(CLOSE)?;
     Ok(NodeTree {
         name: name.text.again(),
-        root,
         label,
         mark,
+        root,
     })
 }
 

@@ -1,46 +1,46 @@
 //! Hosts as they are spelled. Names and words are slices of the text.
 
-ghost use Rattle.std.specs.Prelude.{◌≡◌, [], IfOk};
+ghost use Rattle.std.specs.Prelude.{◌≡◌, []};
 
-use gp_grammar::Numeral;
-use gp_memory::NoMemory;
 use gp_tokens::Slice;
 use gp_values::Chars;
-use smallvec::SmallVec;
 use std::alloc::Global;
 use std::marker::Model;
+use std::slice::from_ref;
 
-/// An atom: an integer with the offset of its Number, or the characters of a string.
+/// An atom: an integer, by whether a minus stands before it, the offset of its Number and the value of that, or the
+/// characters of a string. The fields stand in the order that takes the least memory, as those of all trees here.
 #[derive(Drop)]
 pub(crate) enum AtomTree {
-    Number(Numeral, u64),
+    Number {
+        negative: bool,
+        start: u64,
+        value: u128,
+    },
     String(Chars),
 }
 
-// What fills the room of a list.
-impl Default for AtomTree {
-    fn default() -> AtomTree {
-        let numeral = Numeral {
-            negative: false,
-            value: 0,
-        };
-        AtomTree::Number(numeral, 0)
-    }
+// Where the atoms of a label are held: one takes no memory of its own.
+#[derive(Drop)]
+pub(crate) enum Held {
+    One(AtomTree),
+    Many(Vec<AtomTree>),
 }
 
-/// The atoms of a label. Contracts see their list. One atom takes no memory of its own.
+/// The atoms of a label. Contracts see their list.
 #[derive(Drop)]
 pub(crate) struct AtomTrees {
-    atoms: SmallVec<AtomTree, 1>,
+    held: Held,
 }
 
 impl Model for AtomTrees {
     ghost use Rattle.std.specs.Prelude.{List};
     ghost use Rattle.gp_hostfile.specs.declared.tree.AtomTree.{AtomTree};
+    ghost use Rattle.gp_hostfile.specs.inside.Held.{held_atoms};
 
     ghost Value = { List AtomTree };
 
-    ghost view = { λ t. t.atoms.items };
+    ghost view = { λ t. held_atoms t.held };
 }
 
 impl AtomTrees {
@@ -49,36 +49,41 @@ impl AtomTrees {
         ensures { result ≡ [] }
     {
         AtomTrees {
-            atoms: SmallVec::new(alloc),
+            held: Held::Many(Vec::new(alloc)),
         }
     }
 
     /// The list of these.
-    pub(crate) fn from_vec(alloc: Global, atoms: Vec<AtomTree>) -> Result<AtomTrees, NoMemory>
-        ensures { IfOk result (λ t. t ≡ atoms.items) }
+    pub(crate) fn from_vec(atoms: Vec<AtomTree>) -> AtomTrees
+        ensures { result ≡ atoms.items }
     {
-        let mut held = SmallVec::new(alloc);
-        for atom in atoms {
-            held.push(atom)?;
-        }
-        Ok(AtomTrees { atoms: held })
+        let mut atoms = atoms;
+        let last = if atoms.len() == 1 { atoms.pop() } else { None };
+        let held = match last {
+            Some(atom) => Held::One(atom),
+            None => Held::Many(atoms),
+        };
+        AtomTrees { held }
     }
 
     /// The atoms, in order.
     pub(crate) fn as_slice(&self) -> &[AtomTree]
         ensures { result.now ≡ self.now }
     {
-        self.atoms.as_slice()
+        match &self.held {
+            Held::One(atom) => from_ref(atom),
+            Held::Many(atoms) => atoms.as_slice(),
+        }
     }
 }
 
-/// A node: its name, whether it is a root, the atoms of its label, and its mark's word.
+/// A node: its name, the atoms of its label, its mark's word, and whether it is a root.
 #[derive(Drop)]
 pub(crate) struct NodeTree<'t> {
     pub(crate) name: Slice<'t>,
-    pub(crate) root: bool,
     pub(crate) label: AtomTrees,
     pub(crate) mark: Option<Slice<'t>>,
+    pub(crate) root: bool,
 }
 
 /// An edge: its name, those of its ends, the atoms of its label, and its mark's word.

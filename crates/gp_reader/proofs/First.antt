@@ -1,5 +1,5 @@
 -- The first fault of the rules of a text.
-use Rattle.std.proofs.Common.{◌≡◌, List, [], ◌∷◌, Option, Some, None, refl, sym, ◌∙◌}
+use Rattle.std.proofs.Common.{◌≡◌, List, [], ◌∷◌, Option, Some, None, refl, ◌∙◌}
 use Rattle.std.specs.Prelude.{option_map}
 use Rattle.std.specs.Option.{option_or}
 use Rattle.gp_values.specs.Names.{Name}
@@ -9,7 +9,6 @@ use Rattle.gp_syntax.specs.Fault as meant
 use Rattle.gp_check.specs.declared.fault.RuleFault.{RuleFault}
 use Rattle.gp_check.specs.declared.fault.RuleFault.TheVariants as rule_faults
 use Rattle.gp_check.specs.Answer.{Refuses}
-use Rattle.gp_reader.specs.declared.fault.ProgramFault.{ProgramFault}
 use Rattle.gp_reader.specs.declared.fault.ProgramFault.TheVariants as faults
 use Rattle.gp_reader.specs.Program.{first_faulty}
 use Rattle.gp_reader.specs.inside.Stages.{rule_fault, RefusesRules}
@@ -37,21 +36,6 @@ refused_one d rule_faults.NoMemory h = tt
 more_behind : (d : Declaration) (fault : Option Fault) (later : Option (Name × Fault)) (x : Name × Fault) → found_first d fault None ≡ Some x → found_first d fault later ≡ Some x
 more_behind d None later x h = absurd cc
 more_behind d (Some f) later x h = h
-
--- the first declaration is at fault, before others
-pub refused_here : (d : Declaration) (rest ds : List Declaration) (e : ProgramFault) → first_faulty (d ∷ rest) ≡ first_faulty ds → RefusesRules (d ∷ []) e → RefusesRules ds e
-refused_here d rest ds (faults.Rule name e) same h = record {
-  fault = h.fault;
-  first = sym same ∙ more_behind d (fault_of d) (first_faulty rest) (name, h.fault) h.first;
-  told = h.told;
-  known = h.known;
-}
-refused_here d rest ds faults.NoMemory same h = tt
-refused_here d rest ds (faults.Lex e) same h = absurd h
-refused_here d rest ds (faults.TooDeep line) same h = absurd h
-refused_here d rest ds (faults.Syntax line) same h = absurd h
-refused_here d rest ds (faults.NumberRange line) same h = absurd h
-refused_here d rest ds (faults.Scope e) same h = absurd h
 
 -- it has none
 pub passed : (d : Declaration) (rest : List Declaration) → fault_of d ≡ None → first_faulty rest ≡ first_faulty (d ∷ rest)

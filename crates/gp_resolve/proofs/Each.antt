@@ -27,10 +27,6 @@ each_of_some {A} P f (x ∷ xs) u = kept (f x) (filter f xs) u.0 (each_of_some P
     kept true rest p r = (p, r)
     kept false rest p r = r
 
-pub each_so : {A : Type 0} (P Q : A → Type 0) (xs : List A) → ((x : A) → P x → Q x) → Each P xs → Each Q xs
-each_so P Q [] f u = tt
-each_so P Q (x ∷ xs) f u = (f x u.0, each_so P Q xs f u.1)
-
 -- an element is the first one, or one of the others
 pub first_or : {A : Type 0} (c x : A) (cs : List A) → Contains (c ∷ cs) x → (c ≡ x) ⊎ Contains cs x
 first_or c x cs h = elim (Contains-append_cases (c ∷ []) cs x h) [ inl d ↦ elim (Contains-push_cases [] c x d) [ inl n ↦ absurd (omega (arith, n.1)) | inr e ↦ inl e ] | inr r ↦ inr r ]

@@ -36,9 +36,5 @@ last_weighs all left rest done d e f =
 abbrev pub Done : List Decl → List Decl → List RuleDecl → List RuleDecl → Type 0
 Done all left old taken = (done : List Decl) × ((all ≡ left ++ done) × (reverse taken ≡ rules_in (outline done) ++ reverse old))
 
-pub one_done : (all left rest : List Decl) (d : Decl) (old taken new : List RuleDecl) → Done all left old taken → left ≡ rest ++ d ∷ [] → TakesRules d taken new → Done all rest old new
-one_done all left rest d old taken new i e t =
-    (d ∷ i.0, (i.1.0 ∙ ap (λ l. l ++ i.0) e ∙ append_assoc rest (d ∷ []) i.0, t (outline i.0) (reverse old) i.1.1))
-
 pub all_done : (all left : List Decl) (old taken : List RuleDecl) → Done all left old taken → left ≡ [] → reverse taken ≡ rules_in (outline all) ++ reverse old
 all_done all left old taken i e = i.1.1 ∙ ap (λ l. rules_in (outline l) ++ reverse old) (sym (i.1.0 ∙ ap (λ l. l ++ i.0) e))

@@ -2,7 +2,6 @@
 
 mod bits;
 mod commands;
-mod cores;
 mod crews;
 mod journals;
 mod replay;

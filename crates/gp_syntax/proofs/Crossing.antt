@@ -38,9 +38,6 @@ label_field_sync = search (sendable, chars.the_sync, boxed.the_sync, items.the_s
 expression_field_sync : IsSync (expression.the_field u32).row
 expression_field_sync = search (sendable, chars.the_sync, boxed.the_sync, items.the_sync, signed.the_sync, sum_sign.the_sync, product_sign.the_sync, sync-Expr, crosses) depth 20
 
-expression_sync : IsSync (expression.the_row u32)
-expression_sync = search (expression_field_sync, sendable) depth 20
-
 condition_field_sync : IsSync (condition.the_field u32 (patterns.the_row edge_marks.the_row)).row
 condition_field_sync = search (sendable, expression_field_sync, boxed.the_sync, items.the_sync, edge_mark.the_sync, sync-Cond, crosses) depth 20
 

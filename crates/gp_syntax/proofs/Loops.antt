@@ -3,7 +3,7 @@ use Rattle.std.proofs.Common.{◌≡◌, ℕ, Bool, List, [], ◌∷◌, ◌++�
 use Rattle.gp_values.specs.Graph.{Graph}
 use Rattle.gp_syntax.specs.Rule.{Found}
 use Rattle.gp_syntax.specs.Step.{CallsTo, Blocked}
-use Rattle.gp_syntax.specs.Run.{Command, Call, Loop, Program, Item, Stepped, Turned, Back, Ending, Gives, At, AtTurn, at_call, Run, call_steps, call_fails, call_stands, loop_stands, loop_goes_on, loop_ends, loop_body_stands}
+use Rattle.gp_syntax.specs.Run.{Command, Call, Loop, Program, Item, Stepped, Turned, Back, Ending, Gives, AtTurn, Run, call_steps, call_fails, loop_stands, loop_goes_on, loop_ends}
 
 -- After these picks and items of the loop `p!` it stands at a turn with the graph h: whatever it does from there, it
 -- does from g.
@@ -35,7 +35,3 @@ at_turn_now {a = a} {t = t} f = f.onward [] a [] t _ (sym (append-nil a)) (sym (
 pub ended : {program : Program} {c : ℕ} {set : List ℕ} {g h : Graph} {a : List Bool} {t : List Item} → SoFar program (Call c) g a t h → slice_get program.sets c ≡ Some set → Blocked program.rules set h →
     Run program (Loop (Call c)) g a (t ++ Turned ∷ Back 0 ∷ []) (Gives h)
 ended {a = a} f s b = f.onward [] a (Turned ∷ Back 0 ∷ []) _ _ (sym (append-nil a)) refl (loop_ends (call_fails s b) refl)
-
--- and stands before its call
-pub at_call_now : {program : Program} {c : ℕ} {g h : Graph} {a : List Bool} {t : List Item} → SoFar program (Call c) g a t h → Run program (Loop (Call c)) g a (t ++ Turned ∷ []) (At c h)
-at_call_now {a = a} f = f.onward [] a (Turned ∷ []) _ _ (sym (append-nil a)) refl (loop_body_stands call_stands at_call refl)

@@ -22,13 +22,13 @@ use Rattle.opt_core.specs.declared.event.Ending.{Ending}
 use Rattle.opt_core.specs.Core.{Core, Legal, IsUsed, reached, AllApply}
 use Rattle.opt_worker.specs.Replica.{IsReplica}
 use Rattle.gp_journal.specs.Trail.{Trail, root_of, rooted, fresh, led, advanced, back_by}
-use Rattle.gp_journal.specs.Leads.{StepsBy, Goes, Leads, CaughtUp}
+use Rattle.gp_journal.specs.Leads.{StepsBy, Goes, Leads}
 use Rattle.gp_journal.specs.Journal.{items_of, noted, IsJournalOf}
 use Rattle.gp_journal.proofs.Replays.{caught_back}
 use Rattle.gp_system.specs.declared.goal.CallGoal.{CallGoal}
 use Rattle.gp_system.specs.declared.goal.Fault.{Fault}
 use Rattle.gp_system.specs.Gp.{RuleSystem, rules_of, gp_means}
-use Rattle.gp_system.specs.inside.Viewed.{Shown, Grows}
+use Rattle.gp_system.specs.inside.Viewed.{Shown}
 use Rattle.gp_system.specs.inside.Pursued.{IsPursued, IsCrewed, IsBehind, HasUsed, system_of}
 use Rattle.gp_system.proofs.Systems.{well_formed_at}
 use Rattle.gp_system.proofs.Pursuits.{leads_taken, reached_root, reached_caught}
@@ -86,11 +86,6 @@ way_on rules n is first t u w a b =
     subst (λ (l : List meant.Item). Leads rules l t u) (sym (drop_items n is))
     (subst (λ (x : Trail). Leads rules (drop n (items_of is)) x u) (one_way rules (take n (items_of is)) first c.0 t w c.1 a) c.2)
 
-same_take : {X : Type 0} (n : ℕ) (xs ys : List X) → n ≤ length xs → take n (xs ++ ys) ≡ take n xs
-same_take zero xs ys l = refl
-same_take (suc n) [] ys l = absurd (omega arith)
-same_take (suc n) (x ∷ xs) ys l = ap (λ (k : List _). x ∷ k) (same_take n xs ys (omega arith))
-
 take_whole : {X : Type 0} (xs : List X) → take (length xs) xs ≡ xs
 take_whole [] = refl
 take_whole (x ∷ xs) = ap (λ (l : List _). x ∷ l) (take_whole xs)
@@ -100,11 +95,6 @@ length-items [] = refl
 length-items (i ∷ is) = ap suc (length-items is)
 
 -- ---- catching up
-
-pub caught_all : (rules : List Rule) (is : List Item) (t u : Trail) → u.caught ≡ length is → CaughtUp rules (items_of is) t u → Leads rules (items_of is) t (record u { caught = t.caught })
-caught_all rules is t u e c =
-    let k : take u.caught (items_of is) ≡ items_of is = ap (λ (n : ℕ). take n (items_of is)) (e ∙ sym (length-items is)) ∙ take_whole (items_of is) in
-    subst (λ (l : List meant.Item). Leads rules l t (record u { caught = t.caught })) k c.leads
 
 -- where catching up led, a trail is that forgot how many items it had
 pub brought_there : (rules : List Rule) (is : List Item) (old new t : Trail) → All IsWellFormed rules → Leads rules (items_of is) old t → t.caught ≡ 0 → Leads rules (items_of is) old (record new { caught = old.caught }) → new.caught ≡ 0 → new ≡ t
@@ -131,26 +121,6 @@ module _ {State Found Goal Reason : Type 0} (m : Meaning State Found Goal Reason
   rest_reached base at new es n e f = f ∙ ap (λ (s : State). reached m s (drop n es)) e ∙ sym (reach_append base (take n es) (drop n es)) ∙ ap (reached m base) (take_drop n es)
 
 -- ---- what a run with a crew keeps
-
-pub crewed_on : (v w : Shown) (gp : RuleSystem) (workers : ℕ) (replicas : List Trail) (had : ℕ) → IsCrewed v gp workers replicas had → Grows v w → IsCrewed w gp workers replicas had
-crewed_on v w gp workers replicas had k g =
-    let long : had ≤ length (items_of v.journal.items) = subst (λ (n : ℕ). had ≤ n) (sym (length-items v.journal.items)) k.within in
-    let same : take had (items_of w.journal.items) ≡ take had (items_of v.journal.items) = ap (take had) g.items ∙ same_take had (items_of v.journal.items) g.more long in
-    record {
-      system = k.system ∙ ap (λ (p : ProgramParts). system_of p gp.further) (sym g.program);
-      some = k.some;
-      within = (
-          let a : length (items_of w.journal.items) ≡ length (items_of v.journal.items ++ g.more) = ap (λ (l : List meant.Item). length l) g.items in
-          let b = length-append (items_of v.journal.items) g.more in
-          let c = length-items w.journal.items in
-          omega arith
-          );
-      follow = subst (λ (p : ProgramParts). All (λ t. Leads (map rule_of_tree p.rules) (take had (items_of w.journal.items)) (fresh (root_of w.journal.trail)) t) replicas) (sym g.program)
-          (subst (λ (x : Graph). All (λ t. Leads (map rule_of_tree v.program.rules) (take had (items_of w.journal.items)) (fresh x) t) replicas) (sym g.first)
-          (subst (λ (l : List meant.Item). All (λ t. Leads (map rule_of_tree v.program.rules) l (fresh (root_of v.journal.trail)) t) replicas) (sym same) k.follow));
-      few = k.few;
-      settled = g.caught ∙ k.settled;
-    }
 
 -- ---- each of them
 

@@ -25,7 +25,7 @@ use Rattle.gp_syntax.specs.WellFormed.{IsWellFormed}
 use Rattle.gp_unify.proofs.Candidates.{one_step}
 use Rattle.gp_step.proofs.Afters.{applying_steps}
 use Rattle.gp_journal.specs.Trail.{Trail, root_of, led_by, back_by, rooted}
-use Rattle.gp_journal.specs.Leads.{AppliesBy, Led}
+use Rattle.gp_journal.specs.Leads.{Led}
 use Rattle.gp_journal.specs.Journal.{Journal, IsJournalOf, items_of, with_step, with_turn, with_mark, with_back}
 use Rattle.gp_journal.proofs.Replays.{rooted_back, caught_back}
 use Rattle.gp_journal.proofs.Stacks.{along, all_replay}
@@ -55,9 +55,6 @@ spent_here c s m a e = record {
   none_left = e;
   applies = record { found = m; in_set = a.found.in_set; rule = a.found.rule; is_rule = a.found.is_rule; applies = a.found.holds };
 }
-
-pub applies_by : (p : Program) (c : ℕ) (g : Graph) (m : Found) → AppliesForCall p c g m → AppliesBy p.rules g m
-applies_by p c g m a = record { rule = a.found.rule; is_rule = a.found.is_rule; applies = a.found.holds }
 
 well_formed_at : (rules : List Rule) (i : ℕ) (r : Rule) → All IsWellFormed rules → slice_get rules i ≡ Some r → IsWellFormed r
 well_formed_at rules i r w e = subst IsWellFormed (get_or_from_slice_get rules i r r e) (w i r (slice_get_within rules i r e))
@@ -115,9 +112,6 @@ faulty_here c k s m kind e a = (
   subst (λ (i : ℕ). HasFaulty c i kind (view_of s)) (sym e)
       (record { set = a.set; is_set = a.is_set; in_set = a.sought.0.in_set; the_rule = a.sought.0.rule; is_rule = a.sought.0.is_rule; found = m; faulty = a.sought.0.holds }),
 )
-
-pub applies_here : (p : Program) (c : ℕ) (g : Graph) (m : Found) → HasSoughtCall p c g (answers.Applies m) → AppliesForCall p c g m
-applies_here p c g m a = record { set = a.set; is_set = a.is_set; found = a.sought }
 
 -- ---- marks, and taking back
 

@@ -48,15 +48,6 @@ all_stand-append (p ∷ ps) qs behind a b =
     let e : spelled ps ++ (spelled qs ++ behind) ≡ spelled (ps ++ qs) ++ behind = sym (append_assoc (spelled ps) (spelled qs) behind) ∙ ap (λ t. t ++ behind) (sym (spelled-append ps qs)) in
     (rw e at a.0, all_stand-append ps qs behind a.1 b)
 
-pub tokens_at-append : (at : ℕ) (ps qs : List Piece) → tokens_at at (ps ++ qs) ≡ tokens_at at ps ++ tokens_at (at + length (spelled ps)) qs
-tokens_at-append at [] qs = let e : at ≡ at + 0 = omega arith in ap (λ k. tokens_at k qs) e
-tokens_at-append at (blank b ∷ ps) qs =
-    let e : (at + 1) + length (spelled ps) ≡ at + length (b ∷ spelled ps) = omega arith in
-    tokens_at-append (at + 1) ps qs ∙ ap (λ k. tokens_at (at + 1) ps ++ tokens_at k qs) e
-tokens_at-append at (word kind text ∷ ps) qs =
-    let e : (at + length text) + length (spelled ps) ≡ at + length (text ++ spelled ps) = omega (arith, length-append text (spelled ps)) in
-    ap (λ ts. token kind at text ∷ ts) (tokens_at-append (at + length text) ps qs ∙ ap (λ k. tokens_at (at + length text) ps ++ tokens_at k qs) e)
-
 lexed_pieces : (at : ℕ) (ps : List Piece) → AllStand ps [] → lexed 0 at (spelled ps) ≡ Ok (tokens_at at ps)
 lexed_pieces at [] s = refl
 lexed_pieces at (blank b ∷ ps) s =

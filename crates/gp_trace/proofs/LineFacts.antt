@@ -1,8 +1,7 @@
 -- Lines that are read.
-use Rattle.std.proofs.Common.{inl, inr, ◌≡◌, ℕ, zero, suc, ◌+◌, ◌<◌, ◌≤◌, Bool, true, false, List, [], ◌∷◌, ◌++◌, length, map, take, drop, get_or, refl, sym, ap, subst, ◌∙◌, arith, append_assoc, append-nil}
+use Rattle.std.proofs.Common.{◌≡◌, ℕ, zero, suc, ◌+◌, ◌<◌, ◌≤◌, Bool, true, false, List, [], ◌∷◌, ◌++◌, length, map, take, drop, refl, sym, ap, subst, ◌∙◌, arith, append_assoc, append-nil}
 use Rattle.std.specs.Prelude.{◌⊎◌, ◌==◌, All, flat_map, codes, slice_index_or}
 use Rattle.std.specs.List.{join_with_byte}
-use Rattle.std.proofs.lemmas.Bool.{eqb-true}
 use Rattle.std.proofs.lemmas.List.{length-map}
 use Rattle.std.specs.Cmp.Lexicographic.{pointwise}
 use Rattle.std.proofs.Math.Dec.{eqb}
@@ -11,53 +10,20 @@ use Rattle.std.proofs.lemmas.Bool.Decides.{Decides-eqb}
 use Rattle.gp_syntax.specs.declared.found.Item.{Item as Recorded}
 use Rattle.gp_syntax.specs.Tree.{item_of}
 use Rattle.gp_syntax.specs.Run.{Item}
-use Rattle.gp_trace.specs.declared.fault.TraceFault.{TraceFault}
-use Rattle.gp_trace.specs.declared.fault.TraceFault.TheVariants.{Line, NoMemory}
 use Rattle.gp_trace.specs.TraceText.{item_words, item_line}
-use Rattle.gp_trace.specs.Reading.{CanBeHeld, IsTraceOf, HasFault, BreaksAt, StopsShort, GoesOn}
-use Rattle.gp_trace.specs.inside.Lines.{item_lines, IsFeedless, EndsLine, EndsNoLine, AreLinesOf, LinesStop, LinesGoOn, HasLineFault}
+use Rattle.gp_trace.specs.Reading.{CanBeHeld, BreaksAt}
+use Rattle.gp_trace.specs.inside.Lines.{item_lines, EndsLine, EndsNoLine, LinesStop}
 use Rattle.gp_trace.specs.inside.Words.{IsLineOf, IsLineOfNone}
 use Rattle.gp_trace.proofs.Bytes.{lacks, lack_all, no_cut, cut_same}
 use Rattle.gp_trace.proofs.Items.{all_tail, feedless, line_is, end_itemless, IsItemless}
 
 -- ---- the end of a line
 
-cut_at : (xs : List ℕ) (i d : ℕ) → i < length xs → get_or xs i d ≡ 10 → xs ≡ take i xs ++ (10 ∷ drop (i + 1) xs)
-cut_at [] i d b h = absurd (omega arith)
-cut_at (x ∷ xs) zero d b h = ap (λ y. y ∷ xs) h
-cut_at (x ∷ xs) (suc i) d b h = let e : suc i + 1 ≡ suc (i + 1) = omega arith in rw e (ap (λ l. x ∷ l) (cut_at xs i d (omega arith) h))
-
-before_at : (xs : List ℕ) (i : ℕ) → ((k d : ℕ) → k < i → k < length xs → (get_or xs k d == 10) ≡ false) → IsFeedless (take i xs)
-before_at [] zero h k d b = absurd (omega arith)
-before_at [] (suc i) h k d b = absurd (omega arith)
-before_at (x ∷ xs) zero h k d b = absurd (omega arith)
-before_at (x ∷ xs) (suc i) h zero d b = h 0 d (omega arith) (omega arith)
-before_at (x ∷ xs) (suc i) h (suc k) d b = before_at xs i (λ j c l m. h (suc j) c (omega arith) (omega arith)) k d (omega arith)
-
-pub line_ends : (xs : List ℕ) (i d : ℕ) → i < length xs → (get_or xs i d == 10) ≡ true → ((k d : ℕ) → k < i → k < length xs → (get_or xs k d == 10) ≡ false) → EndsLine xs i
-line_ends xs i d b h before = record { within = b; cut = cut_at xs i d b (eqb-true _ 10 h); line = before_at xs i before }
-
-index_same : (xs : List ℕ) (k d e : ℕ) → k < length xs → get_or xs k d ≡ get_or xs k e
-index_same [] k d e b = absurd (omega arith)
-index_same (x ∷ xs) zero d e b = refl
-index_same (x ∷ xs) (suc k) d e b = index_same xs k d e (omega arith)
-
-pub no_feed_more : (xs : List ℕ) (i d : ℕ) → i < length xs → (get_or xs i d == 10) ≡ false → ((k d : ℕ) → k < i → k < length xs → (get_or xs k d == 10) ≡ false) → (k c : ℕ) → k < i + 1 → k < length xs → (get_or xs k c == 10) ≡ false
-no_feed_more xs i d b h before k c l m =
-    let cases : (k < i) ⊎ (k ≡ i) = grind arith in
-    elim cases [ inl s ↦ before k c s m | inr s ↦ ap (λ v. v == 10) (index_same xs k c d m) ∙ subst (λ j. (get_or xs j d == 10) ≡ false) (sym s) h ]
-
-pub no_feed_end : (xs : List ℕ) (i : ℕ) → length xs ≤ i → ((k d : ℕ) → k < i → k < length xs → (get_or xs k d == 10) ≡ false) → EndsNoLine xs
-no_feed_end xs i b before k d m = before k d (omega arith) m
-
 -- ---- items that were read
 
 pub record HasRead (text : List ℕ) (items : List Item) (rest : List ℕ) : Type 0 where
   pub begins : text ≡ item_lines items ++ rest
   pub held : All CanBeHeld items
-
-pub read_none : (text : List ℕ) → HasRead text [] text
-read_none text = record { begins = refl; held = λ k d b. absurd (omega arith) }
 
 lines_append : (s : List Item) (i : Item) → item_lines (s ++ i ∷ []) ≡ item_lines s ++ item_line i
 lines_append [] i = append-nil (item_line i)
@@ -78,25 +44,6 @@ read_more text items rest n i was ends h = record {
   begins = was.begins ∙ ap (λ l. item_lines items ++ l) (line_here (take n rest) rest (drop (n + 1) rest) i ends.cut h)
       ∙ sym (append_assoc (item_lines items) (item_line i) (drop (n + 1) rest)) ∙ ap (λ l. l ++ drop (n + 1) rest) (sym (lines_append items i));
   held = all_more CanBeHeld items i was.held h.held;
-}
-
-end_here : (rest : List ℕ) (n : ℕ) → EndsLine rest n → take n rest ≡ codes "end" → rest ≡ codes "end\n" ++ drop (n + 1) rest
-end_here rest n ends h = ends.cut ∙ ap (λ l. l ++ (10 ∷ drop (n + 1) rest)) h
-
-pub read_end : (text : List ℕ) (items : List Item) (rest : List ℕ) (n : ℕ) → HasRead text items rest → EndsLine rest n → take n rest ≡ codes "end" → drop (n + 1) rest ≡ [] → AreLinesOf text items
-read_end text items rest n was ends h e = record {
-  text_is = was.begins ∙ ap (λ l. item_lines items ++ l) (end_here rest n ends h ∙ ap (λ l. codes "end\n" ++ l) e);
-  held = was.held;
-}
-
-pub read_past : (text : List ℕ) (items : List Item) (rest : List ℕ) (n k : ℕ) → HasRead text items rest → EndsLine rest n → take n rest ≡ codes "end" → (drop (n + 1) rest ≡ [] → ⊥) → k ≡ length items + 3 → LinesGoOn text k
-read_past text items rest n k was ends h e c = record {
-  items = items;
-  rest = drop (n + 1) rest;
-  held = was.held;
-  begins = was.begins ∙ ap (λ l. item_lines items ++ l) (end_here rest n ends h);
-  more = e;
-  line = c;
 }
 
 -- the line is neither that of an item nor the end
@@ -128,27 +75,6 @@ read_out text items rest k was ends c = record {
 }
 
 -- ---- behind the header
-
-pub header_items : (text lines : List ℕ) (items : List Item) → text ≡ codes "gp2-trace 1\n" ++ lines → AreLinesOf lines items → IsTraceOf text items
-header_items text lines items e h = record { text_is = e ∙ ap (λ l. codes "gp2-trace 1\n" ++ l) h.text_is; held = h.held }
-
-header_stop : (text lines : List ℕ) (n : ℕ) → text ≡ codes "gp2-trace 1\n" ++ lines → LinesStop lines n → StopsShort text n
-header_stop text lines n e h = record { items = h.items; rest = h.rest; held = h.held; begins = e ∙ ap (λ l. codes "gp2-trace 1\n" ++ l) h.begins; no_item = h.no_item; no_end = h.no_end; line = h.line }
-
-header_on : (text lines : List ℕ) (n : ℕ) → text ≡ codes "gp2-trace 1\n" ++ lines → LinesGoOn lines n → GoesOn text n
-header_on text lines n e h = record {
-  items = h.items;
-  rest = h.rest;
-  held = h.held;
-  begins = e ∙ ap (λ l. codes "gp2-trace 1\n" ++ l) (h.begins ∙ sym (append_assoc (item_lines h.items) (codes "end\n") h.rest))
-      ∙ sym (append_assoc (codes "gp2-trace 1\n") (item_lines h.items ++ codes "end\n") h.rest);
-  more = h.more;
-  line = h.line;
-}
-
-pub header_fault : (text lines : List ℕ) (f : TraceFault) → text ≡ codes "gp2-trace 1\n" ++ lines → HasLineFault lines f → HasFault text f
-header_fault text lines (Line n) e h = inr (elim h [ inl s ↦ inl (header_stop text lines n e s) | inr s ↦ inr (header_on text lines n e s) ])
-header_fault text lines NoMemory e h = h
 
 -- ---- turns of the loop, over the items that it holds
 

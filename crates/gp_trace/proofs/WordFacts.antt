@@ -1,5 +1,5 @@
 -- Words that are read.
-use Rattle.std.proofs.Common.{inl, inr, ◌≡◌, ℕ, zero, suc, ◌+◌, ◌-◌, ◌<◌, ◌≤◌, ◌^◌, Bool, true, false, List, [], ◌∷◌, ◌++◌, length, map, take, drop, get_or, refl, sym, ap, subst, ◌∙◌, arith, lit<, decimal, append-nil, Bor}
+use Rattle.std.proofs.Common.{◌≡◌, ℕ, zero, suc, ◌+◌, ◌-◌, ◌<◌, ◌≤◌, ◌^◌, Bool, true, false, List, [], ◌∷◌, ◌++◌, length, map, take, drop, get_or, refl, sym, ap, subst, ◌∙◌, arith, lit<, decimal, append-nil, Bor}
 use Rattle.std.specs.Prelude.{◌⊎◌, ◌==◌, All, Option, Some, None, Result, Ok, Err, IfOk, MatchBool, slice_get, slice_index_or, codes, MatchOption, IsTrue, if◌then◌else◌}
 use Rattle.std.specs.Bool.{Decides}
 use Rattle.std.specs.List.{slice_split, join_with_byte}
@@ -17,7 +17,7 @@ use Rattle.gp_syntax.specs.declared.found.Item.{Item as Recorded}
 use Rattle.gp_syntax.specs.Tree.{item_of}
 use Rattle.gp_syntax.specs.Rule.{Found}
 use Rattle.gp_syntax.specs.Run.{Item, Stepped, Turned, Back}
-use Rattle.gp_trace.specs.TraceText.{image_word, images_of, found_words, item_words}
+use Rattle.gp_trace.specs.TraceText.{image_word, images_of, item_words}
 use Rattle.gp_trace.specs.Reading.{IsNumber, IsHeld, CanBeHeld}
 use Rattle.gp_trace.specs.inside.Words.{SpellsNumber, SpellsNoNumber, SpellsImage, SpellsNoImage, SpellsNumbers, SpellsNoNumbers, SpellsImages, SpellsNoImages, PutsNodes, PutsEdges, SpellsFound, SpellsNoFound, SpellsBack, SpellsNoBack, SpellsItem, SpellsNoItem, IsLineOf, IsLineOfNone, StandsFirst, StandsNowhere, HasFrame}
 use Rattle.gp_trace.proofs.Items.{all_head, all_tail, not_word, nodes_same, words_back}
@@ -45,26 +45,12 @@ word_is_by ws k d w b h decides = (λ t. text_at ws k d h ∙ ap Some (decides.0
 pub first_here : (ws : List (List ℕ)) (w : List ℕ) (i : ℕ) → slice_get ws i ≡ Some w → ((k : ℕ) → k < i → slice_get ws k ≡ Some w → ⊥) → StandsFirst ws w i
 first_here ws w i h before = record { within = within_of ws i w h; at = h; not_before = before }
 
-pub nowhere_more : (ws : List (List ℕ)) (w : List ℕ) (i : ℕ) → (slice_get ws i ≡ Some w → ⊥) → ((k : ℕ) → k < i → slice_get ws k ≡ Some w → ⊥) → (k : ℕ) → k < i + 1 → slice_get ws k ≡ Some w → ⊥
-nowhere_more ws w i now before k b e =
-    let cases : (k < i) ⊎ (k ≡ i) = grind arith in
-    elim cases [ inl l ↦ before k l e | inr s ↦ now (subst (λ j. slice_get ws j ≡ Some w) s e) ]
-
-pub nowhere_end : (ws : List (List ℕ)) (w : List ℕ) (i : ℕ) → length ws ≤ i → ((k : ℕ) → k < i → slice_get ws k ≡ Some w → ⊥) → StandsNowhere ws w
-nowhere_end ws w i b before k e = let h = within_of ws k w e in before k (omega arith) e
-
 -- ---- short lists
 
 pub one_word : (ws : List (List ℕ)) (w : List ℕ) → length ws ≡ 1 → slice_get ws 0 ≡ Some w → ws ≡ w ∷ []
 one_word [] w l h = absurd cc
 one_word (v ∷ []) w l h = ap (λ u. u ∷ []) (same_Some v w h)
 one_word (v ∷ u ∷ ws) w l h = absurd (omega arith)
-
-pub two_words : (ws : List (List ℕ)) (v w : List ℕ) → length ws ≡ 2 → slice_get ws 0 ≡ Some v → slice_get ws 1 ≡ Some w → v ∷ (w ∷ []) ≡ ws
-two_words [] v w l h k = absurd cc
-two_words (a ∷ []) v w l h k = absurd cc
-two_words (a ∷ b ∷ []) v w l h k = sym (ap (λ u. u ∷ (b ∷ [])) (same_Some a v h) ∙ ap (λ u. v ∷ (u ∷ [])) (same_Some b w k))
-two_words (a ∷ b ∷ x ∷ ws) v w l h k = absurd (omega arith)
 
 -- ---- numbers and images
 
@@ -112,9 +98,6 @@ take_past [] (suc k) b = refl
 take_past (x ∷ xs) zero b = absurd (omega arith)
 take_past (x ∷ xs) (suc k) b = ap (λ l. x ∷ l) (take_past xs k (omega arith))
 
-pub nodes_none : (ws : List (List ℕ)) (m : Found) → m.nodes ≡ [] → PutsNodes (take 0 ws) m m
-nodes_none ws m e = record { spells = record { words = ap (map decimal) e; numbers = λ k d b. absurd (let l : length m.nodes ≡ 0 = ap length e in omega arith) }; rule = refl; edges = refl; reversed = refl }
-
 pub nodes_more : (ws : List (List ℕ)) (k : ℕ) (w : List ℕ) (n : ℕ) (m0 m : Found) → slice_get ws k ≡ Some w → SpellsNumber w n → PutsNodes (take k ws) m0 m
     → (m' : Found) → m' ≡ record m { nodes = m.nodes ++ n ∷ [] } → PutsNodes (take (k + 1) ws) m0 m'
 nodes_more ws k w n m0 m at h was m' e =
@@ -128,9 +111,6 @@ nodes_more ws k w n m0 m at h was m' e =
       reversed = was.reversed;
     } in subst (PutsNodes (take (k + 1) ws) m0) (sym e) done
 
-pub nodes_all : (ws : List (List ℕ)) (k : ℕ) (m0 m : Found) → length ws ≤ k → PutsNodes (take k ws) m0 m → PutsNodes ws m0 m
-nodes_all ws k m0 m b h = subst (λ l. PutsNodes l m0 m) (take_past ws k b) h
-
 numbers_at : (ns : List ℕ) (k : ℕ) (w : List ℕ) → All IsNumber ns → slice_get (map decimal ns) k ≡ Some w → (n : ℕ) × SpellsNumber w n
 numbers_at [] k w h e = absurd cc
 numbers_at (n ∷ ns) zero w h e = (n, record { word = same_Some _ _ e; number = all_head IsNumber n ns h })
@@ -138,9 +118,6 @@ numbers_at (n ∷ ns) (suc k) w h e = numbers_at ns k w (all_tail IsNumber n ns 
 
 pub no_nodes : (ws : List (List ℕ)) (k : ℕ) (w : List ℕ) → slice_get ws k ≡ Some w → SpellsNoNumber w → SpellsNoNumbers ws
 no_nodes ws k w at none ns h = let x = numbers_at ns k w h.numbers (ap (λ l. slice_get l k) h.words ∙ at) in none x.0 x.1
-
-pub edges_none : (ws : List (List ℕ)) (m : Found) → m.edges ≡ [] → m.reversed ≡ [] → PutsEdges (take 0 ws) m m
-edges_none ws m e r = record { images = []; spells = record { words = refl; numbers = λ k d b. absurd (omega arith) }; edges = e; reversed = r; rule = refl; nodes = refl }
 
 pub edges_more : (ws : List (List ℕ)) (k : ℕ) (w : List ℕ) (i : EdgeImage) (m0 m : Found) → slice_get ws k ≡ Some w → SpellsImage w i → PutsEdges (take k ws) m0 m
     → (m' : Found) → m' ≡ record m { edges = m.edges ++ i.number ∷ []; reversed = m.reversed ++ i.reversed ∷ [] } → PutsEdges (take (k + 1) ws) m0 m'
@@ -156,9 +133,6 @@ edges_more ws k w i m0 m at h was m' e =
       rule = was.rule;
       nodes = was.nodes;
     } in subst (PutsEdges (take (k + 1) ws) m0) (sym e) done
-
-pub edges_all : (ws : List (List ℕ)) (k : ℕ) (m0 m : Found) → length ws ≤ k → PutsEdges (take k ws) m0 m → PutsEdges ws m0 m
-edges_all ws k m0 m b h = subst (λ l. PutsEdges l m0 m) (take_past ws k b) h
 
 images_at : (is : List EdgeImage) (k : ℕ) (w : List ℕ) → All (λ (j : EdgeImage). IsNumber j.number) is → slice_get (map image_word is) k ≡ Some w → (i : EdgeImage) × SpellsImage w i
 images_at [] k w h e = absurd cc
@@ -244,22 +218,12 @@ no_found_nodes ws rule end frame none m h = none m.nodes (record { words = sym (
 pub no_found_edges : (ws : List (List ℕ)) (rule end : ℕ) → HasFrame ws rule end → SpellsNoImages (drop (end + 1) (drop 3 ws)) → SpellsNoFound ws
 no_found_edges ws rule end frame none m h = none (images_of m.edges m.reversed) (record { words = sym (found_split ws rule end m frame h).1; numbers = images_of_numbers m.edges m.reversed h.held.edges })
 
--- why no match is spelled
-pub no_found_word : (ws : List (List ℕ)) (k : ℕ) (w : List ℕ) → ((m : Found) → slice_get (found_words m) k ≡ Some w) → (slice_get ws k ≡ Some w → ⊥) → SpellsNoFound ws
-no_found_word ws k w has none m h = none (ap (λ l. slice_get l k) (sym h.words) ∙ has m)
-
-pub no_found_rule : (ws : List (List ℕ)) (w : List ℕ) → slice_get ws 1 ≡ Some w → ((n : ℕ) → n < 2 ^ 32 → decimal n ≡ w → ⊥) → SpellsNoFound ws
-no_found_rule ws w at none m h = none m.rule h.held.rule (same_Some _ _ (ap (λ l. slice_get l 1) h.words ∙ at))
-
 edges_stand : (ns : List ℕ) (xs : List (List ℕ)) → slice_get (map decimal ns ++ (codes "edges" ∷ xs)) (length ns) ≡ Some (codes "edges")
 edges_stand [] xs = refl
 edges_stand (n ∷ ns) xs = edges_stand ns xs
 
 pub no_found_edges_word : (ws : List (List ℕ)) → StandsNowhere (drop 3 ws) (codes "edges") → SpellsNoFound ws
 no_found_edges_word ws none m h = none (length m.nodes) (ap (λ l. slice_get l (length m.nodes)) (behind_three ws m h) ∙ edges_stand m.nodes _)
-
-pub no_found_short : (ws : List (List ℕ)) → length ws < 3 → SpellsNoFound ws
-no_found_short ws b m h = let e = ap length h.words in let f : 3 ≤ length (found_words m) = omega arith in omega arith
 
 -- ---- items and lines
 

@@ -19,7 +19,7 @@ use Rattle.gp_unify.specs.Known.{Known}
 use Rattle.gp_unify.specs.declared.mismatch.Mismatch.{Mismatch}
 use Rattle.gp_unify.specs.declared.mismatch.Mismatch.TheVariants as mismatch
 use Rattle.gp_unify.specs.inside.Unify.{Rest, rest, behind, characters_in, atoms_in, keep_rest, keep_value, told_rest, on_text, read_text, unify_text, read}
-use Rattle.gp_unify.specs.inside.Reading.{Refuses, Begins, BeginsValue, Hands, Reads, Tells, text_step, join_step, total, all_characters, all_atoms, size_step, size, sizes}
+use Rattle.gp_unify.specs.inside.Reading.{Refuses, Begins, BeginsValue, Hands, Reads, text_step, join_step, all_characters, all_atoms, size_step, size, sizes}
 
 -- ---- sizes
 
@@ -63,21 +63,6 @@ characters_of_dots ts e (l ∷ ls) = let k = characters_of_dots ts (Dot e (label
 pub atoms_of_joins : (ts : ℕ → VariableType) (e : Expression ℕ) (ls : List SimpleLabel) → atoms_in ts (joins e (map label_of ls)) ≡ atoms_in ts e + all_atoms ts ls
 atoms_of_joins ts e [] = omega arith
 atoms_of_joins ts e (l ∷ ls) = let k = atoms_of_joins ts (Join e (label_of l)) ls in omega arith
-
--- one part of a chain less
-pub total_on : (f : SimpleLabel → ℕ) (ls : List SimpleLabel) (i : ℕ) (l : SimpleLabel) → i < length ls → l ≡ get_or ls i l → total (map f (drop i ls)) ≡ f l + total (map f (drop (i + 1) ls))
-total_on f ls i l b e = let n : suc i ≡ i + 1 = omega arith in subst (λ k. total (map f (drop i ls)) ≡ f l + total (map f (drop k ls))) n (by ls i b e)
-  where
-    by : (ms : List SimpleLabel) (j : ℕ) → j < length ms → l ≡ get_or ms j l → total (map f (drop j ms)) ≡ f l + total (map f (drop (suc j) ms))
-    by [] j b e = absurd (omega arith)
-    by (m ∷ ms) zero b e = ap (λ z. f z + total (map f ms)) (sym e)
-    by (m ∷ ms) (suc j) b e = by ms j (omega arith) e
-
-pub total_past : (f : SimpleLabel → ℕ) (ls : List SimpleLabel) (i : ℕ) → length ls ≤ i → total (map f (drop i ls)) ≡ 0
-total_past f [] zero l = refl
-total_past f [] (suc i) l = refl
-total_past f (x ∷ ls) zero l = absurd (omega arith)
-total_past f (x ∷ ls) (suc i) l = total_past f ls i (omega arith)
 
 -- a chain of one label is that label
 one_join : {X : Type 0} (f : Expression ℕ → X) (l : SimpleLabel) (ls : List SimpleLabel) → ls ≡ [] → f (label_of (label.Join l ls)) ≡ f (label_of l)
@@ -219,7 +204,3 @@ value_read (Err e) o (NoValue n) v a h k = refused_whole e None h.1 refl
 pub refused : {X : Type 0} (r : Result (Bor (List X)) Mismatch) (e : Mismatch) (o : Option (Rest X)) (b : PartialAssignment) → IsErrAnd r (λ k. k ≡ e) → Refuses e o → Reads r o b
 refused (Ok x) e o b h k = absurd h
 refused (Err d) e o b h k = subst (λ z. Refuses z o) (sym h) k
-
-pub refused_tell : {X : Type 0} (r : Result X Mismatch) (e : Mismatch) (o : Option Known) (b : PartialAssignment) → IsErrAnd r (λ k. k ≡ e) → Refuses e o → Tells r o b
-refused_tell (Ok x) e o b h k = absurd h
-refused_tell (Err d) e o b h k = subst (λ z. Refuses z o) (sym h) k

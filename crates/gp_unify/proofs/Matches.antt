@@ -295,7 +295,3 @@ module _ (r : RuleParts) (g : Graph) (m : Found) (wf : IsWellFormed (rule_of_tre
   pub none_from_nothing : (p : PartialAssignment) (k : Bool) → k ≡ false → TellsAll (Ok k) told_now a p → (b : Assignment) → LabelsFit (rule_of_tree r) g m b → ⊥
   none_from_nothing p k e h =
       none_fits (rule_of_tree r) g m wf nodes_too edges_too (subst (λ (z : Known). unify_all (type_in r.types) (left_labels (rule_of_tree r)) (found_labels g m) z ≡ None) begins (told_no k told_now a p e h))
-
--- where there are not as many images
-pub none_counts : (r : RuleParts) (g : Graph) (m : Found) → (length r.left_nodes ≡ length m.nodes → length r.left_edges ≡ length m.edges → ⊥) → (b : Assignment) → LabelsFit (rule_of_tree r) g m b → ⊥
-none_counts r g m d b h = d (sym (h.node_count ∙ length-map r.left_nodes left_node_of)) (sym (h.edge_count ∙ length-map r.left_edges left_edge_of))

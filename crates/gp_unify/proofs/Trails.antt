@@ -49,10 +49,6 @@ known_set a x v e =
 
 -- ---- trails
 
-pub cleared_types : (xs : List ℕ) (a : PartialAssignment) → (cleared xs a).types ≡ a.types
-cleared_types [] a = refl
-cleared_types (x ∷ xs) a = cleared_types xs a
-
 cleared_both : (xs ys : List ℕ) (a : PartialAssignment) → cleared (xs ++ ys) a ≡ cleared xs (cleared ys a)
 cleared_both [] ys a = refl
 cleared_both (x ∷ xs) ys a = ap (λ (b : PartialAssignment). with_set b x None) (cleared_both xs ys a)

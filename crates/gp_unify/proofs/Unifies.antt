@@ -2,7 +2,6 @@
 use Rattle.std.proofs.Common.{◌≡◌, ◌⊎◌, inl, inr, ℕ, zero, suc, ◌+◌, ◌-◌, ◌≤◌, ◌<◌, ◌==◌, Bool, true, false, List, [], ◌∷◌, ◌++◌, length, take, drop, Option, Some, None, IsSome, option_and_then, slice_index_or, slice_get, refl, sym, ap, subst, ◌∙◌, arith, length-append, append_assoc, append-nil, take-append-drop, ℤ, pos, negsuc, ◌^◌, int_le, int_lt, ◌&&◌, if◌then◌else◌, neg_ℤ, nat_eq, All, Any}
 use Rattle.std.specs.Cmp.Lexicographic.{pointwise, bytes_decides}
 use Rattle.std.proofs.lemmas.Option.{none-some}
-use Rattle.std.proofs.lemmas.List.{drop_all}
 use Rattle.std.proofs.lemmas.Bool.Decides.{Decides-eqb}
 use Rattle.std.proofs.lemmas.Bool.{cases_eq}
 use Rattle.gp_values.specs.declared.atom.Atom.{Atom}
@@ -218,9 +217,6 @@ reads_on : {X : Type 0} (o : Option (Rest X)) (f : List X → Known → Option (
 reads_on o f v w a u g =
     let k = g u.0 u.2 in
     (k.0, ap (λ z. behind z f) u.1 ∙ k.1, k.2)
-
-told_reads : {X : Type 0} (o : Option Known) (v : List X) (a : Assignment) → Unified o a → ReadTo (told_rest o v) v a
-told_reads o v a u = (u.0, ap (λ z. told_rest z v) u.1, u.2)
 
 ends_unified : {X : Type 0} (o : Option (Rest X)) (a : Assignment) → ReadTo o [] a → Unified (behind o (λ w q. ended w q)) a
 ends_unified o a u = (u.0, ap (λ z. behind z (λ w q. ended w q)) u.1, u.2)
@@ -713,6 +709,3 @@ unify_on ts es vs i e o p q m g h k f =
 
 pub unify_stops : (ts : ℕ → VariableType) (es : List (Expression ℕ)) (vs : List (Option (List Atom))) (i : ℕ) (e : Expression ℕ) (o : Option (List Atom)) (p : Known) (m : Option Known) → slice_get es i ≡ Some e → slice_get vs i ≡ Some o → unify_all ts (drop i es) (drop i vs) p ≡ m → unify_all ts (e ∷ []) (o ∷ []) p ≡ None → m ≡ None
 unify_stops ts es vs i e o p m g h k f = sym (one_more ts es vs i e o p m g h k) ∙ ap (λ z. option_and_then (λ q. unify_all ts (drop (suc i) es) (drop (suc i) vs) q) z) f
-
-pub unify_ends : (ts : ℕ → VariableType) (es : List (Expression ℕ)) (vs : List (Option (List Atom))) (i : ℕ) (p : Known) (m : Option Known) → length es ≤ i → length vs ≤ i → unify_all ts (drop i es) (drop i vs) p ≡ m → m ≡ Some p
-unify_ends ts es vs i p m l n k = sym k ∙ ap (λ z. unify_all ts z (drop i vs) p) (drop_all i es l) ∙ ap (λ z. unify_all ts [] z p) (drop_all i vs n)

@@ -1,11 +1,12 @@
-//! Cores over cells and traps: events of senders who were told of few entries, and their answers.
+//! Cores over cells and traps, and over the rules of programs: events of senders who were told of few entries, and their answers.
 
+mod rules;
 mod sending;
 
 ghost use Rattle.std.specs.Prelude.{◌≡◌, OnOk};
 ghost use Rattle.opt_core.specs.Runs.{SameStart};
 
-use super::texts::{Numbered, event_of, text_of, text_of_ending};
+use super::texts::{Spelled, event_of, text_of, text_of_ending};
 use opt_cells::{CellRow, Cells, CellsGoal, Traps};
 use opt_core::sharing::{
     core_may_be_shared, core_may_be_taken, ending_may_be_taken, entries_may_be_taken,
@@ -15,7 +16,6 @@ use opt_core::{Core, Ending, Event, Reply};
 use opt_system::Mode;
 use sending::send;
 use std::alloc::Global;
-use std::fmt::Debug;
 use std::test::Fail;
 
 // Cells, true or false, with the mode, the shares and the items of a goal; the events that are sent to its core, each
@@ -141,7 +141,7 @@ const ON_TRAPS: [(u64, &str, &str); 3] = [
 ];
 
 // Sends the event, if it may come, and notes the answer.
-fn answer<S: Numbered>(
+fn answer<S: Spelled>(
     alloc: Global,
     s: &S,
     core: &mut Core<S>,
@@ -150,15 +150,13 @@ fn answer<S: Numbered>(
     event: &str,
     text: &mut String,
 ) -> Result<(), Fail>
-where
-    S::Found: Debug,
     requires system { s.now ≡ core.old.system }
     requires entries { entries.old.items ≡ core.old.entries }
     requires base { base ≡ core.old.base }
     ensures start { SameStart core.old core.new }
     ensures entries { OnOk result (core.new.entries ≡ entries.new.items) }
 {
-    let event = event_of::<S>(event)?;
+    let event = event_of::<S>(alloc, event)?;
     let reply = send(s, core, entries, base, event)?;
     text.push_str(text_of::<S>(alloc, reply)?.as_str())?;
     text.push_str(", ")?;
@@ -166,13 +164,11 @@ where
 }
 
 // What the core is then.
-fn ended<S: Numbered>(alloc: Global, core: Core<S>, answers: String) -> Result<String, Fail>
-where
-    S::Found: Debug,
-{
+fn ended<S: Spelled>(alloc: Global, core: Core<S>, answers: String) -> Result<String, Fail> {
     let (_, entries, left, ending) = core.into_parts();
+    let entries = S::founds(alloc, entries.as_slice())?;
     let ending = text_of_ending::<S>(alloc, ending)?;
-    Ok(format!(in alloc; "{answers}{:?} {left} {ending}", entries.as_slice())?)
+    Ok(format!(in alloc; "{answers}{entries} {left} {ending}")?)
 }
 
 fn cells_of(alloc: Global, text: &str) -> Result<Vec<bool>, Fail> {

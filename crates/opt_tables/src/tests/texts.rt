@@ -4,40 +4,54 @@ use opt_cells::{Cells, Never, Traps};
 use opt_core::{Ending, Event, Reply};
 use opt_system::System;
 use std::alloc::Global;
-use std::fmt::Debug;
 use std::test::Fail;
 
-/// A system whose matches are numbers, as are the reasons of its faults, if it has faults.
-pub(crate) trait Numbered: System {
-    fn found(number: u32) -> Self::Found;
+/// A system whose matches, and the reasons of whose faults, have texts.
+pub(crate) trait Spelled: System {
+    /// The match of a word.
+    fn found(alloc: Global, word: &str) -> Result<Self::Found, Fail>;
 
-    fn reason(ending: &Ending<Self::Reason>) -> Option<u64>;
+    /// The matches, in brackets.
+    fn founds(alloc: Global, entries: &[Self::Found]) -> Result<String, Fail>;
+
+    /// How a goal ended, with the reason of its fault.
+    fn ended(alloc: Global, ending: &Ending<Self::Reason>) -> Result<String, Fail>;
 }
 
-impl Numbered for Cells {
-    fn found(number: u32) -> usize {
-        number as usize
+impl Spelled for Cells {
+    fn found(_alloc: Global, word: &str) -> Result<usize, Fail> {
+        Ok(number_of(Some(word))? as usize)
     }
 
-    fn reason(_ending: &Ending<Never>) -> Option<u64> {
-        None
+    fn founds(alloc: Global, entries: &[usize]) -> Result<String, Fail> {
+        Ok(format!(in alloc; "{entries:?}")?)
+    }
+
+    fn ended(alloc: Global, ending: &Ending<Never>) -> Result<String, Fail> {
+        Ok(String::from_str(alloc, word_of(ending))?)
     }
 }
 
-impl Numbered for Traps {
-    fn found(number: u32) -> u64 {
-        u64::from(number)
+impl Spelled for Traps {
+    fn found(_alloc: Global, word: &str) -> Result<u64, Fail> {
+        Ok(u64::from(number_of(Some(word))?))
     }
 
-    fn reason(ending: &Ending<u64>) -> Option<u64> {
-        match ending {
-            Ending::Fault(reason) => Some(*reason),
-            _ => None,
+    fn founds(alloc: Global, entries: &[u64]) -> Result<String, Fail> {
+        Ok(format!(in alloc; "{entries:?}")?)
+    }
+
+    fn ended(alloc: Global, ending: &Ending<u64>) -> Result<String, Fail> {
+        let word = word_of(ending);
+        if let Ending::Fault(reason) = ending {
+            return Ok(format!(in alloc; "{word} {reason}")?);
         }
+        Ok(String::from_str(alloc, word)?)
     }
 }
 
-fn number_of(word: Option<&str>) -> Result<u32, Fail> {
+/// The number of a word.
+pub(crate) fn number_of(word: Option<&str>) -> Result<u32, Fail> {
     let Some(word) = word else {
         return Err(Fail::from("a number is missing"));
     };
@@ -48,31 +62,31 @@ fn number_of(word: Option<&str>) -> Result<u32, Fail> {
 }
 
 /// The event of a text such as `offer 0 1`.
-pub(crate) fn event_of<S: Numbered>(text: &str) -> Result<Event<S::Found>, Fail> {
+pub(crate) fn event_of<S: Spelled>(alloc: Global, text: &str) -> Result<Event<S::Found>, Fail> {
     let mut words = text.trim().split(' ');
     let name = words.next().unwrap_or("");
     if name == "stop" {
         return Ok(Event::Stop);
     }
     let told = u64::from(number_of(words.next())?);
-    let number = number_of(words.next())?;
+    let word = words.next();
     if name == "look" {
-        return Ok(Event::Look { told, from: number });
+        let from = number_of(word)?;
+        return Ok(Event::Look { told, from });
     }
     if name == "quiet" {
-        return Ok(Event::Quiet {
-            told,
-            share: number,
-        });
+        let share = number_of(word)?;
+        return Ok(Event::Quiet { told, share });
     }
-    let found = S::found(number);
+    let found = S::found(alloc, word.unwrap_or(""))?;
     if name == "offer" {
         return Ok(Event::Offer { told, found });
     }
     Ok(Event::Fault { told, found })
 }
 
-fn word_of<R>(ending: &Ending<R>) -> &'static str {
+/// How a goal ended, without the reason of its fault.
+pub(crate) fn word_of<R>(ending: &Ending<R>) -> &'static str {
     match ending {
         Ending::Committed => "committed",
         Ending::Blocked => "blocked",
@@ -82,38 +96,35 @@ fn word_of<R>(ending: &Ending<R>) -> &'static str {
     }
 }
 
-/// How a goal ended.
-pub(crate) fn text_of_ending<S: Numbered>(
+/// How a goal ended, where it has.
+pub(crate) fn text_of_ending<S: Spelled>(
     alloc: Global,
     ending: Option<Ending<S::Reason>>,
 ) -> Result<String, Fail> {
-    let Some(ending) = ending else {
-        return Ok(String::from_str(alloc, "running")?);
-    };
-    if let Some(reason) = S::reason(&ending) {
-        return Ok(format!(in alloc; "fault {reason}")?);
+    match ending {
+        Some(ending) => S::ended(alloc, &ending),
+        None => Ok(String::from_str(alloc, "running")?),
     }
-    Ok(String::from_str(alloc, word_of(&ending))?)
 }
 
 /// An answer.
-pub(crate) fn text_of<S: Numbered>(
+pub(crate) fn text_of<S: Spelled>(
     alloc: Global,
     reply: Option<Reply<S::Found, S::Reason>>,
-) -> Result<String, Fail>
-where
-    S::Found: Debug,
-{
+) -> Result<String, Fail> {
     let Some(reply) = reply else {
         return Ok(String::from_str(alloc, "may not come")?);
     };
     Ok(match reply {
-        Reply::News { entries, task } => format!(in alloc; "news {:?} {task}", entries.as_slice())?,
+        Reply::News { entries, task } => {
+            let entries = S::founds(alloc, entries.as_slice())?;
+            format!(in alloc; "news {entries} {task}")?
+        }
         Reply::Committed(place) => format!(in alloc; "committed {place}")?,
         Reply::Stale(count) => format!(in alloc; "stale {count}")?,
         Reply::Noted => String::from_str(alloc, "noted")?,
         Reply::Closed(ending) => {
-            let ending = text_of_ending::<S>(alloc, Some(ending))?;
+            let ending = S::ended(alloc, &ending)?;
             format!(in alloc; "closed {ending}")?
         }
         Reply::NoMemory => String::from_str(alloc, "no memory")?,
