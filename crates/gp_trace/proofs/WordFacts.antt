@@ -68,13 +68,6 @@ pub image_tail : (w x : List ℕ) (o : Option EdgeImage) → SpellsNoNumber w �
 image_tail w x None hw e h = λ i k. image_tail_none w x i.number i.reversed hw h e k.number k.word
 image_tail w x (Some i) hw e h = image_tail_some w x i e h.0 h.1
 
-image_no_tail-at : (w : List ℕ) (n : ℕ) (b : Bool) → SpellsNoNumber w → ((x : List ℕ) → w ≡ x ++ codes "~" → ⊥) → IsNumber n → decimal n ++ (if b then codes "~" else []) ≡ w → ⊥
-image_no_tail-at w n true hw none k h = none (decimal n) (sym h)
-image_no_tail-at w n false hw none k h = hw n (record { word = sym (append-nil (decimal n)) ∙ h; number = k })
-
-pub image_no_tail : (w : List ℕ) → SpellsNoNumber w → ((x : List ℕ) → w ≡ x ++ codes "~" → ⊥) → SpellsNoImage w
-image_no_tail w hw none i k = image_no_tail-at w i.number i.reversed hw none k.number k.word
-
 -- ---- lists of words
 
 take_more : {A : Type 0} (xs : List A) (k : ℕ) (x : A) → slice_get xs k ≡ Some x → take (k + 1) xs ≡ take k xs ++ x ∷ []

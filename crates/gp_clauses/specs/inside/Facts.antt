@@ -80,6 +80,3 @@ combined operations.Times d e = arithmetic d e
 combined operations.Over d e = arithmetic d e
 combined operations.Dot d e = dotted d e
 combined operations.Join d e = joined d e
-
-abbrev pub facts_are_simple : Facts → Bool
-facts_are_simple f = f.is_plain && nat_le f.lists 1 && f.has_one_string

@@ -1,7 +1,7 @@
 use Rattle.std.specs.Prelude.{Some, None, codes}
 use Rattle.std.proofs.lemmas.Slice.Eq.{strip_suffix_is}
 use Rattle.std.proofs.lemmas.Bool.Decides.{Decides-eqb}
-use Rattle.gp_trace.proofs.WordFacts.{image_tail, image_no_tail}
+use Rattle.gp_trace.proofs.WordFacts.{image_tail}
 use Rattle.gp_trace.proofs.line.image.Goals as goal
 
 pub returns-in-Some-strip_suffix : goal.returns-in-Some-strip_suffix
