@@ -1,8 +1,8 @@
 //! Crews over Cells: orders that a pace forces, and many workers at the same time.
 
 use super::starting::{core_of, opened, rows, true_cells};
-use opt_cells::{CellRow, Cells, CellsGoal, Never};
-use opt_core::Ending;
+use super::texts::word_of;
+use opt_cells::{CellRow, Cells, CellsGoal};
 use opt_crew::pursue;
 use opt_system::Mode;
 use opt_worker::{Free, Held, Pace, work_on};
@@ -19,17 +19,6 @@ struct Left {
     items: u64,
     ending: &'static str,
     replicas: Vec<CellRow>,
-}
-
-fn text_of(ending: Option<Ending<Never>>) -> &'static str {
-    match ending {
-        Some(Ending::Committed) => "committed",
-        Some(Ending::Blocked) => "blocked",
-        Some(Ending::Bound) => "bound",
-        Some(Ending::Fault(_)) => "fault",
-        Some(Ending::Stopped) => "stopped",
-        None => "none",
-    }
 }
 
 // Lets a crew of so many workers, with as many shares, pursue a goal on so many true cells.
@@ -56,7 +45,7 @@ fn left_by<P: Pace + Sync, R: Threads + Wait + Sync>(
     Ok(Left {
         entries,
         items,
-        ending: text_of(ending),
+        ending: word_of(ending.as_ref()),
         replicas,
     })
 }

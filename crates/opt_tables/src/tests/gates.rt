@@ -36,7 +36,7 @@ fn answer<R: Wait>(
     ensures gate { IsPassOf gate.now pass.new }
     ensures at { OnOk result (at.new ≡ reached cells_means (start_of gate.now).base (entries_told pass.new)) }
 {
-    let event = event_of::<Cells>(event)?;
+    let event = event_of::<Cells>(alloc, event)?;
     let Some(reply) = ask(rt, &Cells, gate, pass, at, event) else {
         return Err(Fail::from("it may not be asked, or memory was refused"));
     };

@@ -28,7 +28,7 @@ impl Spelled for Cells {
     }
 
     fn ended(alloc: Global, ending: &Ending<Never>) -> Result<String, Fail> {
-        Ok(String::from_str(alloc, word_of(ending))?)
+        Ok(String::from_str(alloc, word_of(Some(ending)))?)
     }
 }
 
@@ -42,7 +42,7 @@ impl Spelled for Traps {
     }
 
     fn ended(alloc: Global, ending: &Ending<u64>) -> Result<String, Fail> {
-        let word = word_of(ending);
+        let word = word_of(Some(ending));
         if let Ending::Fault(reason) = ending {
             return Ok(format!(in alloc; "{word} {reason}")?);
         }
@@ -85,14 +85,15 @@ pub(crate) fn event_of<S: Spelled>(alloc: Global, text: &str) -> Result<Event<S:
     Ok(Event::Fault { told, found })
 }
 
-/// How a goal ended, without the reason of its fault.
-pub(crate) fn word_of<R>(ending: &Ending<R>) -> &'static str {
+/// How a goal ended, if it has, without the reason of its fault.
+pub(crate) fn word_of<R>(ending: Option<&Ending<R>>) -> &'static str {
     match ending {
-        Ending::Committed => "committed",
-        Ending::Blocked => "blocked",
-        Ending::Bound => "bound",
-        Ending::Fault(_) => "fault",
-        Ending::Stopped => "stopped",
+        Some(Ending::Committed) => "committed",
+        Some(Ending::Blocked) => "blocked",
+        Some(Ending::Bound) => "bound",
+        Some(Ending::Fault(_)) => "fault",
+        Some(Ending::Stopped) => "stopped",
+        None => "running",
     }
 }
 

@@ -4,8 +4,8 @@ ghost use Rattle.std.specs.Prelude.{◌≡◌};
 ghost use Rattle.opt_gate.specs.Pass.{IsPassOf, start_of};
 
 use super::starting::{opened, true_cells};
-use opt_cells::{Cells, Never};
-use opt_core::Ending;
+use super::texts::word_of;
+use opt_cells::Cells;
 use opt_gate::{Ask, Gate, Pass};
 use opt_worker::{Free, Pace, job_may_be_taken, work};
 use std::alloc::Global;
@@ -26,7 +26,7 @@ fn a_worker_alone_commits_each_place_and_finds_no_more(rt: HostRuntime) -> Resul
     assert_eq!(rt; at.taken(), &[0usize, 2, 1][..]);
     let (_, entries, left, ending) = gate.close(&rt, pass).into_parts();
     assert_eq!(rt; (entries.as_slice(), left), (&[0usize, 2, 1][..], 4));
-    assert!(rt; matches!(ending, Some(Ending::Blocked)));
+    assert_eq!(rt; word_of(ending.as_ref()), "blocked");
     Ok(())
 }
 
@@ -79,7 +79,7 @@ fn stop_by_hand<R: Wait>(
 fn stopped_in_search<R: Threads + Wait + Sync>(
     rt: &R,
     alloc: Global,
-) -> Result<(Option<&'static str>, usize), Fail> {
+) -> Result<(&'static str, usize), Fail> {
     let pace = UntilStopped {
         searched: AtomicBool::new(false),
         stopped: AtomicBool::new(false),
@@ -95,18 +95,11 @@ fn stopped_in_search<R: Threads + Wait + Sync>(
     );
     p.join(&gate, q);
     let (_, entries, _, ending) = gate.close(rt, p).into_parts();
-    Ok((ending.map(text_of), entries.len()))
-}
-
-fn text_of(ending: Ending<Never>) -> &'static str {
-    match ending {
-        Ending::Stopped => "stopped",
-        _ => "another ending",
-    }
+    Ok((word_of(ending.as_ref()), entries.len()))
 }
 
 #[test]
 fn a_stop_by_hand_ends_a_worker_that_is_held_in_its_search(rt: HostRuntime) -> Result<(), Fail> {
-    assert_eq!(rt; stopped_in_search(&rt, rt.alloc())?, (Some("stopped"), 0));
+    assert_eq!(rt; stopped_in_search(&rt, rt.alloc())?, ("stopped", 0));
     Ok(())
 }

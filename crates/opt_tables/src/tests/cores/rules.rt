@@ -123,7 +123,7 @@ impl<'p> Spelled for Gp<'p> {
     }
 
     fn ended(alloc: Global, ending: &Ending<Fault>) -> Result<String, Fail> {
-        let word = word_of(ending);
+        let word = word_of(Some(ending));
         if let Ending::Fault(fault) = ending {
             return Ok(format!(in alloc; "{word} {} {:?}", fault.rule, fault.kind)?);
         }
