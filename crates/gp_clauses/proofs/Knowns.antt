@@ -1,5 +1,5 @@
 -- Unknown names in expressions and conditions, part by part.
-use Rattle.std.proofs.Common.{◌≡◌, ℤ, ℕ, List, [], ◌∷◌, ◌++◌, Option, Some, None, refl, sym, ap, ◌∙◌}
+use Rattle.std.proofs.Common.{◌≡◌, List, [], ◌∷◌, ◌++◌, Option, Some, None, refl, sym, ap, ◌∙◌}
 use Rattle.std.specs.Option.{option_or}
 use Rattle.gp_values.specs.Names.{Name, first_unknown}
 use Rattle.gp_syntax.specs.declared.expression.Expr.{Expr}

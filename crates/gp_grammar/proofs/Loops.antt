@@ -6,7 +6,6 @@ use Rattle.gp_grammar.specs.declared.error.ReadError.{ReadError}
 use Rattle.gp_grammar.specs.declared.error.ReadError.TheVariants as error
 use Rattle.gp_grammar.specs.declared.want.Want.{Want}
 use Rattle.gp_grammar.specs.Shape.{second_of}
-use Rattle.gp_grammar.specs.Wants.{meets}
 use Rattle.gp_grammar.specs.inside.Reading.{Reader, ◌>>=◌, Fails, begins, behind, token, ◌and◌, made, many, repeated}
 
 -- what was read before, and what is still read

@@ -1,5 +1,5 @@
 -- What entering a ring and leaving it make of all rings.
-use Rattle.std.proofs.Common.{inl, inr, ◌≡◌, ◌≢◌, ℕ, zero, suc, ◌+◌, ◌-◌, ◌<◌, ◌≤◌, ◌==◌, Bool, true, false, if◌then◌else◌, List, [], ◌∷◌, ◌++◌, length, refl, sym, ap, subst, ◌∙◌, arith, length-append}
+use Rattle.std.proofs.Common.{inl, inr, ◌≡◌, ◌≢◌, ℕ, zero, suc, ◌+◌, ◌-◌, ◌==◌, Bool, true, false, if◌then◌else◌, List, [], ◌∷◌, ◌++◌, length, refl, sym, ap, subst, ◌∙◌, arith, length-append}
 use Rattle.std.specs.Prelude.{◌⊎◌, ◌↔◌, Contains}
 use Rattle.std.proofs.lemmas.Bool.{cases_eq, eqb-true, eq-eqb}
 use Rattle.std.proofs.lemmas.List.Elements.{Contains-push_cases, Contains-push, Contains-append_left}
@@ -7,7 +7,7 @@ use Rattle.gp_values.specs.Apart.{AreApart}
 use Rattle.gp_graph.specs.Walks.{Walks}
 use Rattle.gp_graph.specs.inside.Chains.{without, follow, Goes, GoesRound, Joins, AreRings, Begins}
 use Rattle.gp_graph.proofs.Numbers.{here, later, first_or_later, first_new, others_apart, apart_more, length-without, Contains-without, Walks-same}
-use Rattle.gp_graph.proofs.Rounds.{frame_round, last_in, push_round, remove_round, next_round, prev_round, follow-round, length-follow}
+use Rattle.gp_graph.proofs.Rounds.{frame_round, push_round, remove_round, next_round, prev_round, follow-round, length-follow}
 
 pub apart_push : (xs : List ℕ) (e : ℕ) → AreApart xs → (Contains xs e → ⊥) → AreApart (xs ++ e ∷ [])
 apart_push [] e apart new = λ i j less within same. absurd (omega arith)

@@ -1,15 +1,14 @@
 -- What walks give, and how many.
-use Rattle.std.proofs.Common.{inl, inr, ◌≡◌, ◌≢◌, ℕ, zero, suc, ◌+◌, ◌<◌, ◌≤◌, ◌==◌, Bool, true, false, if◌then◌else◌, List, [], ◌∷◌, length, refl, sym, ap, subst, ◌∙◌, arith}
-use Rattle.std.specs.Prelude.{◌⊎◌, ◌↔◌, Contains, Option, Some, None, IsSome, IsSomeAnd, is_some}
+use Rattle.std.proofs.Common.{inl, inr, ◌≡◌, ℕ, zero, suc, ◌+◌, ◌<◌, ◌≤◌, ◌==◌, Bool, true, false, if◌then◌else◌, List, [], ◌∷◌, length, refl, sym, ap, subst, ◌∙◌, arith}
+use Rattle.std.specs.Prelude.{◌↔◌, Option, Some, None, IsSome, IsSomeAnd, is_some}
 use Rattle.std.specs.Option.{option_map}
 use Rattle.std.proofs.lemmas.Bool.{cases_eq, eqb-true, eq-eqb}
-use Rattle.gp_values.specs.Apart.{AreApart}
-use Rattle.gp_values.specs.Graph.{Node, Edge, Graph, node_at, edge_at, in_degree, out_degree, node_count, root_count}
+use Rattle.gp_values.specs.Graph.{in_degree, out_degree, node_count, root_count}
 use Rattle.gp_graph.specs.Walks.{Walks, IsNode, IsRoot, BeginsAt, EndsAt, GoesBetween}
 use Rattle.gp_graph.specs.inside.Slots.{slot_in}
 use Rattle.gp_graph.specs.inside.Chains.{follow}
 use Rattle.gp_graph.specs.inside.View.{node_of, edge_of, graph_from}
-use Rattle.gp_graph.specs.inside.Rings.{end_of, next_of, first_of, count_of, Meets, HasRings}
+use Rattle.gp_graph.specs.inside.Rings.{next_of, first_of, count_of, Meets, HasRings}
 use Rattle.gp_graph.specs.inside.Roots.{next_root, IsRootAt, HasRoots}
 use Rattle.gp_graph.specs.inside.Sought.{after, those, has_end, passes}
 use Rattle.gp_graph.specs.declared.slots.Ring.{Ring}

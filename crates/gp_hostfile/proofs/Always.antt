@@ -1,9 +1,8 @@
 -- Each text has a graph or a fault.
-use Rattle.std.proofs.Common.{◌≡◌, ◌⊎◌, ℕ, ℤ, pos, negsuc, zero, suc, ◌+◌, ◌^◌, ◌<◌, ◌≤◌, Bool, true, false, List, [], ◌∷◌, map, length, Option, Some, None, Ok, Err, refl, sym, ap, subst, ◌∙◌, inl, inr, arith}
-use Rattle.std.specs.Prelude.{FitsSigned, neg_ℤ, nat_le, nat_lt, if◌then◌else◌, option_map, Result, IsSome}
+use Rattle.std.proofs.Common.{◌≡◌, ℕ, ℤ, pos, zero, suc, ◌^◌, ◌<◌, ◌≤◌, Bool, true, false, List, [], ◌∷◌, Option, Some, None, Err, refl, sym, subst, arith}
+use Rattle.std.specs.Prelude.{FitsSigned, neg_ℤ, nat_le, nat_lt, if◌then◌else◌, option_map}
 use Rattle.std.specs.Int.{w128}
 use Rattle.std.proofs.lemmas.Bool.{leb-true, ltb-true}
-use Rattle.std.proofs.lemmas.List.{length-map}
 use Rattle.std.proofs.lemmas.List.Elements.{All-nil, All-cons}
 use Rattle.gp_tokens.specs.declared.fault.LexFault.{LexFault}
 use Rattle.gp_tokens.specs.declared.fault.LexFault.TheVariants as lex_faults
@@ -15,7 +14,6 @@ use Rattle.gp_grammar.specs.Grammar.{shape_of}
 use Rattle.gp_grammar.specs.Numerals.{signed}
 use Rattle.gp_grammar.specs.Shape.{Is, ◌then◌, Made, Many, one, other, none, more, second_of}
 use Rattle.gp_grammar.specs.Signs.{colon}
-use Rattle.gp_grammar.specs.inside.Reading.{◌>>=◌, reader_of}
 use Rattle.gp_grammar.proofs.Shapes.{bind_some, some_is}
 use Rattle.gp_values.specs.declared.atom.Atom.{Atom}
 use Rattle.gp_values.specs.declared.atom.Atom.TheVariants.{Int, Str}
@@ -25,7 +23,7 @@ use Rattle.gp_hostfile.specs.declared.tree.AtomTree.{AtomTree}
 use Rattle.gp_hostfile.specs.declared.tree.AtomTree.TheVariants as atoms
 use Rattle.gp_hostfile.specs.declared.tree.NodeTree.{NodeTree}
 use Rattle.gp_hostfile.specs.declared.tree.EdgeTree.{EdgeTree}
-use Rattle.gp_hostfile.specs.Grammar.{positive, negative, characters, atom, atom_list, label, node, edge}
+use Rattle.gp_hostfile.specs.Grammar.{negative, atom, atom_list, label, node, edge}
 use Rattle.gp_hostfile.specs.Host.{atom_of, atoms_of}
 
 -- ---- the lexer is never in want of memory

@@ -1,5 +1,5 @@
 -- Items that are noted.
-use Rattle.std.proofs.Common.{◌≡◌, List, [], ◌∷◌, ◌++◌, reverse, ap, refl, ◌∙◌}
+use Rattle.std.proofs.Common.{◌≡◌, List, [], ◌∷◌, ◌++◌, reverse, ap, refl}
 use Rattle.std.proofs.lemmas.List.{reverse-append}
 use Rattle.gp_journal.specs.Journal.{noted}
 

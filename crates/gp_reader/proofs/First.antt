@@ -1,5 +1,5 @@
 -- The first fault of the rules of a text.
-use Rattle.std.proofs.Common.{◌≡◌, List, [], ◌∷◌, Option, Some, None, refl, ◌∙◌}
+use Rattle.std.proofs.Common.{◌≡◌, List, [], ◌∷◌, Option, Some, None, refl}
 use Rattle.std.specs.Prelude.{option_map}
 use Rattle.std.specs.Option.{option_or}
 use Rattle.gp_values.specs.Names.{Name}
@@ -9,7 +9,6 @@ use Rattle.gp_syntax.specs.Fault as meant
 use Rattle.gp_check.specs.declared.fault.RuleFault.{RuleFault}
 use Rattle.gp_check.specs.declared.fault.RuleFault.TheVariants as rule_faults
 use Rattle.gp_check.specs.Answer.{Refuses}
-use Rattle.gp_reader.specs.declared.fault.ProgramFault.TheVariants as faults
 use Rattle.gp_reader.specs.Program.{first_faulty}
 use Rattle.gp_reader.specs.inside.Stages.{rule_fault, RefusesRules}
 

@@ -1,5 +1,5 @@
 -- Where the trails of a crew are.
-use Rattle.std.proofs.Common.{◌≡◌, ◌⊎◌, inl, inr, ℕ, zero, suc, ◌+◌, ◌-◌, ◌^◌, ◌<◌, ◌≤◌, List, [], ◌∷◌, ◌++◌, map, length, take, drop, get_or, slice_get, All, Option, Some, None, refl, sym, ap, subst, ◌∙◌, arith}
+use Rattle.std.proofs.Common.{◌≡◌, inl, inr, ℕ, zero, suc, ◌+◌, ◌-◌, ◌^◌, ◌<◌, ◌≤◌, List, [], ◌∷◌, ◌++◌, map, length, take, drop, All, Option, Some, refl, sym, ap, subst, ◌∙◌, arith}
 use Rattle.std.proofs.Math.Seq.{get_or-append_seam}
 use Rattle.std.proofs.lemmas.List.{length-append, length-drop, get_or_append_left}
 use Rattle.std.proofs.lemmas.List.Elements.{All-push, All-weaker}
@@ -21,7 +21,7 @@ use Rattle.opt_system.specs.declared.answers.Mode.TheVariants.{Once, Saturate}
 use Rattle.opt_core.specs.declared.event.Ending.{Ending}
 use Rattle.opt_core.specs.Core.{Core, Legal, IsUsed, reached, AllApply}
 use Rattle.opt_worker.specs.Replica.{IsReplica}
-use Rattle.gp_journal.specs.Trail.{Trail, root_of, rooted, fresh, led, advanced, back_by}
+use Rattle.gp_journal.specs.Trail.{Trail, root_of, rooted, fresh, led, advanced}
 use Rattle.gp_journal.specs.Leads.{StepsBy, Goes, Leads}
 use Rattle.gp_journal.specs.Journal.{items_of, noted, IsJournalOf}
 use Rattle.gp_journal.proofs.Replays.{caught_back}

@@ -18,7 +18,7 @@ use Rattle.gp_syntax.specs.Rule.{Rule, Found}
 use Rattle.gp_syntax.specs.Share.{first_node, Barren}
 use Rattle.gp_syntax.specs.Step.{Applies, Step, CallsTo, Blocked}
 use Rattle.gp_syntax.specs.Run as meant
-use Rattle.gp_syntax.specs.Run.{Program, Call, Stepped, Turned, Back, Gives, Fails, At, live, live_from, counted, Run, call_steps, call_fails, call_stands}
+use Rattle.gp_syntax.specs.Run.{Program, Call, Stepped, Back, Gives, Fails, At, live, counted, Run, call_steps, call_fails, call_stands}
 use Rattle.gp_syntax.specs.Replay.{StepsTo}
 use Rattle.gp_syntax.specs.Tree.{rule_of_tree, program_of_tree, item_of}
 use Rattle.gp_syntax.specs.WellFormed.{IsWellFormed}

@@ -1,6 +1,6 @@
 -- Lines that are read.
-use Rattle.std.proofs.Common.{◌≡◌, ℕ, zero, suc, ◌+◌, ◌<◌, ◌≤◌, Bool, true, false, List, [], ◌∷◌, ◌++◌, length, map, take, drop, refl, sym, ap, subst, ◌∙◌, arith, append_assoc, append-nil}
-use Rattle.std.specs.Prelude.{◌⊎◌, ◌==◌, All, flat_map, codes, slice_index_or}
+use Rattle.std.proofs.Common.{◌≡◌, ℕ, zero, suc, ◌+◌, Bool, true, false, List, [], ◌∷◌, ◌++◌, length, map, take, drop, refl, sym, ap, subst, ◌∙◌, arith, append_assoc, append-nil}
+use Rattle.std.specs.Prelude.{All, codes}
 use Rattle.std.specs.List.{join_with_byte}
 use Rattle.std.proofs.lemmas.List.{length-map}
 use Rattle.std.specs.Cmp.Lexicographic.{pointwise}
@@ -11,11 +11,11 @@ use Rattle.gp_syntax.specs.declared.found.Item.{Item as Recorded}
 use Rattle.gp_syntax.specs.Tree.{item_of}
 use Rattle.gp_syntax.specs.Run.{Item}
 use Rattle.gp_trace.specs.TraceText.{item_words, item_line}
-use Rattle.gp_trace.specs.Reading.{CanBeHeld, BreaksAt}
+use Rattle.gp_trace.specs.Reading.{CanBeHeld}
 use Rattle.gp_trace.specs.inside.Lines.{item_lines, EndsLine, EndsNoLine, LinesStop}
 use Rattle.gp_trace.specs.inside.Words.{IsLineOf, IsLineOfNone}
 use Rattle.gp_trace.proofs.Bytes.{lacks, lack_all, no_cut, cut_same}
-use Rattle.gp_trace.proofs.Items.{all_tail, feedless, line_is, end_itemless, IsItemless}
+use Rattle.gp_trace.proofs.Items.{all_tail, feedless, line_is}
 
 -- ---- the end of a line
 

@@ -1,6 +1,6 @@
 -- Words that are read.
-use Rattle.std.proofs.Common.{◌≡◌, ℕ, zero, suc, ◌+◌, ◌-◌, ◌<◌, ◌≤◌, ◌^◌, Bool, true, false, List, [], ◌∷◌, ◌++◌, length, map, take, drop, get_or, refl, sym, ap, subst, ◌∙◌, arith, lit<, decimal, append-nil, Bor}
-use Rattle.std.specs.Prelude.{◌⊎◌, ◌==◌, All, Option, Some, None, Result, Ok, Err, IfOk, MatchBool, slice_get, slice_index_or, codes, MatchOption, IsTrue, if◌then◌else◌}
+use Rattle.std.proofs.Common.{◌≡◌, ℕ, zero, suc, ◌+◌, ◌-◌, ◌<◌, ◌≤◌, Bool, true, false, List, [], ◌∷◌, ◌++◌, length, map, take, drop, get_or, refl, sym, ap, subst, ◌∙◌, arith, decimal, append-nil, Bor}
+use Rattle.std.specs.Prelude.{◌==◌, All, Option, Some, None, Result, Ok, Err, IfOk, MatchBool, slice_get, codes, MatchOption, IsTrue, if◌then◌else◌}
 use Rattle.std.specs.Bool.{Decides}
 use Rattle.std.specs.List.{slice_split, join_with_byte}
 use Rattle.std.proofs.lemmas.Option.{same_Some}
@@ -17,11 +17,10 @@ use Rattle.gp_syntax.specs.declared.found.Item.{Item as Recorded}
 use Rattle.gp_syntax.specs.Tree.{item_of}
 use Rattle.gp_syntax.specs.Rule.{Found}
 use Rattle.gp_syntax.specs.Run.{Item, Stepped, Turned, Back}
-use Rattle.gp_trace.specs.TraceText.{image_word, images_of, item_words}
-use Rattle.gp_trace.specs.Reading.{IsNumber, IsHeld, CanBeHeld}
-use Rattle.gp_trace.specs.inside.Words.{SpellsNumber, SpellsNoNumber, SpellsImage, SpellsNoImage, SpellsNumbers, SpellsNoNumbers, SpellsImages, SpellsNoImages, PutsNodes, PutsEdges, SpellsFound, SpellsNoFound, SpellsBack, SpellsNoBack, SpellsItem, SpellsNoItem, IsLineOf, IsLineOfNone, StandsFirst, StandsNowhere, HasFrame}
-use Rattle.gp_trace.proofs.Items.{all_head, all_tail, not_word, nodes_same, words_back}
-use Rattle.gp_trace.proofs.Bytes.{rest_of}
+use Rattle.gp_trace.specs.TraceText.{image_word, images_of}
+use Rattle.gp_trace.specs.Reading.{IsNumber}
+use Rattle.gp_trace.specs.inside.Words.{SpellsNumber, SpellsNoNumber, SpellsImage, SpellsNoImage, SpellsNoNumbers, SpellsNoImages, PutsNodes, PutsEdges, SpellsFound, SpellsNoFound, SpellsNoBack, SpellsItem, SpellsNoItem, IsLineOf, IsLineOfNone, StandsFirst, StandsNowhere, HasFrame}
+use Rattle.gp_trace.proofs.Items.{all_head, all_tail, not_word, words_back}
 
 -- the texts of words
 abbrev pub texts : List (Bor (List ℕ)) → List (List ℕ)
