@@ -1,14 +1,15 @@
 -- What walks give, and how many.
-use Rattle.std.proofs.Common.{inl, inr, ◌≡◌, ℕ, zero, suc, ◌+◌, ◌<◌, ◌≤◌, ◌==◌, Bool, true, false, if◌then◌else◌, List, [], ◌∷◌, length, refl, sym, ap, subst, ◌∙◌, arith}
-use Rattle.std.specs.Prelude.{◌↔◌, Option, Some, None, IsSome, IsSomeAnd, is_some}
+use Rattle.std.proofs.Common.{inl, inr, ◌≡◌, ◌≢◌, ℕ, zero, suc, ◌+◌, ◌<◌, ◌≤◌, ◌==◌, Bool, true, false, if◌then◌else◌, List, [], ◌∷◌, length, refl, sym, ap, subst, ◌∙◌, arith}
+use Rattle.std.specs.Prelude.{◌⊎◌, ◌↔◌, Contains, Option, Some, None, IsSome, IsSomeAnd, is_some}
 use Rattle.std.specs.Option.{option_map}
 use Rattle.std.proofs.lemmas.Bool.{cases_eq, eqb-true, eq-eqb}
-use Rattle.gp_values.specs.Graph.{in_degree, out_degree, node_count, root_count}
+use Rattle.gp_values.specs.Apart.{AreApart}
+use Rattle.gp_values.specs.Graph.{Node, Edge, Graph, node_at, edge_at, in_degree, out_degree, node_count, root_count}
 use Rattle.gp_graph.specs.Walks.{Walks, IsNode, IsRoot, BeginsAt, EndsAt, GoesBetween}
 use Rattle.gp_graph.specs.inside.Slots.{slot_in}
 use Rattle.gp_graph.specs.inside.Chains.{follow}
 use Rattle.gp_graph.specs.inside.View.{node_of, edge_of, graph_from}
-use Rattle.gp_graph.specs.inside.Rings.{next_of, first_of, count_of, Meets, HasRings}
+use Rattle.gp_graph.specs.inside.Rings.{end_of, next_of, first_of, count_of, Meets, HasRings}
 use Rattle.gp_graph.specs.inside.Roots.{next_root, IsRootAt, HasRoots}
 use Rattle.gp_graph.specs.inside.Sought.{after, those, has_end, passes}
 use Rattle.gp_graph.specs.declared.slots.Ring.{Ring}
@@ -52,8 +53,14 @@ counts_in ns es n r = sym (length-follow (next_of Ending es) (count_of Ending ns
 abbrev pub gone_round : Side → Option ℕ → List (Option NodeSlot) → List (Option EdgeSlot) → ℕ → List ℕ
 gone_round side wanted ns es n = those (passes side wanted es) (ring_list side ns es n)
 
+pub walks_out_all : (ns : List (Option NodeSlot)) (es : List (Option EdgeSlot)) (n : ℕ) → HasRings Beginning ns es → Walks (gone_round Beginning None ns es n) (BeginsAt (graph_from ns es) n)
+walks_out_all ns es n r = rw (all_kept (ring_list Beginning ns es n)) (walks_out ns es n r)
+
 pub walks_in_all : (ns : List (Option NodeSlot)) (es : List (Option EdgeSlot)) (n : ℕ) → HasRings Ending ns es → Walks (gone_round Ending None ns es n) (EndsAt (graph_from ns es) n)
 walks_in_all ns es n r = rw (all_kept (ring_list Ending ns es n)) (walks_in ns es n r)
+
+pub counts_out_all : (ns : List (Option NodeSlot)) (es : List (Option EdgeSlot)) (n : ℕ) → HasRings Beginning ns es → length (gone_round Beginning None ns es n) ≡ out_degree (graph_from ns es) n
+counts_out_all ns es n r = out_degree-walk (graph_from ns es) n (gone_round Beginning None ns es n) (walks_out_all ns es n r)
 
 pub counts_in_all : (ns : List (Option NodeSlot)) (es : List (Option EdgeSlot)) (n : ℕ) → HasRings Ending ns es → length (gone_round Ending None ns es n) ≡ in_degree (graph_from ns es) n
 counts_in_all ns es n r = in_degree-walk (graph_from ns es) n (gone_round Ending None ns es n) (walks_in_all ns es n r)
