@@ -21,13 +21,13 @@ fn summed(
     ensures { IfOk result (λ r. expression_of r ≡ added sign (expression_of total) (expression_of operand)) }
 {
     let term = Signed { sign, operand };
-    match total {
-        Expr::Sum(first, rest) => {
+    match total.into_sum() {
+        Ok((first, rest)) => {
             let mut rest = rest;
             rest.push(term)?;
             Ok(Expr::Sum(first, rest))
         }
-        other => {
+        Err(other) => {
             let mut rest = Items::new(alloc);
             rest.push(term)?;
             Ok(Expr::Sum(Boxed::new(alloc, other)?, rest))
@@ -44,13 +44,13 @@ fn multiplied(
     ensures { IfOk result (λ r. expression_of r ≡ multiplied sign (expression_of total) (expression_of operand)) }
 {
     let factor = Signed { sign, operand };
-    match total {
-        Expr::Product(first, rest) => {
+    match total.into_product() {
+        Ok((first, rest)) => {
             let mut rest = rest;
             rest.push(factor)?;
             Ok(Expr::Product(first, rest))
         }
-        other => {
+        Err(other) => {
             let mut rest = Items::new(alloc);
             rest.push(factor)?;
             Ok(Expr::Product(Boxed::new(alloc, other)?, rest))
@@ -61,13 +61,13 @@ fn multiplied(
 fn dotted(alloc: Global, total: Expr<u32>, part: Expr<u32>) -> Result<Expr<u32>, NoMemory>
     ensures { IfOk result (λ r. expression_of r ≡ Dot (expression_of total) (expression_of part)) }
 {
-    match total {
-        Expr::Dot(first, rest) => {
+    match total.into_dots() {
+        Ok((first, rest)) => {
             let mut rest = rest;
             rest.push(part)?;
             Ok(Expr::Dot(first, rest))
         }
-        other => {
+        Err(other) => {
             let mut rest = Items::new(alloc);
             rest.push(part)?;
             Ok(Expr::Dot(Boxed::new(alloc, other)?, rest))
@@ -78,13 +78,13 @@ fn dotted(alloc: Global, total: Expr<u32>, part: Expr<u32>) -> Result<Expr<u32>,
 fn joined(alloc: Global, total: Expr<u32>, part: Expr<u32>) -> Result<Expr<u32>, NoMemory>
     ensures { IfOk result (λ r. expression_of r ≡ Join (expression_of total) (expression_of part)) }
 {
-    match total {
-        Expr::Join(first, rest) => {
+    match total.into_joins() {
+        Ok((first, rest)) => {
             let mut rest = rest;
             rest.push(part)?;
             Ok(Expr::Join(first, rest))
         }
-        other => {
+        Err(other) => {
             let mut rest = Items::new(alloc);
             rest.push(part)?;
             Ok(Expr::Join(Boxed::new(alloc, other)?, rest))
@@ -119,13 +119,13 @@ pub fn dotted_label(
 ) -> Result<SimpleLabel, NoMemory>
     ensures { IfOk result (λ r. label_of r ≡ Dot (label_of total) (label_of part)) }
 {
-    match total {
-        SimpleLabel::Dot(first, rest) => {
+    match total.into_dots() {
+        Ok((first, rest)) => {
             let mut rest = rest;
             rest.push(part)?;
             Ok(SimpleLabel::Dot(first, rest))
         }
-        other => {
+        Err(other) => {
             let mut rest = Items::new(alloc);
             rest.push(part)?;
             Ok(SimpleLabel::Dot(Boxed::new(alloc, other)?, rest))
@@ -141,13 +141,13 @@ pub fn joined_label(
 ) -> Result<SimpleLabel, NoMemory>
     ensures { IfOk result (λ r. label_of r ≡ Join (label_of total) (label_of part)) }
 {
-    match total {
-        SimpleLabel::Join(first, rest) => {
+    match total.into_joins() {
+        Ok((first, rest)) => {
             let mut rest = rest;
             rest.push(part)?;
             Ok(SimpleLabel::Join(first, rest))
         }
-        other => {
+        Err(other) => {
             let mut rest = Items::new(alloc);
             rest.push(part)?;
             Ok(SimpleLabel::Join(Boxed::new(alloc, other)?, rest))
@@ -162,13 +162,13 @@ fn both(
 ) -> Result<Cond<u32, MarkPattern<EdgeMark>>, NoMemory>
     ensures { IfOk result (λ r. condition_of pattern_of r ≡ And (condition_of pattern_of total) (condition_of pattern_of part)) }
 {
-    match total {
-        Cond::And(first, rest) => {
+    match total.into_all() {
+        Ok((first, rest)) => {
             let mut rest = rest;
             rest.push(part)?;
             Ok(Cond::And(first, rest))
         }
-        other => {
+        Err(other) => {
             let mut rest = Items::new(alloc);
             rest.push(part)?;
             Ok(Cond::And(Boxed::new(alloc, other)?, rest))
@@ -183,13 +183,13 @@ fn either(
 ) -> Result<Cond<u32, MarkPattern<EdgeMark>>, NoMemory>
     ensures { IfOk result (λ r. condition_of pattern_of r ≡ Or (condition_of pattern_of total) (condition_of pattern_of part)) }
 {
-    match total {
-        Cond::Or(first, rest) => {
+    match total.into_any() {
+        Ok((first, rest)) => {
             let mut rest = rest;
             rest.push(part)?;
             Ok(Cond::Or(first, rest))
         }
-        other => {
+        Err(other) => {
             let mut rest = Items::new(alloc);
             rest.push(part)?;
             Ok(Cond::Or(Boxed::new(alloc, other)?, rest))

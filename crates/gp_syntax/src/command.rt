@@ -10,7 +10,6 @@ use std::marker::Model;
 
 /// A command (Plump 2012, section 4). Rule sets and procedures are named by their numbers. A chain has a first part and
 /// further ones.
-#[derive(Drop)]
 pub enum Command {
     Call(u32),
     Seq(Boxed<Command>, Items<Command>),
@@ -72,5 +71,28 @@ impl Program {
         ensures scoped { IsScoped (program_of_tree self.now) }
     {
         &self.parts
+    }
+}
+
+// Written, so that a function that lets a command go calls it.
+impl Drop for Command {
+    fn drop(self) {
+        match self {
+            Command::Call(_)
+            | Command::Proc(_)
+            | Command::Skip
+            | Command::Fail
+            | Command::Break => {}
+            Command::Seq(first, rest) | Command::Or(first, rest) => {
+                drop(first);
+                drop(rest);
+            }
+            Command::If(test, first, second) | Command::Try(test, first, second) => {
+                drop(test);
+                drop(first);
+                drop(second);
+            }
+            Command::Loop(body) => drop(body),
+        }
     }
 }

@@ -11,7 +11,7 @@ use std::marker::Model;
 
 /// The name of a rule, a procedure, a variable, a node or an edge, or the word of a mark. Up to sixteen of its bytes
 /// stand in the value itself. Contracts see their list.
-#[derive(Debug, Drop)]
+#[derive(Debug)]
 pub struct Name {
     bytes: SmallVec<u8, 16>,
 }
@@ -65,5 +65,13 @@ impl fmt::Display for Name {
             f.write_char(*byte as char)?;
         }
         Ok(())
+    }
+}
+
+// Written, so that a function that lets a name go calls it.
+impl Drop for Name {
+    fn drop(self) {
+        let Name { bytes } = self;
+        drop(bytes);
     }
 }

@@ -54,7 +54,6 @@ pub struct RuleDecl {
 
 /// A command that names rules and procedures. A chain has a first part and further ones; a call of one rule is that of
 /// the set of it alone; a missing `then` or `else` is `Skip`.
-#[derive(Drop)]
 pub enum CommandTree {
     Call(Items<Name>),
     Procedure(Name),
@@ -83,4 +82,25 @@ pub enum Decl {
 #[derive(Drop)]
 pub struct Ast {
     pub declarations: Items<Decl>,
+}
+
+// Written, so that a function that lets a command go calls it.
+impl Drop for CommandTree {
+    fn drop(self) {
+        match self {
+            CommandTree::Skip | CommandTree::Fail | CommandTree::Break => {}
+            CommandTree::Call(names) => drop(names),
+            CommandTree::Procedure(name) => drop(name),
+            CommandTree::Seq(first, rest) | CommandTree::Or(first, rest) => {
+                drop(first);
+                drop(rest);
+            }
+            CommandTree::If(test, first, second) | CommandTree::Try(test, first, second) => {
+                drop(test);
+                drop(first);
+                drop(second);
+            }
+            CommandTree::Loop(body) => drop(body),
+        }
+    }
 }

@@ -3,8 +3,8 @@ use Rattle.gp_syntax.proofs.Trees.{expression_of-Dot}
 use Rattle.gp_check.proofs.Pushes.{dot_pushed}
 use Rattle.gp_check.proofs.chains.dotted.Goals as goal
 
-pub returns-in_ok-push-in-Dot : goal.returns-in_ok-push-in-Dot
-returns-in_ok-push-in-Dot c = rw (c.in_ok-push-in-Dot.ensures.ok, c.in-Dot.is) (dot_pushed c.in-Dot.first c.in-Dot.rest (c.args.part))
+pub returns-in_ok-push-in-Ok : goal.returns-in_ok-push-in-Ok
+returns-in_ok-push-in-Ok c = rw (c.in_ok-push-in-Ok.ensures.ok, c.in-Ok.ensures) (dot_pushed c.in-Ok.first c.in-Ok.rest c.args.part)
 
-pub returns-in_ok-new-in_default : goal.returns-in_ok-new-in_default
-returns-in_ok-new-in_default c = rw (c.in_ok-push-in_default.ensures.ok, c.new-rest.ensures, c.in_ok-new-in_default.ensures) (expression_of-Dot c.args.total ((c.args.part) ∷ []))
+pub returns-in_ok-new-in-Err : goal.returns-in_ok-new-in-Err
+returns-in_ok-new-in-Err c = rw (c.in_ok-push-in-Err.ensures.ok, c.new-rest.ensures, c.in_ok-new-in-Err.ensures, c.in-Err.ensures) (expression_of-Dot c.args.total (c.args.part ∷ []))
