@@ -16,13 +16,20 @@ use std::marker::Model;
 /// A host graph: nodes and edges, each kind numbered from 0 in the order in which they were added. A number is
 /// not used again after a removal. Contracts see the graph, and how many nodes and edges can be added without
 /// growing.
-#[derive(Drop)]
 pub struct Graph {
     nodes: Vec<Option<NodeSlot>>,
     edges: Vec<Option<EdgeSlot>>,
     roots: Ring,
     node_count: u64,
     last_changed: u64,
+}
+
+impl Drop for Graph {
+    fn drop(self) {
+        let Graph { nodes, edges, roots: _, node_count: _, last_changed: _ } = self;
+        drop(nodes);
+        drop(edges);
+    }
 }
 
 impl Model for Graph {

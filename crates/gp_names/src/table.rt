@@ -9,9 +9,15 @@ use std::alloc::Global;
 use std::marker::Model;
 
 /// Names, each once, in the order in which they came, found by their bytes. Contracts see their list.
-#[derive(Drop)]
 pub struct NameTable {
     places: IndexSet<Vec<u8>>,
+}
+
+impl Drop for NameTable {
+    fn drop(self) {
+        let NameTable { places } = self;
+        drop(places);
+    }
 }
 
 impl Model for NameTable {

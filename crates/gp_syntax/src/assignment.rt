@@ -13,10 +13,17 @@ use std::marker::Model;
 
 /// The values of the variables of a rule's left labels, by their places: each has a value of its declared type, or none
 /// yet.
-#[derive(Drop)]
 pub struct Assignment {
     types: Vec<VariableType>,
     values: Vec<Option<List>>,
+}
+
+impl Drop for Assignment {
+    fn drop(self) {
+        let Assignment { types, values } = self;
+        drop(types);
+        drop(values);
+    }
 }
 
 impl Model for Assignment {

@@ -25,12 +25,21 @@ pub enum Command {
 
 /// The parts of a program: the body of Main and of each procedure, the rule set of each call by the numbers of its
 /// rules, and the rules in the order of the text.
-#[derive(Drop)]
 pub struct ProgramParts {
     pub main: Command,
     pub procedures: Items<Command>,
     pub sets: Items<Items<u32>>,
     pub rules: Items<Rule>,
+}
+
+impl Drop for ProgramParts {
+    fn drop(self) {
+        let ProgramParts { main, procedures, sets, rules } = self;
+        drop(main);
+        drop(procedures);
+        drop(sets);
+        drop(rules);
+    }
 }
 
 /// A program whose numbers are in range, in which no procedure reaches itself, no chain of calls has more than 64

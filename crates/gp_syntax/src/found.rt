@@ -21,11 +21,18 @@ pub struct EdgeImage {
 
 /// Where a match lies: the number of its rule and the images of left nodes and left edges, in the order of the left
 /// side's text. Contracts see the directions and the numbers as lists of their own.
-#[derive(Drop)]
 pub struct Found {
     rule: u32,
     nodes: SmallVec<u64, { INLINE_NODES }>,
     edges: SmallVec<EdgeImage, { INLINE_EDGES }>,
+}
+
+impl Drop for Found {
+    fn drop(self) {
+        let Found { rule: _, nodes, edges } = self;
+        drop(nodes);
+        drop(edges);
+    }
 }
 
 impl Model for Found {

@@ -62,7 +62,6 @@ pub struct RightEdge {
 
 /// The parts of a rule, in the order of its text. The types are those of the variables of the left labels, in the order
 /// of their declaration; a variable's place is its place there.
-#[derive(Drop)]
 pub struct RuleParts {
     pub name: Name,
     pub types: Items<VariableType>,
@@ -71,6 +70,27 @@ pub struct RuleParts {
     pub right_nodes: Items<RightNode>,
     pub right_edges: Items<RightEdge>,
     pub condition: Option<Cond<u32, MarkPattern<EdgeMark>>>,
+}
+
+impl Drop for RuleParts {
+    fn drop(self) {
+        let RuleParts {
+            name,
+            types,
+            left_nodes,
+            left_edges,
+            right_nodes,
+            right_edges,
+            condition,
+        } = self;
+        drop(name);
+        drop(types);
+        drop(left_nodes);
+        drop(left_edges);
+        drop(right_nodes);
+        drop(right_edges);
+        drop(condition);
+    }
 }
 
 /// A checked rule: that of a declaration without a fault. Contracts see its parts.

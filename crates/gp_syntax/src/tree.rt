@@ -7,15 +7,21 @@ use crate::name::Name;
 use sqlite_items::{Boxed, Items};
 
 /// Variables that are declared together, as `x, y : int`: the first and the further ones.
-#[derive(Drop)]
 pub struct VariableGroup {
     pub first: Name,
     pub rest: Items<Name>,
     pub variable_type: VariableType,
 }
 
+impl Drop for VariableGroup {
+    fn drop(self) {
+        let VariableGroup { first, rest, variable_type: _ } = self;
+        drop(first);
+        drop(rest);
+    }
+}
+
 /// A node of a side: its name, whether it is a root, its label, and the word behind `#`, if one is written.
-#[derive(Drop)]
 pub struct NodeDecl {
     pub name: Name,
     pub root: bool,
@@ -23,8 +29,16 @@ pub struct NodeDecl {
     pub mark: Option<Name>,
 }
 
+impl Drop for NodeDecl {
+    fn drop(self) {
+        let NodeDecl { name, root: _, label, mark } = self;
+        drop(name);
+        drop(label);
+        drop(mark);
+    }
+}
+
 /// An edge of a side: its name, whether it has `(B)`, the names of its ends, its label, and the word behind `#`.
-#[derive(Drop)]
 pub struct EdgeDecl {
     pub name: Name,
     pub bidirectional: bool,
@@ -34,15 +48,32 @@ pub struct EdgeDecl {
     pub mark: Option<Name>,
 }
 
+impl Drop for EdgeDecl {
+    fn drop(self) {
+        let EdgeDecl { name, bidirectional: _, source, target, label, mark } = self;
+        drop(name);
+        drop(source);
+        drop(target);
+        drop(label);
+        drop(mark);
+    }
+}
+
 /// A side of a rule.
-#[derive(Drop)]
 pub struct GraphDecl {
     pub nodes: Items<NodeDecl>,
     pub edges: Items<EdgeDecl>,
 }
 
+impl Drop for GraphDecl {
+    fn drop(self) {
+        let GraphDecl { nodes, edges } = self;
+        drop(nodes);
+        drop(edges);
+    }
+}
+
 /// A rule as it is declared. The interface lists names of nodes.
-#[derive(Drop)]
 pub struct RuleDecl {
     pub name: Name,
     pub variables: Items<VariableGroup>,
@@ -50,6 +81,18 @@ pub struct RuleDecl {
     pub right: GraphDecl,
     pub interface: Items<Name>,
     pub condition: Option<Cond<Name, Option<Name>>>,
+}
+
+impl Drop for RuleDecl {
+    fn drop(self) {
+        let RuleDecl { name, variables, left, right, interface, condition } = self;
+        drop(name);
+        drop(variables);
+        drop(left);
+        drop(right);
+        drop(interface);
+        drop(condition);
+    }
 }
 
 /// A command that names rules and procedures. A chain has a first part and further ones; a call of one rule is that of

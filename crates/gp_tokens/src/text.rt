@@ -11,9 +11,16 @@ use std::fmt;
 use std::marker::Model;
 
 /// A text of its own memory. Up to sixteen bytes stand in the value itself. Contracts see their list.
-#[derive(Debug, Drop)]
+#[derive(Debug)]
 pub struct Text {
     bytes: SmallVec<u8, 16>,
+}
+
+impl Drop for Text {
+    fn drop(self) {
+        let Text { bytes } = self;
+        drop(bytes);
+    }
 }
 
 impl Model for Text {
