@@ -3,7 +3,8 @@ use Rattle.std.proofs.Common.{◌≡◌, List, [], ◌∷◌, ◌++◌, map, Opt
 use Rattle.std.proofs.lemmas.List.{append-nil, map-append}
 use Rattle.std.specs.Option.{option_or}
 use Rattle.gp_expressions.specs.declared.ranged.Ranged.{Ranged}
-use Rattle.gp_expressions.specs.Ranges.{first_past, joined}
+use Rattle.gp_expressions.specs.Ranges.{first_past, joined, all_joined, chained}
+use Rattle.gp_expressions.specs.inside.Chains.{linked, tree_of}
 
 none_last : {A : Type 0} (p : Option A) → option_or p None ≡ p
 none_last None = refl
@@ -34,3 +35,19 @@ tree_behind f first now xs x e = rw (e, map-append) refl
 
 pub list_behind : {A B : Type 0} (f : A → List B) (first now : List B) (xs : List A) (x : A) → now ≡ first ++ joined (map f xs) → now ++ f x ≡ first ++ joined (map f (xs ++ x ∷ []))
 list_behind f first now xs x e = rw (e, map-append, joined_more (map f xs) (f x)) (simp append_assoc)
+
+pub lists_more : {A B : Type 0} (f : A → List B) (now : List B) (xs : List A) (x : A) → now ≡ joined (map f xs) → now ++ f x ≡ joined (map f (xs ++ x ∷ []))
+lists_more f now xs x e = rw (e, map-append, joined_more (map f xs) (f x)) refl
+
+-- lists one behind the other, of which there may be none
+pub all_joined_is : {A : Type 0} (rs : List (Ranged (List A))) → all_joined rs ≡ record { tree = joined (map (λ (r : Ranged (List A)). r.tree) rs); past = first_past rs }
+unfolding joined first_past
+all_joined_is [] = refl
+all_joined_is (r ∷ rs) = refl
+
+-- a chain, by what it is made of
+pub chain_is : {A : Type 0} (none : A) (make : A → List A → A) (rs : List (Ranged A)) → chained none make rs ≡ record { tree = tree_of none make (linked rs).tree; past = (linked rs).past }
+unfolding first_past
+chain_is none make [] = refl
+chain_is none make (r ∷ []) = rw (none_last r.past) refl
+chain_is none make (r ∷ s ∷ rs) = refl

@@ -1,3 +1,4 @@
+pub mod Readings
 pub mod Gathers
 pub mod Operands
 pub mod ListLaws

@@ -3,3 +3,4 @@ pub mod Ranges
 pub mod Expressions
 pub mod Conditions
 pub mod Laws
+pub mod inside

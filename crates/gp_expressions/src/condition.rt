@@ -1,20 +1,20 @@
 //! Reads labels and conditions, one function for each line of the grammar.
 
-ghost use Rattle.std.specs.Prelude.{◌≡◌, ◌∷◌, IfOk};
+ghost use Rattle.std.specs.Prelude.{◌≡◌, ◌∷◌, MatchResult};
 ghost use Rattle.gp_grammar.specs.inside.Cursor.{Reads};
 ghost use Rattle.gp_grammar.specs.inside.Reading.{reader_of};
 ghost use Rattle.gp_syntax.specs.declared.expression.Cond.TheVariants as c;
 ghost use Rattle.gp_grammar.specs.Signs.{comma};
-ghost use Rattle.gp_expressions.specs.Ranges.{chained};
+ghost use Rattle.gp_expressions.specs.Ranges.{with, chained};
 ghost use Rattle.gp_expressions.specs.Expressions.{list, behind};
 ghost use Rattle.gp_expressions.specs.Signs.{and_word, or_word};
+ghost use Rattle.gp_expressions.specs.inside.Joints.{joined};
 ghost use Rattle.gp_expressions.specs.Conditions as spec;
 
 use crate::expression::{read_list, read_name};
 use crate::ranged::{Ranged, gather, whole};
 use gp_grammar::{ReadError, Tokens, Want, repeated_by};
-use gp_memory::NoMemory;
-use gp_syntax::{Boxed, Comparison, Cond, Expr, Name, VariableType};
+use gp_syntax::{Boxed, Comparison, Cond, Expr, Items, Name, VariableType};
 use gp_tokens::{Keyword, Kind, Token};
 use std::alloc::Global;
 
@@ -242,37 +242,49 @@ fn condition_ahead(tokens: &[Token<'_>]) -> bool
     }
 }
 
-fn all_of(
+// Whether conditions are joined by `and` or by `or`.
+#[derive(Clone, Copy)]
+enum Joint {
+    And,
+    Or,
+}
+
+fn joined(joint: Joint, first: Boxed<CondTree>, rest: Items<CondTree>) -> CondTree
+    ensures { result ≡ joined joint first rest }
+{
+    match joint {
+        Joint::And => Cond::And(first, rest),
+        Joint::Or => Cond::Or(first, rest),
+    }
+}
+
+fn chain(
     alloc: Global,
+    joint: Joint,
     first: Ranged<CondTree>,
     rest: Vec<Ranged<CondTree>>,
-) -> Result<Ranged<CondTree>, NoMemory>
-    ensures { IfOk result (λ x. x ≡ chained spec.no_condition c.And (first ∷ rest.items)) }
+) -> Result<Ranged<CondTree>, ReadError>
+    ensures { MatchResult result (λ x. x ≡ chained spec.no_condition (joined joint) (first ∷ rest.items)) (λ e. e ≡ ReadError.NoMemory) }
 {
     if rest.is_empty() {
         return Ok(first);
     }
+    let Ranged { tree, past } = first;
     let rest = gather(alloc, rest)?;
+    let tree = Boxed::new(alloc, tree)?;
     Ok(Ranged {
-        tree: Cond::And(Boxed::new(alloc, first.tree)?, rest.tree),
-        past: first.past.or(rest.past),
+        tree: joined(joint, tree, rest.tree),
+        past: past.or(rest.past),
     })
 }
 
-fn any_of(
-    alloc: Global,
-    first: Ranged<CondTree>,
-    rest: Vec<Ranged<CondTree>>,
-) -> Result<Ranged<CondTree>, NoMemory>
-    ensures { IfOk result (λ x. x ≡ chained spec.no_condition c.Or (first ∷ rest.items)) }
+fn denied(alloc: Global, part: Ranged<CondTree>) -> Result<Ranged<CondTree>, ReadError>
+    ensures { MatchResult result (λ x. x ≡ with c.Not part) (λ e. e ≡ ReadError.NoMemory) }
 {
-    if rest.is_empty() {
-        return Ok(first);
-    }
-    let rest = gather(alloc, rest)?;
+    let Ranged { tree, past } = part;
     Ok(Ranged {
-        tree: Cond::Or(Boxed::new(alloc, first.tree)?, rest.tree),
-        past: first.past.or(rest.past),
+        tree: Cond::Not(Boxed::new(alloc, tree)?),
+        past,
     })
 }
 
@@ -319,10 +331,7 @@ fn read_negated(
 {
     if tokens.eat(NOT) {
         let part = read_negation(tokens, lists, room)?;
-        return Ok(Ranged {
-            tree: Cond::Not(Boxed::new(tokens.alloc(), part.tree)?),
-            past: part.past,
-        });
+        return denied(tokens.alloc(), part);
     }
     if condition_ahead(tokens.left()) {
         return read_in_parentheses(tokens, lists, room);
@@ -351,8 +360,7 @@ fn read_conjunction(
             read_negation(tokens, lists, room)
         },
     )?;
-    let chain = all_of(tokens.alloc(), first, rest)?;
-    Ok(chain)
+    chain(tokens.alloc(), Joint::And, first, rest)
 }
 
 /// Cond = Conj {"or" Conj}
@@ -376,6 +384,5 @@ pub fn read_condition(
             read_conjunction(tokens, lists, room)
         },
     )?;
-    let chain = any_of(tokens.alloc(), first, rest)?;
-    Ok(chain)
+    chain(tokens.alloc(), Joint::Or, first, rest)
 }

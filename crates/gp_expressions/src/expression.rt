@@ -1,19 +1,23 @@
 //! Reads expressions, one function for each line of the grammar.
 
-ghost use Rattle.std.specs.Prelude.{◌≡◌, ◌∷◌, IfOk};
+ghost use Rattle.std.specs.Prelude.{◌≡◌, ◌∷◌, IfOk, MatchResult, List, Option, Some};
+ghost use Rattle.gp_tokens.specs.declared.token.Token.{Token};
 ghost use Rattle.gp_grammar.specs.inside.Cursor.{Reads, ReadsAs};
-ghost use Rattle.gp_grammar.specs.inside.Reading.{reader_of};
+ghost use Rattle.gp_grammar.specs.inside.Reading.{reader_of, made, number_at};
 ghost use Rattle.gp_grammar.specs.Numerals.{integer_of};
 ghost use Rattle.gp_grammar.specs.Grammar.{Made};
-ghost use Rattle.gp_grammar.specs.Signs.{colon, dot, plus, minus, star, slash};
+ghost use Rattle.gp_grammar.specs.Signs.{minus, slash};
 ghost use Rattle.gp_syntax.specs.declared.expression.Expr.TheVariants as e;
 ghost use Rattle.gp_syntax.specs.declared.expression.SumSign.TheVariants as sums;
 ghost use Rattle.gp_syntax.specs.declared.expression.ProductSign.TheVariants as products;
 ghost use Rattle.gp_expressions.specs.Expressions as spec;
-ghost use Rattle.gp_expressions.specs.Ranges.{chained};
+ghost use Rattle.gp_expressions.specs.Ranges.{with, all_joined, chained};
+ghost use Rattle.gp_expressions.specs.inside.Chains.{tree_of};
+ghost use Rattle.gp_expressions.specs.declared.ranged.Ranged.{Ranged};
 
-use crate::ranged::{Ranged, gather, gather_behind, join, whole};
-use gp_grammar::{Numeral, ReadError, Tokens, Want, repeated_by};
+use crate::chain::{Links, linked};
+use crate::ranged::{Ranged, gather_behind, join_all, whole};
+use gp_grammar::{Numeral, ReadError, Tokens, Want, repeated_by, separated_by};
 use gp_memory::NoMemory;
 use gp_syntax::{Boxed, Expr, Items, Name, ProductSign, Signed, SumSign};
 use gp_tokens::{Keyword, Kind};
@@ -51,15 +55,22 @@ fn numeral(numeral: Numeral, start: u64) -> Ranged<Expr<Name>>
     }
 }
 
-fn signed<S>(sign: S, part: Ranged<Expr<Name>>) -> Ranged<Signed<S, Expr<Name>>>
-    ensures { result ≡ spec.signed_by sign part }
+// What was read, behind this sign.
+fn signed<S: Drop>(
+    sign: S,
+    part: Result<Ranged<Expr<Name>>, ReadError>,
+) -> Result<Ranged<Signed<S, Expr<Name>>>, ReadError>
+    ensures { (read : Option (Ranged spec.Tree × List Token)) (left : List Token) → Reads read part left → Reads (made (spec.signed_by sign) (λ _. read) left) result left }
 {
-    Ranged {
-        tree: Signed {
-            sign,
-            operand: part.tree,
-        },
-        past: part.past,
+    match part {
+        Ok(part) => Ok(Ranged {
+            tree: Signed {
+                sign,
+                operand: part.tree,
+            },
+            past: part.past,
+        }),
+        Err(error) => Err(error),
     }
 }
 
@@ -95,37 +106,80 @@ fn product_tree(
     Ok(Expr::Product(Boxed::new(alloc, first)?, operands))
 }
 
-fn dotted(
+fn product_of(
     alloc: Global,
-    first: Ranged<Expr<Name>>,
-    rest: Vec<Ranged<Expr<Name>>>,
-) -> Result<Ranged<Expr<Name>>, NoMemory>
-    ensures { IfOk result (λ x. x ≡ chained e.Empty e.Dot (first ∷ rest.items)) }
+    rows: Vec<Ranged<Items<Signed<ProductSign, Expr<Name>>>>>,
+) -> Result<Ranged<Expr<Name>>, ReadError>
+    ensures { MatchResult result (λ x. x ≡ with spec.product_tree (all_joined rows.items)) (λ e. e ≡ ReadError.NoMemory) }
 {
-    if rest.is_empty() {
-        return Ok(first);
+    let Ranged { tree, past } = join_all(alloc, rows)?;
+    let tree = product_tree(alloc, tree)?;
+    Ok(Ranged { tree, past })
+}
+
+fn sum_of(
+    alloc: Global,
+    rows: Vec<Ranged<Items<Signed<SumSign, Expr<Name>>>>>,
+) -> Result<Ranged<Expr<Name>>, ReadError>
+    ensures { MatchResult result (λ x. x ≡ with spec.sum_tree (all_joined rows.items)) (λ e. e ≡ ReadError.NoMemory) }
+{
+    let Ranged { tree, past } = join_all(alloc, rows)?;
+    let tree = sum_tree(alloc, tree)?;
+    Ok(Ranged { tree, past })
+}
+
+fn dot_tree(links: Links<Expr<Name>>) -> Expr<Name>
+    ensures { result ≡ tree_of e.Empty e.Dot links }
+{
+    match links {
+        Links::Nothing => Expr::Empty,
+        Links::One(tree) => tree,
+        Links::More(first, rest) => Expr::Dot(first, rest),
     }
-    let rest = gather(alloc, rest)?;
+}
+
+#[tactic(auto, using(crate::proofs::Gathers::chain_is))]
+fn dotted(alloc: Global, parts: Vec<Ranged<Expr<Name>>>) -> Result<Ranged<Expr<Name>>, ReadError>
+    ensures { MatchResult result (λ x. x ≡ chained e.Empty e.Dot parts.items) (λ e. e ≡ ReadError.NoMemory) }
+{
+    let Ranged { tree, past } = linked(alloc, parts)?;
     Ok(Ranged {
-        tree: Expr::Dot(Boxed::new(alloc, first.tree)?, rest.tree),
-        past: first.past.or(rest.past),
+        tree: dot_tree(tree),
+        past,
     })
 }
 
+fn join_tree(links: Links<Expr<Name>>) -> Expr<Name>
+    ensures { result ≡ tree_of e.Empty e.Join links }
+{
+    match links {
+        Links::Nothing => Expr::Empty,
+        Links::One(tree) => tree,
+        Links::More(first, rest) => Expr::Join(first, rest),
+    }
+}
+
+#[tactic(auto, using(crate::proofs::Gathers::chain_is))]
 fn colon_joined(
     alloc: Global,
-    first: Ranged<Expr<Name>>,
-    rest: Vec<Ranged<Expr<Name>>>,
-) -> Result<Ranged<Expr<Name>>, NoMemory>
-    ensures { IfOk result (λ x. x ≡ chained e.Empty e.Join (first ∷ rest.items)) }
+    parts: Vec<Ranged<Expr<Name>>>,
+) -> Result<Ranged<Expr<Name>>, ReadError>
+    ensures { MatchResult result (λ x. x ≡ chained e.Empty e.Join parts.items) (λ e. e ≡ ReadError.NoMemory) }
 {
-    if rest.is_empty() {
-        return Ok(first);
-    }
-    let rest = gather(alloc, rest)?;
+    let Ranged { tree, past } = linked(alloc, parts)?;
     Ok(Ranged {
-        tree: Expr::Join(Boxed::new(alloc, first.tree)?, rest.tree),
-        past: first.past.or(rest.past),
+        tree: join_tree(tree),
+        past,
+    })
+}
+
+fn negated(alloc: Global, part: Ranged<Expr<Name>>) -> Result<Ranged<Expr<Name>>, ReadError>
+    ensures { MatchResult result (λ x. x ≡ spec.negated part) (λ e. e ≡ ReadError.NoMemory) }
+{
+    let Ranged { tree, past } = part;
+    Ok(Ranged {
+        tree: Expr::Negated(Boxed::new(alloc, tree)?),
+        past,
     })
 }
 
@@ -173,6 +227,14 @@ fn read_leaf(tokens: &mut Tokens<'_, '_>) -> Result<Ranged<Expr<Name>>, ReadErro
     Ok(whole(Expr::Length(read_argument(tokens, Want::Variable)?)))
 }
 
+// A number, with this sign before it.
+fn read_number(tokens: &mut Tokens<'_, '_>, negative: bool) -> Result<Ranged<Expr<Name>>, ReadError>
+    ensures { Reads (made (λ x. spec.numeral_tree x.1 (integer_of (record { negative = negative; value = x.0 }))) number_at tokens.old) result tokens.new }
+{
+    let (value, start) = tokens.number_at()?;
+    Ok(numeral(Numeral { negative, value }, start))
+}
+
 #[cycle(expression)]
 #[tactic(auto, unfolding(crate::specs::Expressions::operand))]
 fn read_operand(tokens: &mut Tokens<'_, '_>, room: u64) -> Result<Ranged<Expr<Name>>, ReadError>
@@ -192,20 +254,10 @@ fn read_nested(tokens: &mut Tokens<'_, '_>, room: u64) -> Result<Ranged<Expr<Nam
 {
     if tokens.eat(MINUS) {
         if tokens.begins(NUMBER) {
-            let (value, start) = tokens.number_at()?;
-            return Ok(numeral(
-                Numeral {
-                    negative: true,
-                    value,
-                },
-                start,
-            ));
+            return read_number(tokens, true);
         }
         let operand = read_operand(tokens, room)?;
-        return Ok(Ranged {
-            tree: Expr::Negated(Boxed::new(tokens.alloc(), operand.tree)?),
-            past: operand.past,
-        });
+        return negated(tokens.alloc(), operand);
     }
     if tokens.eat(OPEN) {
         let list = read_list(tokens, room)?;
@@ -221,14 +273,7 @@ fn read_unary(tokens: &mut Tokens<'_, '_>, room: u64) -> Result<Ranged<Expr<Name
     ensures { Reads (reader_of (spec.unary (spec.operand room)) tokens.old) result tokens.new }
 {
     if tokens.begins(NUMBER) {
-        let (value, start) = tokens.number_at()?;
-        return Ok(numeral(
-            Numeral {
-                negative: false,
-                value,
-            },
-            start,
-        ));
+        return read_number(tokens, false);
     }
     read_operand(tokens, room)
 }
@@ -242,7 +287,7 @@ fn read_quotients(
 ) -> Result<Ranged<Items<Signed<ProductSign, Expr<Name>>>>, ReadError>
     ensures { Reads (reader_of (spec.quotients (spec.operand room)) tokens.old) result tokens.new }
 {
-    let first = signed(ProductSign::Times, read_unary(tokens, room)?);
+    let first = signed(ProductSign::Times, read_unary(tokens, room))?;
     let rest = repeated_by(
         tokens,
         SLASH,
@@ -250,11 +295,10 @@ fn read_quotients(
             ensures { Reads (reader_of (spec.behind slash (Made (spec.signed_by products.Over) (spec.unary (spec.operand room)))) tokens.old) result tokens.new }
         {
             tokens.expect(SLASH)?;
-            Ok(signed(ProductSign::Over, read_unary(tokens, room)?))
+            signed(ProductSign::Over, read_unary(tokens, room))
         },
     )?;
-    let operands = gather_behind(tokens.alloc(), first, rest)?;
-    Ok(operands)
+    gather_behind(tokens.alloc(), first, rest)
 }
 
 // Prod = Unary {("*" | "/") Unary}
@@ -263,25 +307,17 @@ fn read_quotients(
 fn read_product(tokens: &mut Tokens<'_, '_>, room: u64) -> Result<Ranged<Expr<Name>>, ReadError>
     ensures { Reads (reader_of (spec.product (spec.operand room)) tokens.old) result tokens.new }
 {
-    let first = read_quotients(tokens, room)?;
-    let rest = repeated_by(
+    let rows = separated_by(
         tokens,
         STAR,
         |tokens: &mut Tokens<'_, '_>| -> Result<
             Ranged<Items<Signed<ProductSign, Expr<Name>>>>,
             ReadError,
         >
-            ensures { Reads (reader_of (spec.behind star (spec.quotients (spec.operand room))) tokens.old) result tokens.new }
-        {
-            tokens.expect(STAR)?;
-            read_quotients(tokens, room)
-        },
+            ensures { Reads (reader_of (spec.quotients (spec.operand room)) tokens.old) result tokens.new }
+        { read_quotients(tokens, room) },
     )?;
-    let Ranged { tree, past } = join(first, rest)?;
-    Ok(Ranged {
-        tree: product_tree(tokens.alloc(), tree)?,
-        past,
-    })
+    product_of(tokens.alloc(), rows)
 }
 
 // Prod {"-" Prod}
@@ -293,7 +329,7 @@ fn read_differences(
 ) -> Result<Ranged<Items<Signed<SumSign, Expr<Name>>>>, ReadError>
     ensures { Reads (reader_of (spec.differences (spec.operand room)) tokens.old) result tokens.new }
 {
-    let first = signed(SumSign::Plus, read_product(tokens, room)?);
+    let first = signed(SumSign::Plus, read_product(tokens, room))?;
     let rest = repeated_by(
         tokens,
         MINUS,
@@ -301,11 +337,10 @@ fn read_differences(
             ensures { Reads (reader_of (spec.behind minus (Made (spec.signed_by sums.Minus) (spec.product (spec.operand room)))) tokens.old) result tokens.new }
         {
             tokens.expect(MINUS)?;
-            Ok(signed(SumSign::Minus, read_product(tokens, room)?))
+            signed(SumSign::Minus, read_product(tokens, room))
         },
     )?;
-    let operands = gather_behind(tokens.alloc(), first, rest)?;
-    Ok(operands)
+    gather_behind(tokens.alloc(), first, rest)
 }
 
 // Sum = Prod {("+" | "-") Prod}
@@ -314,25 +349,17 @@ fn read_differences(
 fn read_sum(tokens: &mut Tokens<'_, '_>, room: u64) -> Result<Ranged<Expr<Name>>, ReadError>
     ensures { Reads (reader_of (spec.sum (spec.operand room)) tokens.old) result tokens.new }
 {
-    let first = read_differences(tokens, room)?;
-    let rest = repeated_by(
+    let rows = separated_by(
         tokens,
         PLUS,
         |tokens: &mut Tokens<'_, '_>| -> Result<
             Ranged<Items<Signed<SumSign, Expr<Name>>>>,
             ReadError,
         >
-            ensures { Reads (reader_of (spec.behind plus (spec.differences (spec.operand room))) tokens.old) result tokens.new }
-        {
-            tokens.expect(PLUS)?;
-            read_differences(tokens, room)
-        },
+            ensures { Reads (reader_of (spec.differences (spec.operand room)) tokens.old) result tokens.new }
+        { read_differences(tokens, room) },
     )?;
-    let Ranged { tree, past } = join(first, rest)?;
-    Ok(Ranged {
-        tree: sum_tree(tokens.alloc(), tree)?,
-        past,
-    })
+    sum_of(tokens.alloc(), rows)
 }
 
 // Str = Sum {"." Sum}
@@ -341,19 +368,14 @@ fn read_sum(tokens: &mut Tokens<'_, '_>, room: u64) -> Result<Ranged<Expr<Name>>
 fn read_dots(tokens: &mut Tokens<'_, '_>, room: u64) -> Result<Ranged<Expr<Name>>, ReadError>
     ensures { Reads (reader_of (spec.dots (spec.operand room)) tokens.old) result tokens.new }
 {
-    let first = read_sum(tokens, room)?;
-    let rest = repeated_by(
+    let parts = separated_by(
         tokens,
         DOT,
         |tokens: &mut Tokens<'_, '_>| -> Result<Ranged<Expr<Name>>, ReadError>
-            ensures { Reads (reader_of (spec.behind dot (spec.sum (spec.operand room))) tokens.old) result tokens.new }
-        {
-            tokens.expect(DOT)?;
-            read_sum(tokens, room)
-        },
+            ensures { Reads (reader_of (spec.sum (spec.operand room)) tokens.old) result tokens.new }
+        { read_sum(tokens, room) },
     )?;
-    let chain = dotted(tokens.alloc(), first, rest)?;
-    Ok(chain)
+    dotted(tokens.alloc(), parts)
 }
 
 // List = Str {":" Str}
@@ -362,17 +384,12 @@ fn read_dots(tokens: &mut Tokens<'_, '_>, room: u64) -> Result<Ranged<Expr<Name>
 pub fn read_list(tokens: &mut Tokens<'_, '_>, room: u64) -> Result<Ranged<Expr<Name>>, ReadError>
     ensures { Reads (reader_of (spec.list room) tokens.old) result tokens.new }
 {
-    let first = read_dots(tokens, room)?;
-    let rest = repeated_by(
+    let parts = separated_by(
         tokens,
         COLON,
         |tokens: &mut Tokens<'_, '_>| -> Result<Ranged<Expr<Name>>, ReadError>
-            ensures { Reads (reader_of (spec.behind colon (spec.dots (spec.operand room))) tokens.old) result tokens.new }
-        {
-            tokens.expect(COLON)?;
-            read_dots(tokens, room)
-        },
+            ensures { Reads (reader_of (spec.dots (spec.operand room)) tokens.old) result tokens.new }
+        { read_dots(tokens, room) },
     )?;
-    let chain = colon_joined(tokens.alloc(), first, rest)?;
-    Ok(chain)
+    colon_joined(tokens.alloc(), parts)
 }

@@ -7,6 +7,7 @@
 //! `read_label` and `read_condition`; `gather` and `join` put lists of such trees together.
 #![tactic(auto)]
 
+mod chain;
 mod condition;
 mod expression;
 pub mod laws;

@@ -1,3 +1,4 @@
+pub mod Steps
 pub mod Depths
 pub mod Simples
 pub mod RuleLaws

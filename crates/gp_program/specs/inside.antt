@@ -1,2 +1,5 @@
 pub mod Deep
 pub mod Stages
+pub mod RuleParts
+pub mod Calls
+pub mod EdgeParts

@@ -1,18 +1,17 @@
 //! Reads commands, one function for each line of the grammar.
 
-ghost use Rattle.std.specs.Prelude.{◌≡◌, ◌∷◌, IfOk};
+ghost use Rattle.std.specs.Prelude.{◌≡◌, MatchResult};
 ghost use Rattle.gp_grammar.specs.inside.Cursor.{Reads};
 ghost use Rattle.gp_grammar.specs.inside.Reading.{reader_of};
 ghost use Rattle.gp_grammar.specs.declared.want.Want.TheVariants as wants;
-ghost use Rattle.gp_grammar.specs.Signs.{semicolon};
 ghost use Rattle.gp_syntax.specs.declared.tree.CommandTree.TheVariants as commands;
 ghost use Rattle.gp_expressions.specs.Expressions.{behind, name};
-ghost use Rattle.gp_expressions.specs.Signs.{or_word, then_word};
+ghost use Rattle.gp_expressions.specs.Signs.{then_word};
 ghost use Rattle.gp_program.specs.Commands as spec;
+ghost use Rattle.gp_program.specs.inside.Calls.{call};
 
 use gp_expressions::read_name;
-use gp_grammar::{ReadError, Tokens, Want, repeated_by, separated_by};
-use gp_memory::NoMemory;
+use gp_grammar::{ReadError, Tokens, Want, separated_by};
 use gp_syntax::{Boxed, CommandTree, Items, Name};
 use gp_tokens::{Keyword, Kind};
 use std::alloc::Global;
@@ -31,34 +30,36 @@ const THEN: Want = Want::Keyword(Keyword::Then);
 
 const ELSE: Want = Want::Keyword(Keyword::Else);
 
-fn choice(
-    alloc: Global,
-    first: CommandTree,
-    rest: Vec<CommandTree>,
-) -> Result<CommandTree, NoMemory>
-    ensures { IfOk result (λ p. p ≡ spec.grouped commands.Or (first ∷ rest.items)) }
+fn choice(alloc: Global, parts: Vec<CommandTree>) -> Result<CommandTree, ReadError>
+    ensures { MatchResult result (λ p. p ≡ spec.grouped commands.Or parts.items) (λ e. e ≡ ReadError.NoMemory) }
 {
+    let mut rest = Items::from_vec(parts);
+    if rest.is_empty() {
+        return Ok(CommandTree::Skip);
+    }
+    let first = rest.remove(0);
     if rest.is_empty() {
         return Ok(first);
     }
-    Ok(CommandTree::Or(Boxed::new(alloc, first)?, Items::from_vec(rest)))
+    Ok(CommandTree::Or(Boxed::new(alloc, first)?, rest))
 }
 
-fn sequence(
-    alloc: Global,
-    first: CommandTree,
-    rest: Vec<CommandTree>,
-) -> Result<CommandTree, NoMemory>
-    ensures { IfOk result (λ p. p ≡ spec.grouped commands.Seq (first ∷ rest.items)) }
+fn sequence(alloc: Global, parts: Vec<CommandTree>) -> Result<CommandTree, ReadError>
+    ensures { MatchResult result (λ p. p ≡ spec.grouped commands.Seq parts.items) (λ e. e ≡ ReadError.NoMemory) }
 {
+    let mut rest = Items::from_vec(parts);
+    if rest.is_empty() {
+        return Ok(CommandTree::Skip);
+    }
+    let first = rest.remove(0);
     if rest.is_empty() {
         return Ok(first);
     }
-    Ok(CommandTree::Seq(Boxed::new(alloc, first)?, Items::from_vec(rest)))
+    Ok(CommandTree::Seq(Boxed::new(alloc, first)?, rest))
 }
 
-fn call_of_one(alloc: Global, name: Name) -> Result<CommandTree, NoMemory>
-    ensures { IfOk result (λ p. p ≡ spec.call_of_one name) }
+fn call_of_one(alloc: Global, name: Name) -> Result<CommandTree, ReadError>
+    ensures { MatchResult result (λ p. p ≡ spec.call_of_one name) (λ e. e ≡ ReadError.NoMemory) }
 {
     let mut names = Items::new(alloc);
     names.push(name)?;
@@ -70,8 +71,8 @@ fn if_of(
     condition: CommandTree,
     met: CommandTree,
     unmet: CommandTree,
-) -> Result<CommandTree, NoMemory>
-    ensures { IfOk result (λ p. p ≡ commands.If condition met unmet) }
+) -> Result<CommandTree, ReadError>
+    ensures { MatchResult result (λ p. p ≡ commands.If condition met unmet) (λ e. e ≡ ReadError.NoMemory) }
 {
     let condition = Boxed::new(alloc, condition)?;
     let met = Boxed::new(alloc, met)?;
@@ -83,8 +84,8 @@ fn try_of(
     condition: CommandTree,
     met: CommandTree,
     unmet: CommandTree,
-) -> Result<CommandTree, NoMemory>
-    ensures { IfOk result (λ p. p ≡ commands.Try condition met unmet) }
+) -> Result<CommandTree, ReadError>
+    ensures { MatchResult result (λ p. p ≡ commands.Try condition met unmet) (λ e. e ≡ ReadError.NoMemory) }
 {
     let condition = Boxed::new(alloc, condition)?;
     let met = Boxed::new(alloc, met)?;
@@ -117,13 +118,30 @@ fn read_bang(tokens: &mut Tokens<'_, '_>) -> Result<bool, ReadError>
     Ok(tokens.eat(Want::Kind(Kind::Exclamation)))
 }
 
-fn looped(alloc: Global, body: CommandTree, looped: bool) -> Result<CommandTree, NoMemory>
-    ensures { IfOk result (λ p. p ≡ spec.looped (body, looped)) }
+fn looped(alloc: Global, body: CommandTree, looped: bool) -> Result<CommandTree, ReadError>
+    ensures { MatchResult result (λ p. p ≡ spec.looped (body, looped)) (λ e. e ≡ ReadError.NoMemory) }
 {
     if looped {
         return Ok(CommandTree::Loop(Boxed::new(alloc, body)?));
     }
     Ok(body)
+}
+
+// RuleName | "{" [RuleName {"," RuleName}] "}" | ProcName
+fn read_call(tokens: &mut Tokens<'_, '_>) -> Result<CommandTree, ReadError>
+    ensures { Reads (reader_of call tokens.old) result tokens.new }
+{
+    if tokens.eat(Want::Kind(Kind::OpenBrace)) {
+        let names = read_rule_names(tokens)?;
+        tokens.expect(Want::Kind(Kind::CloseBrace))?;
+        return Ok(CommandTree::Call(names));
+    }
+    if tokens.begins(Want::RuleName) {
+        let name = read_name(tokens, Want::RuleName)?;
+        return call_of_one(tokens.alloc(), name);
+    }
+    let name = read_name(tokens, Want::ProcedureName)?;
+    Ok(CommandTree::Procedure(name))
 }
 
 // "(" ComSeq ")" | RuleName | "{" [RuleName {"," RuleName}] "}" | ProcName, inside so much room.
@@ -137,18 +155,7 @@ fn read_repeatable(tokens: &mut Tokens<'_, '_>, room: u64) -> Result<CommandTree
         tokens.expect(CLOSE)?;
         return Ok(inner);
     }
-    if tokens.eat(Want::Kind(Kind::OpenBrace)) {
-        let names = read_rule_names(tokens)?;
-        tokens.expect(Want::Kind(Kind::CloseBrace))?;
-        return Ok(CommandTree::Call(names));
-    }
-    if tokens.begins(Want::RuleName) {
-        let name = read_name(tokens, Want::RuleName)?;
-        let call = call_of_one(tokens.alloc(), name)?;
-        return Ok(call);
-    }
-    let name = read_name(tokens, Want::ProcedureName)?;
-    Ok(CommandTree::Procedure(name))
+    read_call(tokens)
 }
 
 // Simple, inside so much room.
@@ -168,8 +175,7 @@ fn read_simple_in(tokens: &mut Tokens<'_, '_>, room: u64) -> Result<CommandTree,
     }
     let body = read_repeatable(tokens, room)?;
     let bang = read_bang(tokens)?;
-    let command = looped(tokens.alloc(), body, bang)?;
-    Ok(command)
+    looped(tokens.alloc(), body, bang)
 }
 
 #[cycle(command)]
@@ -189,19 +195,14 @@ fn read_simple(tokens: &mut Tokens<'_, '_>, room: u64) -> Result<CommandTree, Re
 fn read_block(tokens: &mut Tokens<'_, '_>, room: u64) -> Result<CommandTree, ReadError>
     ensures { Reads (reader_of (spec.block (spec.simple room)) tokens.old) result tokens.new }
 {
-    let first = read_simple(tokens, room)?;
-    let rest = repeated_by(
+    let parts = separated_by(
         tokens,
         OR,
         |tokens: &mut Tokens<'_, '_>| -> Result<CommandTree, ReadError>
-            ensures { Reads (reader_of (behind or_word (spec.simple room)) tokens.old) result tokens.new }
-        {
-            tokens.expect(OR)?;
-            read_simple(tokens, room)
-        },
+            ensures { Reads (reader_of (spec.simple room) tokens.old) result tokens.new }
+        { read_simple(tokens, room) },
     )?;
-    let block = choice(tokens.alloc(), first, rest)?;
-    Ok(block)
+    choice(tokens.alloc(), parts)
 }
 
 // "then" Block
@@ -237,15 +238,13 @@ fn read_command(tokens: &mut Tokens<'_, '_>, room: u64) -> Result<CommandTree, R
         let condition = read_block(tokens, room)?;
         let yes = read_then(tokens, room)?;
         let no = read_part(tokens, room, ELSE)?;
-        let command = if_of(tokens.alloc(), condition, yes, no)?;
-        return Ok(command);
+        return if_of(tokens.alloc(), condition, yes, no);
     }
     if tokens.eat(Want::Keyword(Keyword::Try)) {
         let condition = read_block(tokens, room)?;
         let yes = read_part(tokens, room, THEN)?;
         let no = read_part(tokens, room, ELSE)?;
-        let command = try_of(tokens.alloc(), condition, yes, no)?;
-        return Ok(command);
+        return try_of(tokens.alloc(), condition, yes, no);
     }
     read_block(tokens, room)
 }
@@ -259,17 +258,12 @@ pub(crate) fn read_commands(
 ) -> Result<CommandTree, ReadError>
     ensures { Reads (reader_of (spec.commands_of room) tokens.old) result tokens.new }
 {
-    let first = read_command(tokens, room)?;
-    let rest = repeated_by(
+    let parts = separated_by(
         tokens,
         SEMICOLON,
         |tokens: &mut Tokens<'_, '_>| -> Result<CommandTree, ReadError>
-            ensures { Reads (reader_of (behind semicolon (spec.command (spec.simple room))) tokens.old) result tokens.new }
-        {
-            tokens.expect(SEMICOLON)?;
-            read_command(tokens, room)
-        },
+            ensures { Reads (reader_of (spec.command (spec.simple room)) tokens.old) result tokens.new }
+        { read_command(tokens, room) },
     )?;
-    let commands = sequence(tokens.alloc(), first, rest)?;
-    Ok(commands)
+    sequence(tokens.alloc(), parts)
 }

@@ -5,10 +5,11 @@ ghost use Rattle.gp_grammar.specs.inside.Cursor.{Reads};
 ghost use Rattle.gp_grammar.specs.inside.Reading.{reader_of};
 ghost use Rattle.gp_expressions.specs.Expressions.{list};
 ghost use Rattle.gp_program.specs.Rules as spec;
+ghost use Rattle.gp_program.specs.inside.EdgeParts.{edge_ends};
 
 use gp_expressions::{Ranged, gather, read_label, read_name};
 use gp_grammar::{ReadError, Tokens, Want, repeated_by, stands_before};
-use gp_syntax::{EdgeDecl, GraphDecl, Items, NodeDecl};
+use gp_syntax::{EdgeDecl, GraphDecl, Items, Name, NodeDecl};
 use gp_tokens::{Keyword, Kind, Token};
 
 const OPEN: Want = Want::Kind(Kind::OpenParenthesis);
@@ -99,15 +100,16 @@ fn read_node(tokens: &mut Tokens<'_, '_>, lists: u64) -> Result<Ranged<NodeDecl>
     })
 }
 
-// Edge = "(" Item ["(" "B" ")"] "," Item "," Item "," Label ")"
-#[tactic(auto, unfolding(crate::specs::Rules::edge))]
-fn read_edge(tokens: &mut Tokens<'_, '_>, lists: u64) -> Result<Ranged<EdgeDecl>, ReadError>
-    ensures { Reads (reader_of (spec.edge (list lists)) tokens.old) result tokens.new }
+// Item "," Item "," Label ")", behind the name of an edge
+#[tactic(auto, unfolding(crate::specs::inside::EdgeParts::edge_ends))]
+fn read_ends(
+    tokens: &mut Tokens<'_, '_>,
+    lists: u64,
+    name: Name,
+    bidirectional: bool,
+) -> Result<Ranged<EdgeDecl>, ReadError>
+    ensures { Reads (reader_of (edge_ends name bidirectional (list lists)) tokens.old) result tokens.new }
 {
-    tokens.expect(OPEN)?;
-    let name = read_name(tokens, Want::Item)?;
-    let bidirectional = read_flag(tokens, Want::Keyword(Keyword::Bidirectional))?;
-    tokens.expect(COMMA)?;
     let source = read_name(tokens, Want::Item)?;
     tokens.expect(COMMA)?;
     let target = read_name(tokens, Want::Item)?;
@@ -125,6 +127,18 @@ fn read_edge(tokens: &mut Tokens<'_, '_>, lists: u64) -> Result<Ranged<EdgeDecl>
         },
         past: label.past,
     })
+}
+
+// Edge = "(" Item ["(" "B" ")"] "," Item "," Item "," Label ")"
+#[tactic(auto, unfolding(crate::specs::Rules::edge))]
+fn read_edge(tokens: &mut Tokens<'_, '_>, lists: u64) -> Result<Ranged<EdgeDecl>, ReadError>
+    ensures { Reads (reader_of (spec.edge (list lists)) tokens.old) result tokens.new }
+{
+    tokens.expect(OPEN)?;
+    let name = read_name(tokens, Want::Item)?;
+    let bidirectional = read_flag(tokens, Want::Keyword(Keyword::Bidirectional))?;
+    tokens.expect(COMMA)?;
+    read_ends(tokens, lists, name, bidirectional)
 }
 
 #[tactic(auto, unfolding(crate::specs::Rules::nodes))]

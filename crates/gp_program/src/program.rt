@@ -1,6 +1,6 @@
 //! Reads declarations and programs, one function for each line of the grammar.
 
-ghost use Rattle.std.specs.Prelude.{◌≡◌, IfOk};
+ghost use Rattle.std.specs.Prelude.{◌≡◌, MatchResult};
 ghost use Rattle.gp_grammar.specs.Grammar.{Made};
 ghost use Rattle.gp_grammar.specs.inside.Cursor.{Reads};
 ghost use Rattle.gp_grammar.specs.inside.Reading.{reader_of};
@@ -11,7 +11,6 @@ use crate::command::read_commands;
 use crate::rule::read_rule;
 use gp_expressions::{Ranged, gather, join, read_name, whole};
 use gp_grammar::{ReadError, Tokens, Want, repeated_by};
-use gp_memory::NoMemory;
 use gp_syntax::{Ast, Decl, Items};
 use gp_tokens::Kind;
 use std::alloc::Global;
@@ -42,8 +41,8 @@ fn procedure_first(
     alloc: Global,
     procedure: Ranged<Decl>,
     rules: Ranged<Items<Decl>>,
-) -> Result<Ranged<Items<Decl>>, NoMemory>
-    ensures { IfOk result (λ r. r ≡ spec.procedure_first (procedure, rules)) }
+) -> Result<Ranged<Items<Decl>>, ReadError>
+    ensures { MatchResult result (λ r. r ≡ spec.procedure_first (procedure, rules)) (λ e. e ≡ ReadError.NoMemory) }
 {
     let mut declarations = Items::new(alloc);
     declarations.push(procedure.tree)?;
@@ -108,8 +107,7 @@ fn read_group(
 {
     let procedure = read_procedure(tokens, room, inside)?;
     let rules = read_rules(tokens, room)?;
-    let group = procedure_first(tokens.alloc(), procedure, rules)?;
-    Ok(group)
+    procedure_first(tokens.alloc(), procedure, rules)
 }
 
 // {Decl}, inside so much room.

@@ -1,17 +1,19 @@
 //! Reads rules, one function for each line of the grammar.
 
+ghost use Rattle.std.specs.Prelude.{◌≡◌};
 ghost use Rattle.gp_grammar.specs.inside.Cursor.{Reads};
 ghost use Rattle.gp_grammar.specs.inside.Reading.{reader_of};
 ghost use Rattle.gp_grammar.specs.declared.want.Want.TheVariants as wants;
 ghost use Rattle.gp_grammar.specs.Signs.{comma};
 ghost use Rattle.gp_expressions.specs.Conditions.{condition};
-ghost use Rattle.gp_expressions.specs.Expressions.{behind, name};
+ghost use Rattle.gp_expressions.specs.Expressions.{behind, name as name_of, list};
 ghost use Rattle.gp_program.specs.Rules as spec;
+ghost use Rattle.gp_program.specs.inside.RuleParts.{whole_rule, rule_end, rule_sides};
 
 use crate::graph::read_graph;
 use gp_expressions::{CondTree, Ranged, read_condition, read_name, whole};
 use gp_grammar::{ReadError, Tokens, Want, repeated_by, separated_by};
-use gp_syntax::{Items, Name, RuleDecl, VariableGroup, VariableType};
+use gp_syntax::{GraphDecl, Items, Name, RuleDecl, VariableGroup, VariableType};
 use gp_tokens::{Keyword, Kind};
 
 const COMMA: Want = Want::Kind(Kind::Comma);
@@ -47,7 +49,7 @@ fn read_group(tokens: &mut Tokens<'_, '_>) -> Result<VariableGroup, ReadError>
         tokens,
         COMMA,
         |tokens: &mut Tokens<'_, '_>| -> Result<Name, ReadError>
-            ensures { Reads (reader_of (behind comma (name wants.Variable)) tokens.old) result tokens.new }
+            ensures { Reads (reader_of (behind comma (name_of wants.Variable)) tokens.old) result tokens.new }
         {
             tokens.expect(COMMA)?;
             read_name(tokens, Want::Variable)
@@ -84,7 +86,7 @@ fn read_interface(tokens: &mut Tokens<'_, '_>) -> Result<Items<Name>, ReadError>
             tokens,
             COMMA,
             |tokens: &mut Tokens<'_, '_>| -> Result<Name, ReadError>
-                ensures { Reads (reader_of (name wants.Item) tokens.old) result tokens.new }
+                ensures { Reads (reader_of (name_of wants.Item) tokens.old) result tokens.new }
             { read_name(tokens, Want::Item) },
         )?;
         return Ok(Items::from_vec(names));
@@ -107,6 +109,100 @@ fn read_where(tokens: &mut Tokens<'_, '_>, room: u64) -> Result<Ranged<Option<Co
     Ok(whole(None))
 }
 
+// A rule up to the end of its sides.
+pub(crate) struct Sides {
+    name: Name,
+    variables: Items<VariableGroup>,
+    left: Ranged<GraphDecl>,
+    right: Ranged<GraphDecl>,
+}
+
+impl Drop for Sides {
+    fn drop(self) {
+        let Sides {
+            name,
+            variables,
+            left,
+            right,
+        } = self;
+        drop(name);
+        drop(variables);
+        drop(left);
+        drop(right);
+    }
+}
+
+impl Sides {
+    fn into_rule(
+        self,
+        interface: Items<Name>,
+        condition: Ranged<Option<CondTree>>,
+    ) -> Ranged<RuleDecl>
+        ensures { result ≡ whole_rule self interface condition }
+    {
+        let Sides {
+            name,
+            variables,
+            left,
+            right,
+        } = self;
+        Ranged {
+            tree: RuleDecl {
+                name,
+                variables,
+                left: left.tree,
+                right: right.tree,
+                interface,
+                condition: condition.tree,
+            },
+            past: left.past.or(right.past.or(condition.past)),
+        }
+    }
+}
+
+// "interface" "=" "{" [Item {"," Item}] "}" ["where" Cond], behind the sides
+#[tactic(auto, unfolding(crate::specs::inside::RuleParts::rule_end))]
+fn read_end(
+    tokens: &mut Tokens<'_, '_>,
+    room: u64,
+    sides: Sides,
+) -> Result<Ranged<RuleDecl>, ReadError>
+    ensures { Reads (reader_of (rule_end sides (condition room room)) tokens.old) result tokens.new }
+{
+    tokens.expect(Want::Keyword(Keyword::Interface))?;
+    tokens.expect(Want::Kind(Kind::Equal))?;
+    tokens.expect(Want::Kind(Kind::OpenBrace))?;
+    let interface = read_interface(tokens)?;
+    tokens.expect(Want::Kind(Kind::CloseBrace))?;
+    let condition = read_where(tokens, room)?;
+    Ok(sides.into_rule(interface, condition))
+}
+
+// Graph "=>" Graph, and what is behind them
+#[tactic(auto, unfolding(crate::specs::inside::RuleParts::rule_sides))]
+fn read_sides(
+    tokens: &mut Tokens<'_, '_>,
+    room: u64,
+    name: Name,
+    variables: Items<VariableGroup>,
+) -> Result<Ranged<RuleDecl>, ReadError>
+    ensures { Reads (reader_of (rule_sides name variables (list room) (condition room room)) tokens.old) result tokens.new }
+{
+    let left = read_graph(tokens, room)?;
+    tokens.expect(Want::Kind(Kind::Arrow))?;
+    let right = read_graph(tokens, room)?;
+    read_end(
+        tokens,
+        room,
+        Sides {
+            name,
+            variables,
+            left,
+            right,
+        },
+    )
+}
+
 /// RuleDecl = RuleName "(" [Vars {";" Vars}] ")" Graph "=>" Graph "interface" "=" "{" [Item {"," Item}] "}" ["where" Cond]
 #[tactic(auto, unfolding(crate::specs::Rules::rule_with))]
 pub(crate) fn read_rule(
@@ -119,24 +215,5 @@ pub(crate) fn read_rule(
     tokens.expect(Want::Kind(Kind::OpenParenthesis))?;
     let variables = read_variables(tokens)?;
     tokens.expect(Want::Kind(Kind::CloseParenthesis))?;
-    let left = read_graph(tokens, room)?;
-    tokens.expect(Want::Kind(Kind::Arrow))?;
-    let right = read_graph(tokens, room)?;
-    tokens.expect(Want::Keyword(Keyword::Interface))?;
-    tokens.expect(Want::Kind(Kind::Equal))?;
-    tokens.expect(Want::Kind(Kind::OpenBrace))?;
-    let interface = read_interface(tokens)?;
-    tokens.expect(Want::Kind(Kind::CloseBrace))?;
-    let condition = read_where(tokens, room)?;
-    Ok(Ranged {
-        tree: RuleDecl {
-            name,
-            variables,
-            left: left.tree,
-            right: right.tree,
-            interface,
-            condition: condition.tree,
-        },
-        past: left.past.or(right.past.or(condition.past)),
-    })
+    read_sides(tokens, room, name, variables)
 }
