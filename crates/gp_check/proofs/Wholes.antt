@@ -1,6 +1,6 @@
 -- The parts of a rule together, and the clauses together.
 use Rattle.std.proofs.Common.{◌≡◌, ◌&&◌, Bool, true, false, not, List, [], ◌∷◌, map, Option, Some, None, Result, Ok, Err, refl, sym, subst, ◌∙◌}
-use Rattle.std.specs.Prelude.{nat_le, option_map, IsErrAnd}
+use Rattle.std.specs.Prelude.{nat_le, option_map, IfOk, IsErrAnd}
 use Rattle.std.specs.Option.{option_or}
 use Rattle.std.specs.List.{list_all}
 use Rattle.gp_values.specs.Names.{Name}
@@ -83,6 +83,10 @@ first_refused faults.NoMemory a b h = tt
 pub told_by : {X : Type 0} (fault : Option Fault) (e : RuleFault) (r : Result X RuleFault) → IsErrAnd r (λ y. y ≡ e) → Refuses e fault → Checks r fault
 told_by fault e (Ok x) h t = absurd h
 told_by fault e (Err y) h t = subst (λ (z : RuleFault). Refuses z fault) (sym h) t
+
+pub none_made : {X : Type 0} (Q : RuleFault → Type 0) (P : X → Type 0) (r : Result X RuleFault) → IsErrAnd r Q → IfOk r P
+none_made Q P (Ok x) h = absurd h
+none_made Q P (Err y) h = tt
 
 second_none : {A : Type 0} (a b : Option A) → option_or a b ≡ None → b ≡ None
 second_none (Some x) b h = absurd cc
