@@ -77,20 +77,19 @@ fn push_calls(command: &Command, called: &mut Vec<u32>) -> Result<(), NoMemory>
     ensures { OnOk result (called.new.items ≡ called.old.items ++ procedures_in (command_of command.now)) }
 {
     match command {
-        Command::Proc(number) => called.push(*number)?,
+        Command::Proc(number) => Ok(called.push(*number)?),
         Command::Seq(first, rest) | Command::Or(first, rest) => {
             push_calls(first.get(), called)?;
-            push_all_calls(rest.as_slice(), called)?;
+            push_all_calls(rest.as_slice(), called)
         }
         Command::If(condition, then, other) | Command::Try(condition, then, other) => {
             push_calls(condition.get(), called)?;
             push_calls(then.get(), called)?;
-            push_calls(other.get(), called)?;
+            push_calls(other.get(), called)
         }
-        Command::Loop(body) => push_calls(body.get(), called)?,
-        Command::Call(_) | Command::Skip | Command::Fail | Command::Break => return Ok(()),
+        Command::Loop(body) => push_calls(body.get(), called),
+        Command::Call(_) | Command::Skip | Command::Fail | Command::Break => Ok(()),
     }
-    Ok(())
 }
 
 #[cycle(push_calls)]

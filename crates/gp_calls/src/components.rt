@@ -11,7 +11,6 @@ use std::alloc::Global;
 // What a walk in depth has found, with 0 for none: when each procedure was met, the earliest one that it leads back to,
 // and the rank of those that are done; those that wait for a rank; and the way to where the walk is, with how many calls
 // of each were followed.
-#[derive(Drop)]
 struct Walk {
     met: Vec<u64>,
     earliest: Vec<u64>,
@@ -22,25 +21,70 @@ struct Walk {
     rank: u64,
 }
 
+impl Drop for Walk {
+    fn drop(self) {
+        let Walk {
+            met,
+            earliest,
+            ranks,
+            waiting,
+            path,
+            clock: _,
+            rank: _,
+        } = self;
+        drop(met);
+        drop(earliest);
+        drop(ranks);
+        drop(waiting);
+        drop(path);
+    }
+}
+
+impl Walk {
+    // Before the first step, over so many procedures.
+    fn new(alloc: Global, count: usize) -> Result<Walk, NoMemory>
+        ensures { IfOk result (λ w. length w.ranks.items ≡ count) }
+    {
+        let met = vec![in alloc; 0; count]?;
+        let earliest = vec![in alloc; 0; count]?;
+        let ranks = vec![in alloc; 0; count]?;
+        Ok(Walk {
+            met,
+            earliest,
+            ranks,
+            waiting: Vec::new(alloc),
+            path: Vec::new(alloc),
+            clock: 0,
+            rank: 0,
+        })
+    }
+
+    fn into_ranks(self) -> Vec<u64>
+        ensures { result ≡ self.ranks }
+    {
+        let Walk {
+            met: _,
+            earliest: _,
+            ranks,
+            waiting: _,
+            path: _,
+            clock: _,
+            rank: _,
+        } = self;
+        ranks
+    }
+}
+
 /// The rank of each procedure.
 pub(crate) fn components(alloc: Global, callees: &[Items<u32>]) -> Result<Vec<u64>, NoMemory>
     ensures { IfOk result (λ v. length v.items ≡ length callees.now) }
 {
     let count = callees.len();
-    let mut walk = Walk {
-        met: vec![in alloc; 0; count]?,
-        earliest: vec![in alloc; 0; count]?,
-        ranks: vec![in alloc; 0; count]?,
-        waiting: Vec::new(alloc),
-        path: Vec::new(alloc),
-        clock: 0,
-        rank: 0,
-    };
+    let mut walk = Walk::new(alloc, count)?;
     for root in 0..count {
         walk_from(callees, root, &mut walk)?;
     }
-    let Walk { ranks, .. } = walk;
-    Ok(ranks)
+    Ok(walk.into_ranks())
 }
 
 fn number_at(numbers: &[u64], place: usize) -> u64 {

@@ -1,6 +1,6 @@
 -- The parts of a rule together, and the clauses together.
-use Rattle.std.proofs.Common.{◌≡◌, ◌&&◌, Bool, true, false, not, List, [], ◌∷◌, map, Option, Some, None, refl, sym, ◌∙◌}
-use Rattle.std.specs.Prelude.{nat_le, option_map}
+use Rattle.std.proofs.Common.{◌≡◌, ◌&&◌, Bool, true, false, not, List, [], ◌∷◌, map, Option, Some, None, Result, Ok, Err, refl, sym, subst, ◌∙◌}
+use Rattle.std.specs.Prelude.{nat_le, option_map, IfOk, IsErrAnd}
 use Rattle.std.specs.Option.{option_or}
 use Rattle.std.specs.List.{list_all}
 use Rattle.gp_values.specs.Names.{Name}
@@ -18,7 +18,7 @@ use Rattle.gp_syntax.proofs.Told.{both}
 use Rattle.gp_clauses.proofs.Parts.{all_labels}
 use Rattle.gp_check.specs.declared.fault.RuleFault.{RuleFault}
 use Rattle.gp_check.specs.declared.fault.RuleFault.TheVariants as faults
-use Rattle.gp_check.specs.Answer.{Refuses}
+use Rattle.gp_check.specs.Answer.{Refuses, Checks}
 use Rattle.gp_check.specs.inside.Placed.{left_node_at, left_edge_at, right_node_at, right_edge_at, placed_condition, rule_at}
 use Rattle.gp_check.specs.inside.Stages.{names_checked, labels_checked, marks_checked}
 
@@ -78,6 +78,27 @@ first_refused faults.NotSimple a b h = rw h refl
 first_refused faults.BadMark a b h = rw h refl
 first_refused (faults.BadBidi n) a b h = rw h refl
 first_refused faults.NoMemory a b h = tt
+
+-- what the exit of a `?` tells
+pub told_by : {X : Type 0} (fault : Option Fault) (e : RuleFault) (r : Result X RuleFault) → IsErrAnd r (λ y. y ≡ e) → Refuses e fault → Checks r fault
+told_by fault e (Ok x) h t = absurd h
+told_by fault e (Err y) h t = subst (λ (z : RuleFault). Refuses z fault) (sym h) t
+
+pub none_made : {X : Type 0} (Q : RuleFault → Type 0) (P : X → Type 0) (r : Result X RuleFault) → IsErrAnd r Q → IfOk r P
+none_made Q P (Ok x) h = absurd h
+none_made Q P (Err y) h = tt
+
+second_none : {A : Type 0} (a b : Option A) → option_or a b ≡ None → b ≡ None
+second_none (Some x) b h = absurd cc
+second_none None b h = h
+
+when_none : (b : Bool) (f : Fault) → when b f ≡ None → b ≡ false
+when_none true f h = absurd cc
+when_none false f h = refl
+
+pub simple_labels : (d : Declaration) → labels_checked d ≡ None → not_simple d ≡ false
+simple_labels d h =
+    when_none (not_simple d) NotSimple (second_none (when (bad_type d) BadType) (when (not_simple d) NotSimple) (second_none (option_map Unbound (unbound d)) (option_or (when (bad_type d) BadType) (when (not_simple d) NotSimple)) h))
 
 module _ (d : Declaration) where
   pub names_stop : (e : RuleFault) → Refuses e (names_checked d) → Refuses e (fault_of d)

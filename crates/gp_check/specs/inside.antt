@@ -1,2 +1,4 @@
+pub mod Grown
 pub mod Placed
+pub mod Sides
 pub mod Stages

@@ -9,17 +9,19 @@ ghost use Rattle.gp_syntax.specs.declared.tree.NodeDecl.{NodeDecl};
 ghost use Rattle.gp_syntax.specs.declared.tree.EdgeDecl.{EdgeDecl};
 ghost use Rattle.gp_clauses.specs.Scope.{IsScope};
 ghost use Rattle.gp_check.specs.inside.Placed.{left_node_at, left_edge_at, right_node_at, right_edge_at};
+ghost use Rattle.gp_check.specs.inside.Sides.{AreSides};
 
 use crate::condition::placed_tests;
 use crate::expression::{label, placed};
 use crate::pattern::{edge_pattern, node_pattern};
 use crate::places::{Places, edge_origin, node_origin, node_place};
-use gp_clauses::{Scope, Variables, edge_named, is_among};
+use gp_clauses::{Scope, edge_named, is_among};
 use gp_memory::NoMemory;
 use gp_syntax::{
-    EdgeDecl, Items, LeftEdge, LeftNode, Name, NameTable, NodeDecl, RightEdge, RightNode, RuleDecl,
-    RuleParts,
+    Cond, EdgeDecl, Items, LeftEdge, LeftNode, MarkPattern, Name, NameTable, NodeDecl, RightEdge,
+    RightNode, RuleDecl, RuleParts, VariableType,
 };
+use gp_values::EdgeMark;
 use std::alloc::Global;
 
 fn left_node(
@@ -204,6 +206,72 @@ fn right_edges(
     Ok(made)
 }
 
+// The parts of a rule that stand on its sides.
+struct Sides {
+    left_nodes: Items<LeftNode>,
+    left_edges: Items<LeftEdge>,
+    right_nodes: Items<RightNode>,
+    right_edges: Items<RightEdge>,
+}
+
+impl Drop for Sides {
+    fn drop(self) {
+        let Sides {
+            left_nodes,
+            left_edges,
+            right_nodes,
+            right_edges,
+        } = self;
+        drop(left_nodes);
+        drop(left_edges);
+        drop(right_nodes);
+        drop(right_edges);
+    }
+}
+
+impl Sides {
+    fn with(
+        self,
+        name: Name,
+        types: Items<VariableType>,
+        condition: Option<Cond<u32, MarkPattern<EdgeMark>>>,
+    ) -> RuleParts
+        ensures { result ≡ record { name = name; types = types; left_nodes = self.left_nodes; left_edges = self.left_edges; right_nodes = self.right_nodes; right_edges = self.right_edges; condition = condition } }
+    {
+        let Sides {
+            left_nodes,
+            left_edges,
+            right_nodes,
+            right_edges,
+        } = self;
+        RuleParts {
+            name,
+            types,
+            left_nodes,
+            left_edges,
+            right_nodes,
+            right_edges,
+            condition,
+        }
+    }
+}
+
+fn made_sides(alloc: Global, variables: &NameTable, rule: &RuleDecl) -> Result<Sides, NoMemory>
+    requires { not_simple (declaration_of rule.now) ≡ false }
+    ensures { IfOk result (λ s. AreSides variables.now (declaration_of rule.now) s) }
+{
+    let left_nodes = left_nodes(alloc, variables, rule)?;
+    let left_edges = left_edges(alloc, variables, rule)?;
+    let right_nodes = right_nodes(alloc, variables, rule)?;
+    let right_edges = right_edges(alloc, variables, rule)?;
+    Ok(Sides {
+        left_nodes,
+        left_edges,
+        right_nodes,
+        right_edges,
+    })
+}
+
 /// The parts of the rule of a declaration whose left labels are simple.
 pub fn parts(alloc: Global, rule: &RuleDecl, scope: Scope) -> Result<RuleParts, NoMemory>
     requires scope { IsScope (declaration_of rule.now) scope }
@@ -211,25 +279,12 @@ pub fn parts(alloc: Global, rule: &RuleDecl, scope: Scope) -> Result<RuleParts, 
     ensures rule { IfOk result (λ r. rule_of_tree r ≡ rule_of (declaration_of rule.now)) }
     ensures name { IfOk result (λ r. r.name ≡ rule.now.name) }
 {
-    let Scope { declared: _, left } = scope;
-    let Variables { names, types } = left;
-    let name = rule.name.copy(alloc)?;
-    let left_nodes = left_nodes(alloc, &names, rule)?;
-    let left_edges = left_edges(alloc, &names, rule)?;
-    let right_nodes = right_nodes(alloc, &names, rule)?;
-    let right_edges = right_edges(alloc, &names, rule)?;
+    let sides = made_sides(alloc, &scope.left.names, rule)?;
     let places = Places {
-        variables: &names,
+        variables: &scope.left.names,
         left: &rule.left,
     };
     let condition = placed_tests(alloc, places, &rule.condition)?;
-    Ok(RuleParts {
-        name,
-        types,
-        left_nodes,
-        left_edges,
-        right_nodes,
-        right_edges,
-        condition,
-    })
+    let name = rule.name.copy(alloc)?;
+    Ok(sides.with(name, scope.into_left_types(), condition))
 }

@@ -5,12 +5,29 @@ ghost use Rattle.gp_syntax.specs.Expression.{Dot, Join, And, Or};
 ghost use Rattle.gp_syntax.specs.Tree.{expression_of, label_of, condition_of, added, multiplied, pattern_of};
 ghost use Rattle.gp_clauses.specs.inside.Shapes.{applied};
 ghost use Rattle.gp_clauses.specs.inside.ConditionShapes.{connected};
+ghost use Rattle.gp_check.specs.inside.Grown.{IsGrown};
 
 use gp_clauses::{Connective, Operation};
 use gp_memory::NoMemory;
 use gp_syntax::{Boxed, Cond, Expr, Items, MarkPattern, ProductSign, Signed, SimpleLabel, SumSign};
 use gp_values::EdgeMark;
 use std::alloc::Global;
+
+// The first and the further parts of a chain, with one part more; of any other value, those of a chain that begins with it.
+fn grown<T: Drop, P: Drop>(
+    alloc: Global,
+    total: Result<(Boxed<T>, Items<P>), T>,
+    part: P,
+) -> Result<(Boxed<T>, Items<P>), NoMemory>
+    ensures { IfOk result (λ r. IsGrown total part r) }
+{
+    let (first, mut rest) = match total {
+        Ok(chain) => chain,
+        Err(other) => (Boxed::new(alloc, other)?, Items::new(alloc)),
+    };
+    rest.push(part)?;
+    Ok((first, rest))
+}
 
 fn summed(
     alloc: Global,
@@ -21,18 +38,8 @@ fn summed(
     ensures { IfOk result (λ r. expression_of r ≡ added sign (expression_of total) (expression_of operand)) }
 {
     let term = Signed { sign, operand };
-    match total.into_sum() {
-        Ok((first, rest)) => {
-            let mut rest = rest;
-            rest.push(term)?;
-            Ok(Expr::Sum(first, rest))
-        }
-        Err(other) => {
-            let mut rest = Items::new(alloc);
-            rest.push(term)?;
-            Ok(Expr::Sum(Boxed::new(alloc, other)?, rest))
-        }
-    }
+    let (first, rest) = grown(alloc, total.into_sum(), term)?;
+    Ok(Expr::Sum(first, rest))
 }
 
 fn multiplied(
@@ -44,52 +51,22 @@ fn multiplied(
     ensures { IfOk result (λ r. expression_of r ≡ multiplied sign (expression_of total) (expression_of operand)) }
 {
     let factor = Signed { sign, operand };
-    match total.into_product() {
-        Ok((first, rest)) => {
-            let mut rest = rest;
-            rest.push(factor)?;
-            Ok(Expr::Product(first, rest))
-        }
-        Err(other) => {
-            let mut rest = Items::new(alloc);
-            rest.push(factor)?;
-            Ok(Expr::Product(Boxed::new(alloc, other)?, rest))
-        }
-    }
+    let (first, rest) = grown(alloc, total.into_product(), factor)?;
+    Ok(Expr::Product(first, rest))
 }
 
 fn dotted(alloc: Global, total: Expr<u32>, part: Expr<u32>) -> Result<Expr<u32>, NoMemory>
     ensures { IfOk result (λ r. expression_of r ≡ Dot (expression_of total) (expression_of part)) }
 {
-    match total.into_dots() {
-        Ok((first, rest)) => {
-            let mut rest = rest;
-            rest.push(part)?;
-            Ok(Expr::Dot(first, rest))
-        }
-        Err(other) => {
-            let mut rest = Items::new(alloc);
-            rest.push(part)?;
-            Ok(Expr::Dot(Boxed::new(alloc, other)?, rest))
-        }
-    }
+    let (first, rest) = grown(alloc, total.into_dots(), part)?;
+    Ok(Expr::Dot(first, rest))
 }
 
 fn joined(alloc: Global, total: Expr<u32>, part: Expr<u32>) -> Result<Expr<u32>, NoMemory>
     ensures { IfOk result (λ r. expression_of r ≡ Join (expression_of total) (expression_of part)) }
 {
-    match total.into_joins() {
-        Ok((first, rest)) => {
-            let mut rest = rest;
-            rest.push(part)?;
-            Ok(Expr::Join(first, rest))
-        }
-        Err(other) => {
-            let mut rest = Items::new(alloc);
-            rest.push(part)?;
-            Ok(Expr::Join(Boxed::new(alloc, other)?, rest))
-        }
-    }
+    let (first, rest) = grown(alloc, total.into_joins(), part)?;
+    Ok(Expr::Join(first, rest))
 }
 
 /// An expression with one operand more.
@@ -119,18 +96,8 @@ pub fn dotted_label(
 ) -> Result<SimpleLabel, NoMemory>
     ensures { IfOk result (λ r. label_of r ≡ Dot (label_of total) (label_of part)) }
 {
-    match total.into_dots() {
-        Ok((first, rest)) => {
-            let mut rest = rest;
-            rest.push(part)?;
-            Ok(SimpleLabel::Dot(first, rest))
-        }
-        Err(other) => {
-            let mut rest = Items::new(alloc);
-            rest.push(part)?;
-            Ok(SimpleLabel::Dot(Boxed::new(alloc, other)?, rest))
-        }
-    }
+    let (first, rest) = grown(alloc, total.into_dots(), part)?;
+    Ok(SimpleLabel::Dot(first, rest))
 }
 
 /// A label with one part of a list more.
@@ -141,18 +108,8 @@ pub fn joined_label(
 ) -> Result<SimpleLabel, NoMemory>
     ensures { IfOk result (λ r. label_of r ≡ Join (label_of total) (label_of part)) }
 {
-    match total.into_joins() {
-        Ok((first, rest)) => {
-            let mut rest = rest;
-            rest.push(part)?;
-            Ok(SimpleLabel::Join(first, rest))
-        }
-        Err(other) => {
-            let mut rest = Items::new(alloc);
-            rest.push(part)?;
-            Ok(SimpleLabel::Join(Boxed::new(alloc, other)?, rest))
-        }
-    }
+    let (first, rest) = grown(alloc, total.into_joins(), part)?;
+    Ok(SimpleLabel::Join(first, rest))
 }
 
 fn both(
@@ -162,18 +119,8 @@ fn both(
 ) -> Result<Cond<u32, MarkPattern<EdgeMark>>, NoMemory>
     ensures { IfOk result (λ r. condition_of pattern_of r ≡ And (condition_of pattern_of total) (condition_of pattern_of part)) }
 {
-    match total.into_all() {
-        Ok((first, rest)) => {
-            let mut rest = rest;
-            rest.push(part)?;
-            Ok(Cond::And(first, rest))
-        }
-        Err(other) => {
-            let mut rest = Items::new(alloc);
-            rest.push(part)?;
-            Ok(Cond::And(Boxed::new(alloc, other)?, rest))
-        }
-    }
+    let (first, rest) = grown(alloc, total.into_all(), part)?;
+    Ok(Cond::And(first, rest))
 }
 
 fn either(
@@ -183,18 +130,8 @@ fn either(
 ) -> Result<Cond<u32, MarkPattern<EdgeMark>>, NoMemory>
     ensures { IfOk result (λ r. condition_of pattern_of r ≡ Or (condition_of pattern_of total) (condition_of pattern_of part)) }
 {
-    match total.into_any() {
-        Ok((first, rest)) => {
-            let mut rest = rest;
-            rest.push(part)?;
-            Ok(Cond::Or(first, rest))
-        }
-        Err(other) => {
-            let mut rest = Items::new(alloc);
-            rest.push(part)?;
-            Ok(Cond::Or(Boxed::new(alloc, other)?, rest))
-        }
-    }
+    let (first, rest) = grown(alloc, total.into_any(), part)?;
+    Ok(Cond::Or(first, rest))
 }
 
 /// A condition with one part more.

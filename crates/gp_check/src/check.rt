@@ -1,9 +1,9 @@
 //! The check of a declaration.
 
-ghost use Rattle.std.specs.Prelude.{◌≡◌, IfOk};
+ghost use Rattle.std.specs.Prelude.{◌≡◌, false, IfOk, OnOk};
 ghost use Rattle.gp_syntax.specs.Declaration.{rule_of};
 ghost use Rattle.gp_syntax.specs.Tree.{declaration_of, rule_of_tree};
-ghost use Rattle.gp_syntax.specs.Fault.{fault_of};
+ghost use Rattle.gp_syntax.specs.Fault.{fault_of, not_simple};
 ghost use Rattle.gp_clauses.specs.Scope.{IsScope};
 ghost use Rattle.gp_check.specs.Answer.{Checks};
 ghost use Rattle.gp_check.specs.inside.Stages.{names_checked, labels_checked, marks_checked};
@@ -23,12 +23,22 @@ pub fn check_rule(alloc: Global, rule: &RuleDecl) -> Result<Rule, RuleFault>
     ensures name { IfOk result (λ r. r.name ≡ rule.now.name) }
     ensures fault { Checks result (fault_of (declaration_of rule.now)) }
 {
+    let scope = checked_scope(alloc, rule)?;
+    let parts = parts(alloc, rule, scope)?;
+    Ok(Rule::new(parts))
+}
+
+// The variables of a declaration that breaks no clause, or the first clause that it breaks.
+fn checked_scope(alloc: Global, rule: &RuleDecl) -> Result<Scope, RuleFault>
+    ensures scope { IfOk result (λ s. IsScope (declaration_of rule.now) s) }
+    ensures simple { OnOk result (not_simple (declaration_of rule.now) ≡ false) }
+    ensures fault { Checks result (fault_of (declaration_of rule.now)) }
+{
     check_names(alloc, rule)?;
     let scope = Scope::new(alloc, rule)?;
     check_labels(alloc, rule, &scope)?;
     check_marks(alloc, rule)?;
-    let parts = parts(alloc, rule, scope)?;
-    Ok(Rule::new(parts))
+    Ok(scope)
 }
 
 // The clauses on sizes and names.

@@ -4,6 +4,7 @@ ghost use Rattle.std.specs.Prelude.{◌≡◌};
 ghost use Rattle.gp_syntax.specs.Declaration.{node_mark_of, edge_mark_of};
 ghost use Rattle.gp_syntax.specs.Tree.{pattern_of};
 
+use gp_clauses::{edge_mark, node_mark, says_any};
 use gp_syntax::{MarkPattern, Name};
 use gp_values::{EdgeMark, NodeMark};
 
@@ -11,16 +12,10 @@ use gp_values::{EdgeMark, NodeMark};
 pub fn node_pattern(mark: &Option<Name>) -> MarkPattern<NodeMark>
     ensures { pattern_of result ≡ node_mark_of mark.now }
 {
-    let Some(word) = mark else {
-        return MarkPattern::Marked(NodeMark::None);
-    };
-    match word.as_bytes() {
-        b"any" => MarkPattern::Any,
-        b"red" => MarkPattern::Marked(NodeMark::Red),
-        b"green" => MarkPattern::Marked(NodeMark::Green),
-        b"blue" => MarkPattern::Marked(NodeMark::Blue),
-        b"grey" => MarkPattern::Marked(NodeMark::Grey),
-        _ => MarkPattern::Marked(NodeMark::None),
+    match mark {
+        Some(word) if says_any(word) => MarkPattern::Any,
+        Some(word) => MarkPattern::Marked(node_mark(word).unwrap_or(NodeMark::None)),
+        None => MarkPattern::Marked(NodeMark::None),
     }
 }
 
@@ -28,15 +23,9 @@ pub fn node_pattern(mark: &Option<Name>) -> MarkPattern<NodeMark>
 pub fn edge_pattern(mark: &Option<Name>) -> MarkPattern<EdgeMark>
     ensures { pattern_of result ≡ edge_mark_of mark.now }
 {
-    let Some(word) = mark else {
-        return MarkPattern::Marked(EdgeMark::None);
-    };
-    match word.as_bytes() {
-        b"any" => MarkPattern::Any,
-        b"red" => MarkPattern::Marked(EdgeMark::Red),
-        b"green" => MarkPattern::Marked(EdgeMark::Green),
-        b"blue" => MarkPattern::Marked(EdgeMark::Blue),
-        b"dashed" => MarkPattern::Marked(EdgeMark::Dashed),
-        _ => MarkPattern::Marked(EdgeMark::None),
+    match mark {
+        Some(word) if says_any(word) => MarkPattern::Any,
+        Some(word) => MarkPattern::Marked(edge_mark(word).unwrap_or(EdgeMark::None)),
+        None => MarkPattern::Marked(EdgeMark::None),
     }
 }

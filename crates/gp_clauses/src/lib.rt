@@ -20,7 +20,7 @@ mod typed;
 mod variables;
 
 pub use condition_shape::{ConditionShape, Connective, condition_shape_of};
-pub use marks::{bad_bidi, bad_mark, edge_named, is_among};
+pub use marks::{bad_bidi, bad_mark, edge_mark, edge_named, is_among, node_mark, says_any};
 pub use names::{bad_interface, too_large, twice_declared, unknown_node};
 pub use scope::{Scope, bad_type, not_simple, unbound};
 pub use shape::{Links, Operation, Shape, shape_of};

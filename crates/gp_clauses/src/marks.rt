@@ -1,9 +1,10 @@
 //! The clause on marks, and that on directions.
 
-ghost use Rattle.std.specs.Prelude.{◌≡◌, ◌&&◌, map, option_map};
+ghost use Rattle.std.specs.Prelude.{◌≡◌, ◌&&◌, map, codes, option_map};
 ghost use Rattle.std.specs.List.{list_all};
 ghost use Rattle.std.specs.Option.{option_copied};
-ghost use Rattle.gp_values.specs.Names.{has_name};
+ghost use Rattle.gp_values.specs.Names.{same_name, has_name};
+ghost use Rattle.gp_values.specs.Marks.{node_mark_named, edge_mark_named};
 ghost use Rattle.gp_syntax.specs.Declaration.{DeclaredNode, DeclaredEdge, edge_named};
 ghost use Rattle.gp_syntax.specs.Fault.{is_any, is_node_mark, is_edge_mark, node_named, keeps_node_mark, keeps_edge_mark, marks_in_condition, has_marks, joins_the_same, keeps_direction, bad_mark, bad_bidi};
 ghost use Rattle.gp_syntax.specs.Tree.{node_of, edge_of, side_of, declaration_of, condition_or_true};
@@ -11,12 +12,56 @@ ghost use Rattle.gp_clauses.specs.inside.ConditionShapes.{named_condition};
 
 use crate::condition_shape::{ConditionShape, condition_shape_of};
 use gp_syntax::{Cond, EdgeDecl, GraphDecl, Name, NodeDecl, RuleDecl};
+use gp_values::{EdgeMark, NodeMark};
+
+/// Whether a word is `any`.
+pub fn says_any(word: &Name) -> bool
+    ensures { result ≡ same_name word.now (codes "any") }
+{
+    word.as_bytes() == b"any".as_slice()
+}
+
+/// The mark of a node that a word names.
+pub fn node_mark(word: &Name) -> Option<NodeMark>
+    ensures { result ≡ node_mark_named word.now }
+{
+    let word = word.as_bytes();
+    if word == b"red".as_slice() {
+        Some(NodeMark::Red)
+    } else if word == b"green".as_slice() {
+        Some(NodeMark::Green)
+    } else if word == b"blue".as_slice() {
+        Some(NodeMark::Blue)
+    } else if word == b"grey".as_slice() {
+        Some(NodeMark::Grey)
+    } else {
+        None
+    }
+}
+
+/// The mark of an edge that a word names.
+pub fn edge_mark(word: &Name) -> Option<EdgeMark>
+    ensures { result ≡ edge_mark_named word.now }
+{
+    let word = word.as_bytes();
+    if word == b"red".as_slice() {
+        Some(EdgeMark::Red)
+    } else if word == b"green".as_slice() {
+        Some(EdgeMark::Green)
+    } else if word == b"blue".as_slice() {
+        Some(EdgeMark::Blue)
+    } else if word == b"dashed".as_slice() {
+        Some(EdgeMark::Dashed)
+    } else {
+        None
+    }
+}
 
 fn is_any(mark: &Option<Name>) -> bool
     ensures { result ≡ is_any mark.now }
 {
     match mark {
-        Some(word) => word.as_bytes() == b"any".as_slice(),
+        Some(word) => says_any(word),
         None => false,
     }
 }
@@ -24,32 +69,18 @@ fn is_any(mark: &Option<Name>) -> bool
 fn is_node_mark(mark: &Option<Name>) -> bool
     ensures { result ≡ is_node_mark mark.now }
 {
-    let Some(word) = mark else {
-        return true;
-    };
-    match word.as_bytes() {
-        b"any" => true,
-        b"red" => true,
-        b"green" => true,
-        b"blue" => true,
-        b"grey" => true,
-        _ => false,
+    match mark {
+        Some(word) => says_any(word) || node_mark(word).is_some(),
+        None => true,
     }
 }
 
 fn is_edge_mark(mark: &Option<Name>) -> bool
     ensures { result ≡ is_edge_mark mark.now }
 {
-    let Some(word) = mark else {
-        return true;
-    };
-    match word.as_bytes() {
-        b"any" => true,
-        b"red" => true,
-        b"green" => true,
-        b"blue" => true,
-        b"dashed" => true,
-        _ => false,
+    match mark {
+        Some(word) => says_any(word) || edge_mark(word).is_some(),
+        None => true,
     }
 }
 

@@ -15,14 +15,22 @@ use crate::names::unknown_in_tests;
 use crate::typed::{has_simple_labels, has_typed_labels, is_well_typed_condition};
 use crate::variables::{Variables, add_side};
 use gp_memory::NoMemory;
-use gp_syntax::{Cond, GraphDecl, Name, NameTable, RuleDecl};
+use gp_syntax::{Cond, GraphDecl, Name, NameTable, RuleDecl, VariableType};
+use sqlite_items::Items;
 use std::alloc::Global;
 
 /// The variables of a rule: those that are declared, and of these the ones that stand in left labels.
-#[derive(Drop)]
 pub struct Scope {
     pub declared: Variables,
     pub left: Variables,
+}
+
+impl Drop for Scope {
+    fn drop(self) {
+        let Scope { declared, left } = self;
+        drop(declared);
+        drop(left);
+    }
 }
 
 impl Scope {
@@ -38,6 +46,14 @@ impl Scope {
         let mut left = Variables::new(alloc);
         left.add_groups(alloc, Some(&standing), rule.variables.as_slice())?;
         Ok(Scope { declared, left })
+    }
+
+    /// The types of the variables that stand in left labels.
+    pub fn into_left_types(self) -> Items<VariableType>
+        ensures { result ≡ self.left.types }
+    {
+        let Scope { declared: _, left } = self;
+        left.into_types()
     }
 }
 

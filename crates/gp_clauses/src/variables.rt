@@ -13,10 +13,17 @@ use sqlite_items::Items;
 use std::alloc::Global;
 
 /// Variables in the order of their declaration: their names, and the type of each.
-#[derive(Drop)]
 pub struct Variables {
     pub names: NameTable,
     pub types: Items<VariableType>,
+}
+
+impl Drop for Variables {
+    fn drop(self) {
+        let Variables { names, types } = self;
+        drop(names);
+        drop(types);
+    }
 }
 
 impl Variables {
@@ -28,6 +35,14 @@ impl Variables {
             names: NameTable::new(alloc),
             types: Items::new(alloc),
         }
+    }
+
+    /// The types alone.
+    pub fn into_types(self) -> Items<VariableType>
+        ensures { result ≡ self.types }
+    {
+        let Variables { names: _, types } = self;
+        types
     }
 
     /// The type of a variable; list, where there is no such variable.

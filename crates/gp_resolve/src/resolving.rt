@@ -24,11 +24,7 @@ pub fn resolve(alloc: Global, tree: Ast) -> Result<Scoped, ScopeFault>
     let Ast { declarations } = tree;
     let bodies = faultless_bodies(alloc, declarations.as_slice())?;
     let rules = take_rules(alloc, declarations)?;
-    let Bodies {
-        main,
-        procedures,
-        sets,
-    } = bodies;
+    let (main, procedures, sets) = bodies.into_parts();
     Ok(Scoped::new(ScopedParts {
         main: main.unwrap(),
         procedures: Items::from_vec(procedures),

@@ -11,12 +11,46 @@ use std::marker::Model;
 
 /// The bodies of Main and of the procedures, the rule set of each call by the numbers of its rules, and the declarations
 /// of the rules in text order.
-#[derive(Drop)]
 pub struct ScopedParts {
     pub main: Command,
     pub procedures: Items<Command>,
     pub sets: Items<Items<u32>>,
     pub rules: Items<RuleDecl>,
+}
+
+impl Drop for ScopedParts {
+    fn drop(self) {
+        let ScopedParts {
+            main,
+            procedures,
+            sets,
+            rules,
+        } = self;
+        drop(main);
+        drop(procedures);
+        drop(sets);
+        drop(rules);
+    }
+}
+
+impl ScopedParts {
+    // With these rules in place of declarations.
+    fn with(self, rules: Items<Rule>) -> ProgramParts
+        ensures { result ≡ record { main = self.main; procedures = self.procedures; sets = self.sets; rules = rules } }
+    {
+        let ScopedParts {
+            main,
+            procedures,
+            sets,
+            rules: _,
+        } = self;
+        ProgramParts {
+            main,
+            procedures,
+            sets,
+            rules,
+        }
+    }
 }
 
 /// A text without a fault of names or calls. Contracts see its parts.
@@ -62,17 +96,6 @@ impl Scoped {
         ensures program { (os : Outline) → IsResolved os self → program_of_tree result ≡ program_with os (map rule_of_tree rules) }
         ensures rules { result.rules ≡ rules }
     {
-        let ScopedParts {
-            main,
-            procedures,
-            sets,
-            ..
-        } = self.parts;
-        Program::new(ProgramParts {
-            main,
-            procedures,
-            sets,
-            rules,
-        })
+        Program::new(self.parts.with(rules))
     }
 }

@@ -1,6 +1,7 @@
 //! The bodies of a program text, with numbers in place of names.
 
 ghost use Rattle.std.specs.Prelude.{◌≡◌, ◌+◌, ◌<◌, ◌^◌, [], None, IfOk, OnOk};
+ghost use Rattle.gp_syntax.specs.Tree.{command_of};
 ghost use Rattle.gp_scope.specs.Outline.{outline, named};
 ghost use Rattle.gp_scope.specs.Names.{bodies};
 ghost use Rattle.gp_scope.specs.Fault.{doubled_behind, fault_of_names};
@@ -8,7 +9,7 @@ ghost use Rattle.gp_scope.specs.Bodies.{AreBodies};
 ghost use Rattle.gp_scope.specs.inside.Levels.{scope_of};
 ghost use Rattle.gp_scope.specs.inside.Surveys.{declarations_in};
 ghost use Rattle.gp_scope.specs.inside.Declares.{KeepsOnce, Stands};
-ghost use Rattle.gp_scope.specs.inside.Numbering.{Numbers, numbered_of, with_body, with_bodies};
+ghost use Rattle.gp_scope.specs.inside.Numbering.{Numbers, numbered_of, with_command, with_body, with_bodies};
 
 use crate::declare::level_of;
 use crate::few::declaration_count;
@@ -21,11 +22,63 @@ use std::alloc::Global;
 
 /// Bodies with numbers in place of names: that of Main, if it is among them, and those of procedures, by their numbers;
 /// and the rules of the sets that they call, by the numbers of the calls.
-#[derive(Drop)]
 pub struct Bodies {
     pub main: Option<Command>,
     pub procedures: Vec<Command>,
     pub sets: Vec<Items<u32>>,
+}
+
+impl Drop for Bodies {
+    fn drop(self) {
+        let Bodies {
+            main,
+            procedures,
+            sets,
+        } = self;
+        drop(main);
+        drop(procedures);
+        drop(sets);
+    }
+}
+
+impl Bodies {
+    // With the body of this name. A second Main is left out.
+    fn with(self, name: &Name, command: Command) -> Result<Bodies, NoMemory>
+        ensures { IfOk result (λ b. numbered_of b ≡ with_command (numbered_of self) name.now (command_of command)) }
+    {
+        let Bodies {
+            main,
+            mut procedures,
+            sets,
+        } = self;
+        if is_main(name) {
+            return Ok(Bodies {
+                main: main.or(Some(command)),
+                procedures,
+                sets,
+            });
+        }
+        procedures.push(command)?;
+        Ok(Bodies {
+            main,
+            procedures,
+            sets,
+        })
+    }
+
+    /// The body of Main, those of procedures, and the sets.
+    pub fn into_parts(self) -> (Option<Command>, Vec<Command>, Vec<Items<u32>>)
+        ensures main { result.0 ≡ self.main }
+        ensures procedures { result.1 ≡ self.procedures }
+        ensures sets { result.2 ≡ self.sets }
+    {
+        let Bodies {
+            main,
+            procedures,
+            sets,
+        } = self;
+        (main, procedures, sets)
+    }
 }
 
 /// The bodies of a program text whose names are in order.
@@ -105,7 +158,7 @@ fn with_own(
     }
 }
 
-// With one body. A second Main is left out.
+// With one body.
 fn with_body(
     alloc: Global,
     levels: &[Level],
@@ -115,24 +168,7 @@ fn with_body(
 ) -> Result<Bodies, NoMemory>
     ensures { IfOk result (λ b. numbered_of b ≡ with_body (numbered_of done) (record { name = name.now; scope = scope_of levels.now; command = named body.now })) }
 {
-    let Bodies {
-        main,
-        mut procedures,
-        mut sets,
-    } = done;
-    let command = number(alloc, levels, body, &mut sets)?;
-    if is_main(name) {
-        let main = main.or(Some(command));
-        return Ok(Bodies {
-            main,
-            procedures,
-            sets,
-        });
-    }
-    procedures.push(command)?;
-    Ok(Bodies {
-        main,
-        procedures,
-        sets,
-    })
+    let mut done = done;
+    let command = number(alloc, levels, body, &mut done.sets)?;
+    done.with(name, command)
 }

@@ -13,10 +13,17 @@ use std::alloc::Global;
 use std::marker::Model;
 
 /// The names that declarations among one another give a meaning to, each once. Contracts see them with their meanings.
-#[derive(Drop)]
 pub(crate) struct Level {
     names: NameTable,
     meanings: Vec<Meaning>,
+}
+
+impl Drop for Level {
+    fn drop(self) {
+        let Level { names, meanings } = self;
+        drop(names);
+        drop(meanings);
+    }
 }
 
 impl Model for Level {

@@ -4,7 +4,7 @@ ghost use Rattle.std.specs.Prelude.{◌≡◌, Some};
 ghost use Rattle.gp_scope.specs.Names.{rule_of, procedure_of};
 
 /// What a name means where it stands: a rule, or a procedure, by its number.
-#[derive(Clone, Copy, Debug, PartialEq, Eq)]
+#[derive(Clone, Copy)]
 pub enum Meaning {
     Rule(u32),
     Procedure(u32),

@@ -1,6 +1,7 @@
 //! Commands with numbers in place of names.
 
 ghost use Rattle.std.specs.Prelude.{◌≡◌, ◌+◌, ◌<◌, ◌^◌, [], ◌∷◌, ◌++◌, map, length, IfOk, OnOk};
+ghost use Rattle.gp_syntax.specs.declared.command.Command.TheVariants as command;
 ghost use Rattle.gp_syntax.specs.Tree.{command_of};
 ghost use Rattle.gp_scope.specs.Outline.{named};
 ghost use Rattle.gp_scope.specs.Resolved.{called_sets, resolved, rule_number, procedure_number};
@@ -11,6 +12,80 @@ use crate::level::{Level, meaning_at};
 use gp_memory::NoMemory;
 use gp_syntax::{Boxed, Command, CommandTree, Items, Name};
 use std::alloc::Global;
+
+// A condition with its branches.
+struct Branches {
+    condition: Boxed<Command>,
+    then: Boxed<Command>,
+    other: Boxed<Command>,
+}
+
+impl Drop for Branches {
+    fn drop(self) {
+        let Branches {
+            condition,
+            then,
+            other,
+        } = self;
+        drop(condition);
+        drop(then);
+        drop(other);
+    }
+}
+
+impl Branches {
+    fn into_if(self) -> Command
+        ensures { result ≡ command.If self.condition self.then self.other }
+    {
+        let Branches {
+            condition,
+            then,
+            other,
+        } = self;
+        Command::If(condition, then, other)
+    }
+
+    fn into_try(self) -> Command
+        ensures { result ≡ command.Try self.condition self.then self.other }
+    {
+        let Branches {
+            condition,
+            then,
+            other,
+        } = self;
+        Command::Try(condition, then, other)
+    }
+}
+
+// The parts of a chain.
+struct Chain {
+    first: Boxed<Command>,
+    rest: Items<Command>,
+}
+
+impl Drop for Chain {
+    fn drop(self) {
+        let Chain { first, rest } = self;
+        drop(first);
+        drop(rest);
+    }
+}
+
+impl Chain {
+    fn into_seq(self) -> Command
+        ensures { result ≡ command.Seq self.first self.rest }
+    {
+        let Chain { first, rest } = self;
+        Command::Seq(first, rest)
+    }
+
+    fn into_or(self) -> Command
+        ensures { result ≡ command.Or self.first self.rest }
+    {
+        let Chain { first, rest } = self;
+        Command::Or(first, rest)
+    }
+}
 
 /// The command with numbers. The sets that it calls are put behind those that are there, and numbered by their places.
 #[cycle(number)]
@@ -30,22 +105,34 @@ pub(crate) fn number(
         }
         CommandTree::Procedure(name) => Ok(Command::Proc(procedure_at(levels, name))),
         CommandTree::Seq(first, rest) => {
-            let (first, rest) = number_chain(alloc, levels, first.get(), rest.as_slice(), sets)?;
-            Ok(Command::Seq(first, rest))
+            let chain = number_chain(alloc, levels, first.get(), rest.as_slice(), sets)?;
+            Ok(chain.into_seq())
         }
         CommandTree::Or(first, rest) => {
-            let (first, rest) = number_chain(alloc, levels, first.get(), rest.as_slice(), sets)?;
-            Ok(Command::Or(first, rest))
+            let chain = number_chain(alloc, levels, first.get(), rest.as_slice(), sets)?;
+            Ok(chain.into_or())
         }
         CommandTree::If(condition, then, other) => {
-            let condition = number_boxed(alloc, levels, condition.get(), sets)?;
-            let (then, other) = number_two(alloc, levels, then.get(), other.get(), sets)?;
-            Ok(Command::If(condition, then, other))
+            let branches = number_branches(
+                alloc,
+                levels,
+                condition.get(),
+                then.get(),
+                other.get(),
+                sets,
+            )?;
+            Ok(branches.into_if())
         }
         CommandTree::Try(condition, then, other) => {
-            let condition = number_boxed(alloc, levels, condition.get(), sets)?;
-            let (then, other) = number_two(alloc, levels, then.get(), other.get(), sets)?;
-            Ok(Command::Try(condition, then, other))
+            let branches = number_branches(
+                alloc,
+                levels,
+                condition.get(),
+                then.get(),
+                other.get(),
+                sets,
+            )?;
+            Ok(branches.into_try())
         }
         CommandTree::Loop(body) => Ok(Command::Loop(number_boxed(
             alloc,
@@ -73,22 +160,29 @@ fn number_boxed(
     Ok(Boxed::new(alloc, numbered)?)
 }
 
-// Two branches.
+// A condition and its branches.
 #[cycle(number)]
-fn number_two(
+fn number_branches(
     alloc: Global,
     levels: &[Level],
     first: &CommandTree,
     second: &CommandTree,
+    third: &CommandTree,
     sets: &mut Vec<Items<u32>>,
-) -> Result<(Boxed<Command>, Boxed<Command>), NoMemory>
-    ensures first { IfOk result (λ r. command_of r.0 ≡ resolved (scope_of levels.now) (length sets.old.items) (named first.now)) }
-    ensures second { IfOk result (λ r. command_of r.1 ≡ resolved (scope_of levels.now) (length sets.old.items + length (called_sets (named first.now))) (named second.now)) }
-    ensures sets { OnOk result (sets.new.items ≡ sets.old.items ++ (sets_in (scope_of levels.now) (named first.now) ++ sets_in (scope_of levels.now) (named second.now))) }
+) -> Result<Branches, NoMemory>
+    ensures first { IfOk result (λ r. command_of r.condition ≡ resolved (scope_of levels.now) (length sets.old.items) (named first.now)) }
+    ensures second { IfOk result (λ r. command_of r.then ≡ resolved (scope_of levels.now) (length sets.old.items + length (called_sets (named first.now))) (named second.now)) }
+    ensures third { IfOk result (λ r. command_of r.other ≡ resolved (scope_of levels.now) (length sets.old.items + length (called_sets (named first.now)) + length (called_sets (named second.now))) (named third.now)) }
+    ensures sets { OnOk result (sets.new.items ≡ sets.old.items ++ (sets_in (scope_of levels.now) (named first.now) ++ (sets_in (scope_of levels.now) (named second.now) ++ sets_in (scope_of levels.now) (named third.now)))) }
 {
     let first = number_boxed(alloc, levels, first, sets)?;
     let second = number_boxed(alloc, levels, second, sets)?;
-    Ok((first, second))
+    let third = number_boxed(alloc, levels, third, sets)?;
+    Ok(Branches {
+        condition: first,
+        then: second,
+        other: third,
+    })
 }
 
 // A chain.
@@ -99,14 +193,14 @@ fn number_chain(
     first: &CommandTree,
     rest: &[CommandTree],
     sets: &mut Vec<Items<u32>>,
-) -> Result<(Boxed<Command>, Items<Command>), NoMemory>
-    ensures first { IfOk result (λ r. command_of r.0 ≡ resolved (scope_of levels.now) (length sets.old.items) (named first.now)) }
-    ensures rest { IfOk result (λ r. map command_of r.1 ≡ resolved_rest (scope_of levels.now) (length sets.old.items + length (called_sets (named first.now))) rest.now) }
+) -> Result<Chain, NoMemory>
+    ensures first { IfOk result (λ r. command_of r.first ≡ resolved (scope_of levels.now) (length sets.old.items) (named first.now)) }
+    ensures rest { IfOk result (λ r. map command_of r.rest ≡ resolved_rest (scope_of levels.now) (length sets.old.items + length (called_sets (named first.now))) rest.now) }
     ensures sets { OnOk result (sets.new.items ≡ sets.old.items ++ (sets_in (scope_of levels.now) (named first.now) ++ sets_in_rest (scope_of levels.now) rest.now)) }
 {
     let first = number_boxed(alloc, levels, first, sets)?;
     let rest = number_rest(alloc, levels, rest, sets)?;
-    Ok((first, rest))
+    Ok(Chain { first, rest })
 }
 
 // The further parts of a chain.

@@ -1,6 +1,7 @@
 -- Bodies numbered one after another.
 use Rattle.std.specs.Prelude.{◌≡◌, ℕ, ◌+◌, if◌then◌else◌, List, [], ◌∷◌, ◌++◌, map, length, Option, Some, option_map}
 use Rattle.std.specs.Option.{option_or}
+use Rattle.gp_values.specs.Names.{Name}
 use Rattle.gp_syntax.specs.declared.tree.Decl.{Decl}
 use Rattle.gp_syntax.specs.Run as meant
 use Rattle.gp_syntax.specs.Tree.{command_of}
@@ -18,6 +19,14 @@ pub record Numbered : Type 0 where
 
 abbrev pub numbered_of : Bodies → Numbered
 numbered_of b = record { main = option_map command_of b.main; procedures = map command_of b.procedures.items; sets = b.sets.items }
+
+-- with a command as the body of this name; a second Main is not looked at
+abbrev pub with_command : Numbered → Name → meant.Command → Numbered
+with_command d n c = record {
+  main = if is_main n then option_or d.main (Some c) else d.main;
+  procedures = if is_main n then d.procedures else d.procedures ++ c ∷ [];
+  sets = d.sets;
+}
 
 -- with one more body; a second Main is not looked at
 abbrev pub with_body : Numbered → Body → Numbered

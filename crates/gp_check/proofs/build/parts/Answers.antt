@@ -1,28 +1,28 @@
 use Rattle.std.proofs.Common.{ap, ◌∙◌}
 use Rattle.gp_syntax.specs.declared.rule.RuleParts.{RuleParts}
-use Rattle.gp_syntax.specs.Tree.{declaration_of}
+use Rattle.gp_syntax.specs.Tree.{declaration_of, rule_of_tree}
 use Rattle.gp_check.specs.inside.Placed.{rule_at}
-use Rattle.gp_check.proofs.Wholes.{plain_labels, rule_made}
+use Rattle.gp_check.proofs.Wholes.{rule_made}
 use Rattle.gp_clauses.specs.declared.variables.Variables.{Variables}
 use Rattle.gp_check.proofs.build.parts.Goals as goal
-
-pub left_nodes-requires : goal.left_nodes-requires
-left_nodes-requires c = (plain_labels c.args.rule.now c.requires.simple).0
-
-pub left_edges-requires : goal.left_edges-requires
-left_edges-requires c = (plain_labels c.args.rule.now c.requires.simple).1
 
 pub returns-clause-rule : goal.returns-clause-rule
 returns-clause-rule c =
     let d = declaration_of c.args.rule.now in
+    let names = c.args.scope.left.names in
+    let s = c.in_ok-sides.sides in
+    let are = c.in_ok-sides.ensures in
     let made : RuleParts = record {
       name = c.in_ok-name.name;
-      types = c.args.scope.left.types;
-      left_nodes = c.in_ok-left_nodes.left_nodes;
-      left_edges = c.in_ok-left_edges.left_edges;
-      right_nodes = c.in_ok-right_nodes.right_nodes;
-      right_edges = c.in_ok-right_edges.right_edges;
+      types = c.into_left_types.result;
+      left_nodes = s.left_nodes;
+      left_edges = s.left_edges;
+      right_nodes = s.right_nodes;
+      right_edges = s.right_edges;
       condition = c.in_ok-condition.condition;
     } in
-    rule_made c.args.scope.left.names d made c.in_ok-left_nodes.ensures c.in_ok-left_edges.ensures c.in_ok-right_nodes.ensures c.in_ok-right_edges.ensures c.in_ok-condition.ensures
-    ∙ ap (λ (v : Variables). rule_at v.names d v.types) c.requires.scope.left
+    ap rule_of_tree c.with.ensures ∙ rule_made names d made are.left_nodes are.left_edges are.right_nodes are.right_edges c.in_ok-condition.ensures
+    ∙ ap (rule_at names d) c.into_left_types.ensures ∙ ap (λ (v : Variables). rule_at v.names d v.types) c.requires.scope.left
+
+pub returns-clause-name : goal.returns-clause-name
+returns-clause-name c = ap (λ (r : RuleParts). r.name) c.with.ensures ∙ c.in_ok-name.ensures

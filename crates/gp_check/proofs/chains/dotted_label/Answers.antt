@@ -1,10 +1,5 @@
-use Rattle.std.proofs.Common.{[], ◌∷◌}
-use Rattle.gp_syntax.proofs.Trees.{label_of-Dot}
-use Rattle.gp_check.proofs.Pushes.{dot_label_pushed}
+use Rattle.gp_check.proofs.Pushes.{dot_label_grown}
 use Rattle.gp_check.proofs.chains.dotted_label.Goals as goal
 
-pub returns-in_ok-push-in-Ok : goal.returns-in_ok-push-in-Ok
-returns-in_ok-push-in-Ok c = rw (c.in_ok-push-in-Ok.ensures.ok, c.in-Ok.ensures) (dot_label_pushed c.in-Ok.first c.in-Ok.rest c.args.part)
-
-pub returns-in_ok-new-in-Err : goal.returns-in_ok-new-in-Err
-returns-in_ok-new-in-Err c = rw (c.in_ok-push-in-Err.ensures.ok, c.new-rest.ensures, c.in_ok-new-in-Err.ensures, c.in-Err.ensures) (label_of-Dot c.args.total (c.args.part ∷ []))
+pub returns : goal.returns
+returns c = dot_label_grown c.args.total c.into_dots.result c.args.part (c.in_ok-first.first, c.in_ok-first.rest) c.into_dots.ensures c.in_ok-first.ensures

@@ -1,10 +1,5 @@
-use Rattle.std.proofs.Common.{[], ◌∷◌}
-use Rattle.gp_syntax.proofs.Trees.{expression_of-Join}
-use Rattle.gp_check.proofs.Pushes.{join_pushed}
+use Rattle.gp_check.proofs.Pushes.{join_grown}
 use Rattle.gp_check.proofs.chains.joined.Goals as goal
 
-pub returns-in_ok-push-in-Ok : goal.returns-in_ok-push-in-Ok
-returns-in_ok-push-in-Ok c = rw (c.in_ok-push-in-Ok.ensures.ok, c.in-Ok.ensures) (join_pushed c.in-Ok.first c.in-Ok.rest c.args.part)
-
-pub returns-in_ok-new-in-Err : goal.returns-in_ok-new-in-Err
-returns-in_ok-new-in-Err c = rw (c.in_ok-push-in-Err.ensures.ok, c.new-rest.ensures, c.in_ok-new-in-Err.ensures, c.in-Err.ensures) (expression_of-Join c.args.total (c.args.part ∷ []))
+pub returns : goal.returns
+returns c = join_grown c.args.total c.into_joins.result c.args.part (c.in_ok-first.first, c.in_ok-first.rest) c.into_joins.ensures c.in_ok-first.ensures

@@ -1,10 +1,5 @@
-use Rattle.std.proofs.Common.{[], ◌∷◌}
-use Rattle.gp_syntax.proofs.Trees.{expression_of-Product}
-use Rattle.gp_check.proofs.Pushes.{product_pushed}
+use Rattle.gp_check.proofs.Pushes.{product_grown}
 use Rattle.gp_check.proofs.chains.multiplied.Goals as goal
 
-pub returns-in_ok-push-in-Ok : goal.returns-in_ok-push-in-Ok
-returns-in_ok-push-in-Ok c = rw (c.in_ok-push-in-Ok.ensures.ok, c.in-Ok.ensures) (product_pushed c.in-Ok.first c.in-Ok.rest (record { sign = c.args.sign; operand = c.args.operand }))
-
-pub returns-in_ok-new-in-Err : goal.returns-in_ok-new-in-Err
-returns-in_ok-new-in-Err c = rw (c.in_ok-push-in-Err.ensures.ok, c.new-rest.ensures, c.in_ok-new-in-Err.ensures, c.in-Err.ensures) (expression_of-Product c.args.total ((record { sign = c.args.sign; operand = c.args.operand }) ∷ []))
+pub returns : goal.returns
+returns c = product_grown c.args.total c.into_product.result (record { sign = c.args.sign; operand = c.args.operand }) (c.in_ok-first.first, c.in_ok-first.rest) c.into_product.ensures c.in_ok-first.ensures

@@ -1,9 +1,10 @@
-use Rattle.std.proofs.Common.{ℕ, fold, sym, ap, ◌∙◌}
+use Rattle.std.proofs.Common.{◌≡◌, ℕ, ◌<◌, Some, slice_get, fold, sym, ap, ◌∙◌, arith}
 use Rattle.gp_syntax.specs.Expression.{HasType, HasEdge, HasEdgeWith, Compared, Not}
 use Rattle.gp_syntax.specs.Tree.{condition_of, pattern_of}
 use Rattle.gp_syntax.proofs.Trees.{condition_of-HasType, condition_of-HasEdge, condition_of-HasEdgeWith, condition_of-Compared, condition_of-Not}
-use Rattle.gp_clauses.specs.inside.ConditionShapes.{named_condition}
-use Rattle.gp_clauses.proofs.Walks.{fold_ended}
+use Rattle.gp_clauses.specs.inside.Size.{condition_size}
+use Rattle.gp_clauses.specs.inside.ConditionShapes.{named_condition, connected}
+use Rattle.gp_clauses.proofs.Walks.{fold_step, fold_ended, item_at}
 use Rattle.gp_check.specs.inside.Placed.{placed_condition_in}
 use Rattle.gp_check.proofs.Placing.{with_placed_part, placed_condition_chain}
 use Rattle.gp_check.proofs.condition.+placed_condition.Goals as goal
@@ -34,3 +35,25 @@ returns-after-parts t c =
     sym (fold_ended (with_placed_part c.args.places c.in-Chain.by) ds c.parts.part-index (condition_of pattern_of c.parts.total) c.parts-test.false) ∙ c.parts.invariant
     ∙ ap (λ x. fold (with_placed_part c.args.places c.in-Chain.by) x ds) c.in_ok-total-in-Chain.ensures ∙ sym (placed_condition_chain c.args.places c.in-Chain.by (named_condition c.in-Chain.first.now) ds)
     ∙ ap (placed_condition_in c.args.places) (sym c.in-Chain.ensures.whole)
+
+pub placed_condition-requires : goal.placed_condition-requires
+placed_condition-requires t c =
+    let l : condition_size c.in-Not.part.now < condition_size c.args.c.now = c.in-Not.ensures.smaller in
+    (omega arith, tt)
+
+pub placed_condition-requires-in-Chain : goal.placed_condition-requires-in-Chain
+placed_condition-requires-in-Chain t c =
+    let l : condition_size c.in-Chain.first.now < condition_size c.args.c.now = c.in-Chain.ensures.smaller.0 in
+    (omega arith, tt)
+
+pub placed_condition-requires-in-parts : goal.placed_condition-requires-in-parts
+placed_condition-requires-in-parts t c =
+    let at : slice_get c.in-Chain.rest.now c.parts.part-index ≡ Some c.part-item.result = item_at c.in-Chain.rest.now _ _ c.parts-test.true c.part-item.is in
+    let l : condition_size c.part-item.result < condition_size c.args.c.now = c.in-Chain.ensures.smaller.1 c.parts.part-index _ at in
+    (omega arith, tt)
+
+pub parts-preserved : goal.parts-preserved
+parts-preserved t c =
+    let at : slice_get c.in-Chain.rest.now c.parts.part-index ≡ Some c.part-item.result = item_at c.in-Chain.rest.now _ _ c.parts-test.true c.part-item.is in
+    fold_step (with_placed_part c.args.places c.in-Chain.by) c.in-Chain.rest.now c.parts.part-index _ (condition_of pattern_of c.parts.total) _ _ at
+    (c.in_ok-total-in-Chain-2.ensures ∙ ap (connected c.in-Chain.by (condition_of pattern_of c.parts.total)) c.in_ok-next-in-Chain.ensures) c.parts.invariant

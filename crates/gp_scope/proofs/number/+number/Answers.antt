@@ -20,15 +20,15 @@ number-number_chain-requires t c =
     let z : size c.args.command.now ≡ 1 + size c.get.result.now + sizes c.as_slice-in-Seq.result.now = ap size e ∙ size-Seq c.get.result.now c.as_slice-in-Seq.result.now in
     (search rules, tt)
 
-pub number-returns-in_ok-first-in-Seq-clause-command : goal.number-returns-in_ok-first-in-Seq-clause-command
-number-returns-in_ok-first-in-Seq-clause-command t c =
+pub number-returns-in_ok-chain-in-Seq-clause-command : goal.number-returns-in_ok-chain-in-Seq-clause-command
+number-returns-in_ok-chain-in-Seq-clause-command t c =
     let e : c.args.command.now ≡ tree.Seq c.get.result.now c.as_slice-in-Seq.result.now = c.in-Seq.is ∙ ap (λ x. tree.Seq x c.in-Seq.rest) (sym c.get.ensures) ∙ ap (tree.Seq c.get.result.now) (sym c.as_slice-in-Seq.ensures) in
-    seq_command (scope_of c.args.levels.now) (length c.args.sets.now.items) c.args.command.now c.get.result.now c.as_slice-in-Seq.result.now c.in_ok-first-in-Seq.first c.in_ok-first-in-Seq.rest e c.in_ok-first-in-Seq.ensures.first c.in_ok-first-in-Seq.ensures.rest
+    ap command_of c.into_seq.ensures ∙ seq_command (scope_of c.args.levels.now) (length c.args.sets.now.items) c.args.command.now c.get.result.now c.as_slice-in-Seq.result.now c.in_ok-chain-in-Seq.chain.first c.in_ok-chain-in-Seq.chain.rest e c.in_ok-chain-in-Seq.ensures.first c.in_ok-chain-in-Seq.ensures.rest
 
-pub number-returns-in_ok-first-in-Seq-clause-sets : goal.number-returns-in_ok-first-in-Seq-clause-sets
-number-returns-in_ok-first-in-Seq-clause-sets t c =
+pub number-returns-in_ok-chain-in-Seq-clause-sets : goal.number-returns-in_ok-chain-in-Seq-clause-sets
+number-returns-in_ok-chain-in-Seq-clause-sets t c =
     let e : c.args.command.now ≡ tree.Seq c.get.result.now c.as_slice-in-Seq.result.now = c.in-Seq.is ∙ ap (λ x. tree.Seq x c.in-Seq.rest) (sym c.get.ensures) ∙ ap (tree.Seq c.get.result.now) (sym c.as_slice-in-Seq.ensures) in
-    c.in_ok-first-in-Seq.ensures.sets ∙ ap (λ l. c.args.sets.now.items ++ l) (seq_sets (scope_of c.args.levels.now) (length c.args.sets.now.items) c.args.command.now c.get.result.now c.as_slice-in-Seq.result.now e)
+    c.in_ok-chain-in-Seq.ensures.sets ∙ ap (λ l. c.args.sets.now.items ++ l) (seq_sets (scope_of c.args.levels.now) (length c.args.sets.now.items) c.args.command.now c.get.result.now c.as_slice-in-Seq.result.now e)
 
 pub number-number_chain-requires-in-Or : goal.number-number_chain-requires-in-Or
 number-number_chain-requires-in-Or t c =
@@ -36,64 +36,52 @@ number-number_chain-requires-in-Or t c =
     let z : size c.args.command.now ≡ 1 + size c.get-in-Or.result.now + sizes c.as_slice-in-Or.result.now = ap size e ∙ size-Or c.get-in-Or.result.now c.as_slice-in-Or.result.now in
     (search rules, tt)
 
-pub number-returns-in_ok-first-in-Or-clause-command : goal.number-returns-in_ok-first-in-Or-clause-command
-number-returns-in_ok-first-in-Or-clause-command t c =
+pub number-returns-in_ok-chain-in-Or-clause-command : goal.number-returns-in_ok-chain-in-Or-clause-command
+number-returns-in_ok-chain-in-Or-clause-command t c =
     let e : c.args.command.now ≡ tree.Or c.get-in-Or.result.now c.as_slice-in-Or.result.now = c.in-Or.is ∙ ap (λ x. tree.Or x c.in-Or.rest) (sym c.get-in-Or.ensures) ∙ ap (tree.Or c.get-in-Or.result.now) (sym c.as_slice-in-Or.ensures) in
-    or_command (scope_of c.args.levels.now) (length c.args.sets.now.items) c.args.command.now c.get-in-Or.result.now c.as_slice-in-Or.result.now c.in_ok-first-in-Or.first c.in_ok-first-in-Or.rest e c.in_ok-first-in-Or.ensures.first c.in_ok-first-in-Or.ensures.rest
+    ap command_of c.into_or.ensures ∙ or_command (scope_of c.args.levels.now) (length c.args.sets.now.items) c.args.command.now c.get-in-Or.result.now c.as_slice-in-Or.result.now c.in_ok-chain-in-Or.chain.first c.in_ok-chain-in-Or.chain.rest e c.in_ok-chain-in-Or.ensures.first c.in_ok-chain-in-Or.ensures.rest
 
-pub number-returns-in_ok-first-in-Or-clause-sets : goal.number-returns-in_ok-first-in-Or-clause-sets
-number-returns-in_ok-first-in-Or-clause-sets t c =
+pub number-returns-in_ok-chain-in-Or-clause-sets : goal.number-returns-in_ok-chain-in-Or-clause-sets
+number-returns-in_ok-chain-in-Or-clause-sets t c =
     let e : c.args.command.now ≡ tree.Or c.get-in-Or.result.now c.as_slice-in-Or.result.now = c.in-Or.is ∙ ap (λ x. tree.Or x c.in-Or.rest) (sym c.get-in-Or.ensures) ∙ ap (tree.Or c.get-in-Or.result.now) (sym c.as_slice-in-Or.ensures) in
-    c.in_ok-first-in-Or.ensures.sets ∙ ap (λ l. c.args.sets.now.items ++ l) (or_sets (scope_of c.args.levels.now) (length c.args.sets.now.items) c.args.command.now c.get-in-Or.result.now c.as_slice-in-Or.result.now e)
+    c.in_ok-chain-in-Or.ensures.sets ∙ ap (λ l. c.args.sets.now.items ++ l) (or_sets (scope_of c.args.levels.now) (length c.args.sets.now.items) c.args.command.now c.get-in-Or.result.now c.as_slice-in-Or.result.now e)
 
-pub number-number_boxed-requires : goal.number-number_boxed-requires
-number-number_boxed-requires t c =
-    let e : c.args.command.now ≡ tree.If c.get-in-If.result.now c.in-If.then c.in-If.other = c.in-If.is ∙ ap (λ x. tree.If x c.in-If.then c.in-If.other) (sym c.get-in-If.ensures) in
-    let z : size c.args.command.now ≡ 1 + size c.get-in-If.result.now + size c.in-If.then + size c.in-If.other = ap size e ∙ size-If c.get-in-If.result.now c.in-If.then c.in-If.other in
-    (search rules, tt)
-
-pub number-number_two-requires : goal.number-number_two-requires
-number-number_two-requires t c =
+pub number-number_branches-requires : goal.number-number_branches-requires
+number-number_branches-requires t c =
     let e : c.args.command.now ≡ tree.If c.get-in-If.result.now c.get-in-If-2.result.now c.get-in-If-3.result.now = c.in-If.is ∙ ap (λ x. tree.If x c.in-If.then c.in-If.other) (sym c.get-in-If.ensures) ∙ ap (λ x. tree.If c.get-in-If.result.now x c.in-If.other) (sym c.get-in-If-2.ensures) ∙ ap (tree.If c.get-in-If.result.now c.get-in-If-2.result.now) (sym c.get-in-If-3.ensures) in
     let z : size c.args.command.now ≡ 1 + size c.get-in-If.result.now + size c.get-in-If-2.result.now + size c.get-in-If-3.result.now = ap size e ∙ size-If c.get-in-If.result.now c.get-in-If-2.result.now c.get-in-If-3.result.now in
     (search rules, tt)
 
-pub number-returns-in_ok-then-in-If-clause-command : goal.number-returns-in_ok-then-in-If-clause-command
-number-returns-in_ok-then-in-If-clause-command t c =
+pub number-returns-in_ok-branches-in-If-clause-command : goal.number-returns-in_ok-branches-in-If-clause-command
+number-returns-in_ok-branches-in-If-clause-command t c =
     let e : c.args.command.now ≡ tree.If c.get-in-If.result.now c.get-in-If-2.result.now c.get-in-If-3.result.now = c.in-If.is ∙ ap (λ x. tree.If x c.in-If.then c.in-If.other) (sym c.get-in-If.ensures) ∙ ap (λ x. tree.If c.get-in-If.result.now x c.in-If.other) (sym c.get-in-If-2.ensures) ∙ ap (tree.If c.get-in-If.result.now c.get-in-If-2.result.now) (sym c.get-in-If-3.ensures) in
-    let l = behind_part (scope_of c.args.levels.now) c.args.sets.now.items c.number_boxed.new.sets.items c.get-in-If.result.now c.in_ok-condition-in-If.ensures.sets in
-    if_command (scope_of c.args.levels.now) (length c.args.sets.now.items) c.args.command.now c.get-in-If.result.now c.get-in-If-2.result.now c.get-in-If-3.result.now c.in_ok-condition-in-If.condition c.in_ok-then-in-If.then c.in_ok-then-in-If.other e c.in_ok-condition-in-If.ensures.command (subst (λ n. command_of c.in_ok-then-in-If.then ≡ resolved (scope_of c.args.levels.now) n (named c.get-in-If-2.result.now)) l c.in_ok-then-in-If.ensures.first) (subst (λ n. command_of c.in_ok-then-in-If.other ≡ resolved (scope_of c.args.levels.now) (n + how_many (named c.get-in-If-2.result.now)) (named c.get-in-If-3.result.now)) l c.in_ok-then-in-If.ensures.second)
+    let r = c.in_ok-branches-in-If in
+    ap command_of c.into_if.ensures ∙ if_command (scope_of c.args.levels.now) (length c.args.sets.now.items) c.args.command.now c.get-in-If.result.now c.get-in-If-2.result.now c.get-in-If-3.result.now r.branches.condition r.branches.then r.branches.other e r.ensures.first r.ensures.second r.ensures.third
 
-pub number-returns-in_ok-then-in-If-clause-sets : goal.number-returns-in_ok-then-in-If-clause-sets
-number-returns-in_ok-then-in-If-clause-sets t c =
+pub number-returns-in_ok-branches-in-If-clause-sets : goal.number-returns-in_ok-branches-in-If-clause-sets
+number-returns-in_ok-branches-in-If-clause-sets t c =
     let e : c.args.command.now ≡ tree.If c.get-in-If.result.now c.get-in-If-2.result.now c.get-in-If-3.result.now = c.in-If.is ∙ ap (λ x. tree.If x c.in-If.then c.in-If.other) (sym c.get-in-If.ensures) ∙ ap (λ x. tree.If c.get-in-If.result.now x c.in-If.other) (sym c.get-in-If-2.ensures) ∙ ap (tree.If c.get-in-If.result.now c.get-in-If-2.result.now) (sym c.get-in-If-3.ensures) in
-    c.in_ok-then-in-If.ensures.sets ∙ ap (λ l. l ++ (sets_in (scope_of c.args.levels.now) (named c.get-in-If-2.result.now) ++ sets_in (scope_of c.args.levels.now) (named c.get-in-If-3.result.now))) c.in_ok-condition-in-If.ensures.sets ∙ append_assoc c.args.sets.now.items (sets_in (scope_of c.args.levels.now) (named c.get-in-If.result.now)) (sets_in (scope_of c.args.levels.now) (named c.get-in-If-2.result.now) ++ sets_in (scope_of c.args.levels.now) (named c.get-in-If-3.result.now)) ∙ ap (λ l. c.args.sets.now.items ++ l) (sym (if_sets (scope_of c.args.levels.now) (length c.args.sets.now.items) c.args.command.now c.get-in-If.result.now c.get-in-If-2.result.now c.get-in-If-3.result.now e))
+    c.in_ok-branches-in-If.ensures.sets ∙ ap (λ l. c.args.sets.now.items ++ l) (sym (if_sets (scope_of c.args.levels.now) (length c.args.sets.now.items) c.args.command.now c.get-in-If.result.now c.get-in-If-2.result.now c.get-in-If-3.result.now e))
 
-pub number-number_boxed-requires-in-Try : goal.number-number_boxed-requires-in-Try
-number-number_boxed-requires-in-Try t c =
-    let e : c.args.command.now ≡ tree.Try c.get-in-Try.result.now c.in-Try.then c.in-Try.other = c.in-Try.is ∙ ap (λ x. tree.Try x c.in-Try.then c.in-Try.other) (sym c.get-in-Try.ensures) in
-    let z : size c.args.command.now ≡ 1 + size c.get-in-Try.result.now + size c.in-Try.then + size c.in-Try.other = ap size e ∙ size-Try c.get-in-Try.result.now c.in-Try.then c.in-Try.other in
-    (search rules, tt)
-
-pub number-number_two-requires-in-Try : goal.number-number_two-requires-in-Try
-number-number_two-requires-in-Try t c =
+pub number-number_branches-requires-in-Try : goal.number-number_branches-requires-in-Try
+number-number_branches-requires-in-Try t c =
     let e : c.args.command.now ≡ tree.Try c.get-in-Try.result.now c.get-in-Try-2.result.now c.get-in-Try-3.result.now = c.in-Try.is ∙ ap (λ x. tree.Try x c.in-Try.then c.in-Try.other) (sym c.get-in-Try.ensures) ∙ ap (λ x. tree.Try c.get-in-Try.result.now x c.in-Try.other) (sym c.get-in-Try-2.ensures) ∙ ap (tree.Try c.get-in-Try.result.now c.get-in-Try-2.result.now) (sym c.get-in-Try-3.ensures) in
     let z : size c.args.command.now ≡ 1 + size c.get-in-Try.result.now + size c.get-in-Try-2.result.now + size c.get-in-Try-3.result.now = ap size e ∙ size-Try c.get-in-Try.result.now c.get-in-Try-2.result.now c.get-in-Try-3.result.now in
     (search rules, tt)
 
-pub number-returns-in_ok-then-in-Try-clause-command : goal.number-returns-in_ok-then-in-Try-clause-command
-number-returns-in_ok-then-in-Try-clause-command t c =
+pub number-returns-in_ok-branches-in-Try-clause-command : goal.number-returns-in_ok-branches-in-Try-clause-command
+number-returns-in_ok-branches-in-Try-clause-command t c =
     let e : c.args.command.now ≡ tree.Try c.get-in-Try.result.now c.get-in-Try-2.result.now c.get-in-Try-3.result.now = c.in-Try.is ∙ ap (λ x. tree.Try x c.in-Try.then c.in-Try.other) (sym c.get-in-Try.ensures) ∙ ap (λ x. tree.Try c.get-in-Try.result.now x c.in-Try.other) (sym c.get-in-Try-2.ensures) ∙ ap (tree.Try c.get-in-Try.result.now c.get-in-Try-2.result.now) (sym c.get-in-Try-3.ensures) in
-    let l = behind_part (scope_of c.args.levels.now) c.args.sets.now.items c.number_boxed-in-Try.new.sets.items c.get-in-Try.result.now c.in_ok-condition-in-Try.ensures.sets in
-    try_command (scope_of c.args.levels.now) (length c.args.sets.now.items) c.args.command.now c.get-in-Try.result.now c.get-in-Try-2.result.now c.get-in-Try-3.result.now c.in_ok-condition-in-Try.condition c.in_ok-then-in-Try.then c.in_ok-then-in-Try.other e c.in_ok-condition-in-Try.ensures.command (subst (λ n. command_of c.in_ok-then-in-Try.then ≡ resolved (scope_of c.args.levels.now) n (named c.get-in-Try-2.result.now)) l c.in_ok-then-in-Try.ensures.first) (subst (λ n. command_of c.in_ok-then-in-Try.other ≡ resolved (scope_of c.args.levels.now) (n + how_many (named c.get-in-Try-2.result.now)) (named c.get-in-Try-3.result.now)) l c.in_ok-then-in-Try.ensures.second)
+    let r = c.in_ok-branches-in-Try in
+    ap command_of c.into_try.ensures ∙ try_command (scope_of c.args.levels.now) (length c.args.sets.now.items) c.args.command.now c.get-in-Try.result.now c.get-in-Try-2.result.now c.get-in-Try-3.result.now r.branches.condition r.branches.then r.branches.other e r.ensures.first r.ensures.second r.ensures.third
 
-pub number-returns-in_ok-then-in-Try-clause-sets : goal.number-returns-in_ok-then-in-Try-clause-sets
-number-returns-in_ok-then-in-Try-clause-sets t c =
+pub number-returns-in_ok-branches-in-Try-clause-sets : goal.number-returns-in_ok-branches-in-Try-clause-sets
+number-returns-in_ok-branches-in-Try-clause-sets t c =
     let e : c.args.command.now ≡ tree.Try c.get-in-Try.result.now c.get-in-Try-2.result.now c.get-in-Try-3.result.now = c.in-Try.is ∙ ap (λ x. tree.Try x c.in-Try.then c.in-Try.other) (sym c.get-in-Try.ensures) ∙ ap (λ x. tree.Try c.get-in-Try.result.now x c.in-Try.other) (sym c.get-in-Try-2.ensures) ∙ ap (tree.Try c.get-in-Try.result.now c.get-in-Try-2.result.now) (sym c.get-in-Try-3.ensures) in
-    c.in_ok-then-in-Try.ensures.sets ∙ ap (λ l. l ++ (sets_in (scope_of c.args.levels.now) (named c.get-in-Try-2.result.now) ++ sets_in (scope_of c.args.levels.now) (named c.get-in-Try-3.result.now))) c.in_ok-condition-in-Try.ensures.sets ∙ append_assoc c.args.sets.now.items (sets_in (scope_of c.args.levels.now) (named c.get-in-Try.result.now)) (sets_in (scope_of c.args.levels.now) (named c.get-in-Try-2.result.now) ++ sets_in (scope_of c.args.levels.now) (named c.get-in-Try-3.result.now)) ∙ ap (λ l. c.args.sets.now.items ++ l) (sym (try_sets (scope_of c.args.levels.now) (length c.args.sets.now.items) c.args.command.now c.get-in-Try.result.now c.get-in-Try-2.result.now c.get-in-Try-3.result.now e))
+    c.in_ok-branches-in-Try.ensures.sets ∙ ap (λ l. c.args.sets.now.items ++ l) (sym (try_sets (scope_of c.args.levels.now) (length c.args.sets.now.items) c.args.command.now c.get-in-Try.result.now c.get-in-Try-2.result.now c.get-in-Try-3.result.now e))
 
-pub number-number_boxed-requires-in-Loop : goal.number-number_boxed-requires-in-Loop
-number-number_boxed-requires-in-Loop t c =
+pub number-number_boxed-requires : goal.number-number_boxed-requires
+number-number_boxed-requires t c =
     let e : c.args.command.now ≡ tree.Loop c.get-in-Loop.result.now = c.in-Loop.is ∙ ap tree.Loop (sym c.get-in-Loop.ensures) in
     let z : size c.args.command.now ≡ 1 + size c.get-in-Loop.result.now = ap size e ∙ size-Loop c.get-in-Loop.result.now in
     (search rules, tt)
@@ -150,13 +138,38 @@ pub number-returns-in-Break-clause-sets : goal.number-returns-in-Break-clause-se
 number-returns-in-Break-clause-sets t c =
     nothing_behind c.args.sets.now.items _ (break_sets (scope_of c.args.levels.now) (length c.args.sets.now.items) c.args.command.now c.in-Break.is)
 
-pub number_two-number_boxed-requires : goal.number_two-number_boxed-requires
-number_two-number_boxed-requires t c =
+pub number_branches-number_boxed-requires : goal.number_branches-number_boxed-requires
+number_branches-number_boxed-requires t c =
     (search rules, tt)
 
-pub number_two-number_boxed-requires-2 : goal.number_two-number_boxed-requires-2
-number_two-number_boxed-requires-2 t c =
+pub number_branches-number_boxed-requires-2 : goal.number_branches-number_boxed-requires-2
+number_branches-number_boxed-requires-2 t c =
     (search rules, tt)
+
+pub number_branches-number_boxed-requires-3 : goal.number_branches-number_boxed-requires-3
+number_branches-number_boxed-requires-3 t c =
+    (search rules, tt)
+
+pub number_branches-returns-clause-second : goal.number_branches-returns-clause-second
+number_branches-returns-clause-second t c =
+    let s = scope_of c.args.levels.now in
+    c.in_ok-second.ensures.command ∙ ap (λ n. resolved s n (named c.args.second.now)) (behind_part s c.args.sets.now.items _ c.args.first.now c.in_ok-first.ensures.sets)
+
+pub number_branches-returns-clause-third : goal.number_branches-returns-clause-third
+number_branches-returns-clause-third t c =
+    let s = scope_of c.args.levels.now in
+    c.in_ok-third.ensures.command
+    ∙ ap (λ n. resolved s n (named c.args.third.now))
+    (behind_part s _ _ c.args.second.now c.in_ok-second.ensures.sets ∙ ap (λ n. n + how_many (named c.args.second.now)) (behind_part s c.args.sets.now.items _ c.args.first.now c.in_ok-first.ensures.sets))
+
+pub number_branches-returns-clause-sets : goal.number_branches-returns-clause-sets
+number_branches-returns-clause-sets t c =
+    let s = scope_of c.args.levels.now in
+    let old = c.args.sets.now.items in
+    let a = sets_in s (named c.args.first.now) in
+    let b = sets_in s (named c.args.second.now) in
+    let d = sets_in s (named c.args.third.now) in
+    c.in_ok-third.ensures.sets ∙ ap (λ l. l ++ d) (c.in_ok-second.ensures.sets ∙ ap (λ l. l ++ b) c.in_ok-first.ensures.sets) ∙ append_assoc (old ++ a) b d ∙ append_assoc old a (b ++ d)
 
 pub number_chain-number_rest-requires : goal.number_chain-number_rest-requires
 number_chain-number_rest-requires t c =

@@ -10,8 +10,8 @@ decreases-number l = 4 * size l.command.now
 abbrev pub decreases-number_boxed : goal.decreases-number_boxed
 decreases-number_boxed l = 1 + 4 * size l.command.now
 
-abbrev pub decreases-number_two : goal.decreases-number_two
-decreases-number_two l = 2 + 4 * (size l.first.now + size l.second.now)
+abbrev pub decreases-number_branches : goal.decreases-number_branches
+decreases-number_branches l = 2 + 4 * (size l.first.now + size l.second.now + size l.third.now)
 
 abbrev pub decreases-number_chain : goal.decreases-number_chain
 decreases-number_chain l = 3 + 4 * (size l.first.now + sizes l.rest.now)
