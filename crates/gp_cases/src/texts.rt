@@ -1,0 +1,3 @@
+//! Kinds of rows that are about texts.
+
+pub(crate) mod tokens;
