@@ -6,6 +6,7 @@
 //! matches and steps.
 #![tactic(auto)]
 
+mod answers;
 mod fields;
 mod kinds;
 mod report;
