@@ -1,8 +1,8 @@
 //! The kinds of rows.
 
+use crate::answers::Answer;
 use crate::texts::programs::cuts;
 use crate::texts::{cursors, hosts, limits, lines, parts, programs, rules, scopes, tokens, traces};
-use crate::wrong::Wrong;
 use std::alloc::Global;
 
 /// What the rows of a file are about.
@@ -26,7 +26,6 @@ pub(crate) enum Kind {
     Scopes,
     Meanings,
     Lines,
-    LinesBehind,
     Sentences,
     Hosts,
     Beginnings,
@@ -37,7 +36,7 @@ pub(crate) enum Kind {
 }
 
 /// The files of rows, `NAME.rows`, and the kind of each.
-pub(crate) const FILES: [(&str, Kind); 39] = [
+pub(crate) const FILES: [(&str, Kind); 38] = [
     ("tokens", Kind::Tokens),
     ("token_lines", Kind::TokenLines),
     ("classes", Kind::Classes),
@@ -69,7 +68,6 @@ pub(crate) const FILES: [(&str, Kind); 39] = [
     ("scopes_bodies", Kind::Scopes),
     ("meanings", Kind::Meanings),
     ("lines", Kind::Lines),
-    ("lines_behind", Kind::LinesBehind),
     ("sentences", Kind::Sentences),
     ("hosts", Kind::Hosts),
     ("beginnings", Kind::Beginnings),
@@ -79,33 +77,32 @@ pub(crate) const FILES: [(&str, Kind); 39] = [
     ("assignments", Kind::Assignments),
 ];
 
-/// The answer to a row of this kind, from all its fields but the last one.
-pub(crate) fn answer(kind: Kind, alloc: Global, fields: &[Vec<u8>]) -> Result<Vec<u8>, Wrong> {
+/// Answers a row of this kind, from all its fields but the last one.
+pub(crate) fn answer(kind: Kind, alloc: Global, fields: &[Vec<u8>], out: &mut Answer) {
     match kind {
-        Kind::Tokens => tokens::answer(alloc, fields),
-        Kind::TokenLines => tokens::line(alloc, fields),
-        Kind::Classes => tokens::classes(alloc, fields),
-        Kind::Cursors => cursors::answer(alloc, fields),
-        Kind::Wants => cursors::wants(alloc, fields),
-        Kind::Integers => cursors::integer(alloc, fields),
-        Kind::Depths => limits::depth(alloc, fields),
-        Kind::Ranges => limits::range(alloc, fields),
-        Kind::Programs => programs::answer(alloc, fields),
-        Kind::Reads => programs::read(alloc, fields),
-        Kind::Cuts => cuts::cut(alloc, fields),
-        Kind::Ends => cuts::ends(alloc, fields),
-        Kind::Arrows => cuts::arrows(alloc, fields),
-        Kind::Rules => rules::answer(alloc, fields),
-        Kind::Scopes => scopes::answer(alloc, fields),
-        Kind::Meanings => scopes::meanings(alloc, fields),
-        Kind::Lines => lines::answer(alloc, fields),
-        Kind::LinesBehind => lines::behind(alloc, fields),
-        Kind::Sentences => lines::sentence(alloc, fields),
-        Kind::Hosts => hosts::answer(alloc, fields),
-        Kind::Beginnings => hosts::beginning(alloc, fields),
-        Kind::Traces => traces::answer(alloc, fields),
-        Kind::Names => parts::name(alloc, fields),
-        Kind::Founds => parts::found(alloc, fields),
-        Kind::Assignments => parts::assignment(alloc, fields),
+        Kind::Tokens => tokens::answer(alloc, fields, out),
+        Kind::TokenLines => tokens::line(alloc, fields, out),
+        Kind::Classes => tokens::classes(alloc, fields, out),
+        Kind::Cursors => cursors::answer(alloc, fields, out),
+        Kind::Wants => cursors::wants(alloc, fields, out),
+        Kind::Integers => cursors::integer(fields, out),
+        Kind::Depths => limits::depth(alloc, fields, out),
+        Kind::Ranges => limits::range(alloc, fields, out),
+        Kind::Programs => programs::answer(alloc, fields, out),
+        Kind::Reads => programs::read(alloc, fields, out),
+        Kind::Cuts => cuts::cut(alloc, fields, out),
+        Kind::Ends => cuts::ends(alloc, fields, out),
+        Kind::Arrows => cuts::arrows(alloc, fields, out),
+        Kind::Rules => rules::answer(alloc, fields, out),
+        Kind::Scopes => scopes::answer(alloc, fields, out),
+        Kind::Meanings => scopes::meanings(alloc, fields, out),
+        Kind::Lines => lines::answer(alloc, fields, out),
+        Kind::Sentences => lines::sentence(alloc, fields, out),
+        Kind::Hosts => hosts::answer(alloc, fields, out),
+        Kind::Beginnings => hosts::beginnings(alloc, fields, out),
+        Kind::Traces => traces::answer(alloc, fields, out),
+        Kind::Names => parts::name(alloc, fields, out),
+        Kind::Founds => parts::found(alloc, fields, out),
+        Kind::Assignments => parts::assignment(alloc, fields, out),
     }
 }

@@ -1,110 +1,113 @@
 //! Cursors over tokens, what they may want next, and integers of numerals.
 
-use crate::answers::{add_number, add_word, add_word_if};
-use crate::fields::{bytes_at, text_at};
-use crate::wrong::{Wrong, debugged, shown};
-use gp_grammar::{Numeral, ReadError, Tokens, Want, repeated_by, separated_by, stands_before};
-use gp_tokens::{Keyword, Kind, Token, lex};
+use crate::answers::Answer;
+use crate::fields::field;
+use crate::wrong::Wrong;
+use gp_grammar::{Numeral, Tokens, Want, repeated_by, separated_by, stands_before};
+use gp_tokens::{Keyword, Kind, lex};
 use std::alloc::Global;
-use std::fmt::Debug;
 
 /// What reading the tokens of a text by these steps gives.
-pub(crate) fn answer(alloc: Global, fields: &[Vec<u8>]) -> Result<Vec<u8>, Wrong> {
-    let steps = bytes_at(fields, 1)?;
-    let tokens = lex(alloc, bytes_at(fields, 0)?)?;
-    let mut cursor = Tokens::new(alloc, &tokens);
-    let mut given = Vec::new(alloc);
-    for step in steps.split(|byte| *byte == b' ') {
-        let text = step_of(alloc, &mut cursor, step)?;
-        add_word(&mut given, &text)?;
+pub(crate) fn answer(alloc: Global, fields: &[Vec<u8>], out: &mut Answer) {
+    match lex(alloc, field(fields, 0)) {
+        Ok(tokens) => {
+            let mut cursor = Tokens::new(alloc, &tokens);
+            for step in field(fields, 1).split(|byte| *byte == b' ') {
+                read(&mut cursor, step, out);
+            }
+        }
+        Err(fault) => out.show(&fault),
     }
-    Ok(given)
 }
 
-fn step_of(alloc: Global, tokens: &mut Tokens<'_, '_>, step: &[u8]) -> Result<Vec<u8>, Wrong> {
+// Steps that read a part.
+fn read(tokens: &mut Tokens<'_, '_>, step: &[u8], out: &mut Answer) {
     match step {
-        b"number" => read(alloc, tokens.number()),
-        b"number-at" => read(alloc, tokens.number_at()),
-        b"string" => string(alloc, tokens),
-        b"count" => shown(alloc, &tokens.count()),
-        b"numbers" => numbers(alloc, tokens),
-        b"numbers-by-colons" => numbers_by_colons(alloc, tokens),
-        b"bar-before-close" => shown(alloc, &is_before(tokens, Kind::Bar, Kind::CloseBracket)),
-        b"close-before-bar" => shown(alloc, &is_before(tokens, Kind::CloseBracket, Kind::Bar)),
-        b"begins-root" => shown(alloc, &tokens.begins(Want::Keyword(Keyword::Root))),
-        b"eat-bidirectional" => shown(alloc, &tokens.eat(Want::Keyword(Keyword::Bidirectional))),
-        b"eat-item" => shown(alloc, &tokens.eat(Want::Item)),
-        b"expect-variable" => expect(alloc, tokens, Want::Variable),
-        b"expect-(" => expect(alloc, tokens, Want::Kind(Kind::OpenParenthesis)),
-        _ => Err(Wrong::new("an unknown step")),
+        b"number" => out.debug(&tokens.number()),
+        b"number-at" => out.debug(&tokens.number_at()),
+        b"string" => string(tokens, out),
+        b"numbers" => numbers(tokens, out),
+        b"numbers-by-colons" => numbers_by_colons(tokens, out),
+        b"expect-variable" => expect(tokens, Want::Variable, out),
+        b"expect-(" => expect(tokens, Want::Kind(Kind::OpenParenthesis), out),
+        _ => test(tokens, step, out),
     }
 }
 
-// What a read gave: its value, or its error.
-fn read<T: Debug + Drop>(alloc: Global, given: Result<T, ReadError>) -> Result<Vec<u8>, Wrong> {
-    match given {
-        Ok(value) => debugged(alloc, &value),
-        Err(error) => debugged(alloc, &error),
+// Steps that test what comes next.
+fn test(tokens: &mut Tokens<'_, '_>, step: &[u8], out: &mut Answer) {
+    let (bar, close) = (Want::Kind(Kind::Bar), Want::Kind(Kind::CloseBracket));
+    match step {
+        b"bar-before-close" => out.show(&stands_before(tokens.left(), bar, close)),
+        b"close-before-bar" => out.show(&stands_before(tokens.left(), close, bar)),
+        b"begins-root" => out.show(&tokens.begins(Want::Keyword(Keyword::Root))),
+        b"eat-bidirectional" => out.show(&tokens.eat(Want::Keyword(Keyword::Bidirectional))),
+        b"eat-item" => out.show(&tokens.eat(Want::Item)),
+        b"count" => out.show(&tokens.count()),
+        _ => out.wrong(Wrong::new("an unknown step")),
     }
 }
 
-fn string(alloc: Global, tokens: &mut Tokens<'_, '_>) -> Result<Vec<u8>, Wrong> {
+fn string(tokens: &mut Tokens<'_, '_>, out: &mut Answer) {
     match tokens.string() {
-        Ok(chars) => Ok(Vec::from_slice(alloc, chars.as_bytes())?),
-        Err(error) => debugged(alloc, &error),
+        Ok(chars) => out.word(chars.as_bytes()),
+        Err(error) => out.debug(&error),
     }
 }
 
 // Where the token that is wanted starts.
-fn expect(alloc: Global, tokens: &mut Tokens<'_, '_>, want: Want) -> Result<Vec<u8>, Wrong> {
+fn expect(tokens: &mut Tokens<'_, '_>, want: Want, out: &mut Answer) {
     match tokens.expect(want) {
-        Ok(token) => shown(alloc, &token.start),
-        Err(error) => debugged(alloc, &error),
+        Ok(token) => out.number(token.start),
+        Err(error) => out.debug(&error),
     }
 }
 
-fn is_before(tokens: &Tokens<'_, '_>, first: Kind, stop: Kind) -> bool {
-    stands_before(tokens.left(), Want::Kind(first), Want::Kind(stop))
+fn numbers(tokens: &mut Tokens<'_, '_>, out: &mut Answer) {
+    match repeated_by(tokens, Want::Kind(Kind::Number), |tokens| tokens.number()) {
+        Ok(numbers) => out.debug(&numbers),
+        Err(error) => out.debug(&error),
+    }
 }
 
-fn numbers(alloc: Global, tokens: &mut Tokens<'_, '_>) -> Result<Vec<u8>, Wrong> {
-    let numbers = repeated_by(tokens, Want::Kind(Kind::Number), |tokens| tokens.number())?;
-    debugged(alloc, &numbers)
-}
-
-fn numbers_by_colons(alloc: Global, tokens: &mut Tokens<'_, '_>) -> Result<Vec<u8>, Wrong> {
-    let numbers = separated_by(tokens, Want::Kind(Kind::Colon), |tokens| tokens.number())?;
-    debugged(alloc, &numbers)
+fn numbers_by_colons(tokens: &mut Tokens<'_, '_>, out: &mut Answer) {
+    match separated_by(tokens, Want::Kind(Kind::Colon), |tokens| tokens.number()) {
+        Ok(numbers) => out.debug(&numbers),
+        Err(error) => out.debug(&error),
+    }
 }
 
 /// What wants each token of a text meets.
-pub(crate) fn wants(alloc: Global, fields: &[Vec<u8>]) -> Result<Vec<u8>, Wrong> {
-    let tokens = lex(alloc, bytes_at(fields, 0)?)?;
-    let mut met = Vec::new(alloc);
-    for token in tokens.iter() {
-        add_wants(token, &mut met)?;
+pub(crate) fn wants(alloc: Global, fields: &[Vec<u8>], out: &mut Answer) {
+    match lex(alloc, field(fields, 0)) {
+        Ok(tokens) => {
+            for token in tokens.iter() {
+                out.word_if(Want::Item.is_met_by(token), b"item");
+                out.word_if(Want::RuleName.is_met_by(token), b"rule");
+                out.word_if(Want::Variable.is_met_by(token), b"variable");
+                out.word_if(Want::ProcedureName.is_met_by(token), b"procedure");
+                out.word_if(Want::Keyword(Keyword::Not).is_met_by(token), b"not");
+            }
+        }
+        Err(fault) => out.show(&fault),
     }
-    Ok(met)
-}
-
-fn add_wants(token: &Token<'_>, met: &mut Vec<u8>) -> Result<(), Wrong> {
-    add_word_if(met, Want::Item.is_met_by(token), b"item")?;
-    add_word_if(met, Want::RuleName.is_met_by(token), b"rule")?;
-    add_word_if(met, Want::Variable.is_met_by(token), b"variable")?;
-    add_word_if(met, Want::ProcedureName.is_met_by(token), b"procedure")?;
-    add_word_if(met, Want::Keyword(Keyword::Not).is_met_by(token), b"not")
 }
 
 /// The integer of a numeral, which may have a minus.
-pub(crate) fn integer(alloc: Global, fields: &[Vec<u8>]) -> Result<Vec<u8>, Wrong> {
-    let text = text_at(fields, 0)?;
-    let digits = text.trim_start_matches('-');
-    let numeral = Numeral {
-        negative: digits.len() < text.len(),
-        value: digits.parse::<u128>()?,
+pub(crate) fn integer(fields: &[Vec<u8>], out: &mut Answer) {
+    let (negative, digits) = match field(fields, 0) {
+        [b'-', digits @ ..] => (true, digits),
+        digits => (false, digits),
     };
-    match numeral.integer() {
-        Some(integer) => shown(alloc, &integer),
-        None => Ok(Vec::from_slice(alloc, b"none")?),
+    match value_of(digits) {
+        Some(value) => out.debug(&Numeral { negative, value }.integer()),
+        None => out.wrong(Wrong::new("no numeral")),
+    }
+}
+
+fn value_of(digits: &[u8]) -> Option<u128> {
+    match str::from_utf8(digits) {
+        Ok(text) => text.parse::<u128>().ok(),
+        Err(_) => None,
     }
 }

@@ -1,65 +1,51 @@
 //! The lines that name the faults of programs.
 
-use crate::fields::bytes_at;
-use crate::wrong::{Wrong, shown};
-use gp_reader::read_program;
+use crate::answers::Answer;
+use crate::fields::field;
+use crate::wrong::Wrong;
+use gp_reader::{ProgramFault, read_program};
 use std::alloc::Global;
 
-/// The line that names the fault of a text; nothing for a program.
-pub(crate) fn answer(alloc: Global, fields: &[Vec<u8>]) -> Result<Vec<u8>, Wrong> {
-    line_of(alloc, bytes_at(fields, 0)?)
-}
-
-/// The line that names the fault of a text; nothing for a program.
-pub(crate) fn line_of(alloc: Global, text: &[u8]) -> Result<Vec<u8>, Wrong> {
-    let mut line = Vec::new(alloc);
-    put_line(alloc, text, &mut line)?;
-    Ok(line)
-}
-
-/// A text, and behind it the line that names the fault of another.
-pub(crate) fn behind(alloc: Global, fields: &[Vec<u8>]) -> Result<Vec<u8>, Wrong> {
-    let mut line = Vec::from_slice(alloc, bytes_at(fields, 0)?)?;
-    put_line(alloc, bytes_at(fields, 1)?, &mut line)?;
-    Ok(line)
-}
-
-fn put_line(alloc: Global, text: &[u8], line: &mut Vec<u8>) -> Result<(), Wrong> {
-    match read_program(alloc, text) {
-        Ok(_) => Ok(()),
-        Err(fault) => Ok(fault.write_line(alloc, line)?),
+/// The line that names the fault of a text, behind a text that may be given; no line for a program.
+pub(crate) fn answer(alloc: Global, fields: &[Vec<u8>], out: &mut Answer) {
+    match read_program(alloc, field(fields, 0)) {
+        Ok(_) => out.put(field(fields, 1)),
+        Err(fault) => out.take(line_of(alloc, field(fields, 1), &fault)),
     }
+}
+
+/// The line that names a fault, behind a text.
+pub(crate) fn line_of(
+    alloc: Global,
+    before: &[u8],
+    fault: &ProgramFault,
+) -> Result<Vec<u8>, Wrong> {
+    let mut line = Vec::from_slice(alloc, before)?;
+    fault.write_line(alloc, &mut line)?;
+    Ok(line)
 }
 
 /// The sentence that names the fault of a text.
-pub(crate) fn sentence(alloc: Global, fields: &[Vec<u8>]) -> Result<Vec<u8>, Wrong> {
-    match read_program(alloc, bytes_at(fields, 0)?) {
-        Ok(_) => Ok(Vec::from_slice(alloc, b"no fault")?),
-        Err(fault) => shown(alloc, &fault),
+pub(crate) fn sentence(alloc: Global, fields: &[Vec<u8>], out: &mut Answer) {
+    match read_program(alloc, field(fields, 0)) {
+        Ok(_) => out.word(b"no fault"),
+        Err(fault) => out.show(&fault),
     }
 }
 
-/// What is told where a line says the same: these words and the fault. Where there is neither, a text is accepted.
-pub(crate) fn agreed(
-    alloc: Global,
-    told: &[u8],
-    line: &[u8],
-    before: &[u8],
-) -> Result<Vec<u8>, Wrong> {
-    if told.is_empty() && line.is_empty() {
-        return Ok(Vec::from_slice(alloc, b"accepted")?);
-    }
-    let mut answer = Vec::from_slice(alloc, told)?;
-    if !is_line_of(line, before, told) {
-        answer.extend_from_slice(b", but its line is ")?;
-        answer.extend_from_slice(line)?;
-    }
-    Ok(answer)
-}
-
-fn is_line_of(line: &[u8], before: &[u8], told: &[u8]) -> bool {
-    match line.strip_prefix(before) {
-        Some(rest) => rest.strip_suffix(b"\n".as_slice()) == Some(told),
-        None => false,
+/// Writes the fault that a line names behind these words, where that is what was told before. Where nothing was told,
+/// there is no fault.
+pub(crate) fn agree(alloc: Global, before: &[u8], fault: &ProgramFault, out: &mut Answer) {
+    match line_of(alloc, b"", fault) {
+        Ok(line) => {
+            let said = line
+                .strip_prefix(before)
+                .and_then(|rest| rest.strip_suffix(b"\n".as_slice()));
+            if said != Some(out.text()) {
+                out.word(b"and its line");
+                out.word(&line);
+            }
+        }
+        Err(wrong) => out.wrong(wrong),
     }
 }

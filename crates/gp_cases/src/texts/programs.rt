@@ -7,32 +7,36 @@ mod pieces;
 mod terms;
 mod tree;
 
-use crate::fields::bytes_at;
-use crate::wrong::{Wrong, shown};
+use crate::answers::Answer;
+use crate::fields::field;
 use gp_program::parse_program;
 use gp_tokens::lex;
 use std::alloc::Global;
-use tree::tree_text;
+use tree::put_tree;
 
 /// The tree of a text, or its fault.
-pub(crate) fn answer(alloc: Global, fields: &[Vec<u8>]) -> Result<Vec<u8>, Wrong> {
-    let tokens = lex(alloc, bytes_at(fields, 0)?)?;
-    match parse_program(alloc, &tokens) {
-        Ok(ast) => tree_text(alloc, &ast),
-        Err(fault) => shown(alloc, &fault),
+pub(crate) fn answer(alloc: Global, fields: &[Vec<u8>], out: &mut Answer) {
+    match lex(alloc, field(fields, 0)) {
+        Ok(tokens) => match parse_program(alloc, &tokens) {
+            Ok(ast) => put_tree(alloc, &ast, out),
+            Err(fault) => out.show(&fault),
+        },
+        Err(fault) => out.show(&fault),
     }
 }
 
 /// Whether a text is a program, or its fault.
-pub(crate) fn read(alloc: Global, fields: &[Vec<u8>]) -> Result<Vec<u8>, Wrong> {
-    fault_of(alloc, bytes_at(fields, 0)?)
+pub(crate) fn read(alloc: Global, fields: &[Vec<u8>], out: &mut Answer) {
+    put_fault(alloc, field(fields, 0), out);
 }
 
 // The fault of a text; the words `a program` for a program.
-fn fault_of(alloc: Global, text: &[u8]) -> Result<Vec<u8>, Wrong> {
-    let tokens = lex(alloc, text)?;
-    match parse_program(alloc, &tokens) {
-        Ok(_) => Ok(Vec::from_slice(alloc, b"a program")?),
-        Err(fault) => shown(alloc, &fault),
+fn put_fault(alloc: Global, text: &[u8], out: &mut Answer) {
+    match lex(alloc, text) {
+        Ok(tokens) => match parse_program(alloc, &tokens) {
+            Ok(_) => out.word(b"a program"),
+            Err(fault) => out.show(&fault),
+        },
+        Err(fault) => out.show(&fault),
     }
 }

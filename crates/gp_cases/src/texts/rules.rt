@@ -1,54 +1,45 @@
 //! Rules: which are accepted, and which static clause the others break first, with the name that it tells.
 
-use super::lines::agreed;
-use crate::fields::bytes_at;
+use super::lines::agree;
+use crate::answers::Answer;
+use crate::fields::field;
 use crate::samples::rules_of;
-use crate::wrong::{Wrong, shown};
 use gp_check::check_rule;
 use gp_program::parse_program;
-use gp_syntax::Decl;
+use gp_syntax::{Ast, Decl};
 use gp_tokens::lex;
 use std::alloc::Global;
 
 /// What the check of a declaration tells, where the line of the program that it stands in names the same.
-pub(crate) fn answer(alloc: Global, fields: &[Vec<u8>]) -> Result<Vec<u8>, Wrong> {
-    let text = bytes_at(fields, 0)?;
-    let told = told(alloc, text)?;
-    let line = line(alloc, text)?;
-    agreed(alloc, &told, &line, b"program: rule r: ")
+pub(crate) fn answer(alloc: Global, fields: &[Vec<u8>], out: &mut Answer) {
+    tell(alloc, field(fields, 0), out);
+    match rules_of(alloc, field(fields, 0)) {
+        Ok(rules) => out.word(if rules.len() == 1 {
+            b"accepted"
+        } else {
+            b"several"
+        }),
+        Err(fault) => agree(alloc, b"program: rule r: ", &fault, out),
+    }
 }
 
 // What the check of the declarations alone tells; nothing where each gives a rule.
-fn told(alloc: Global, text: &[u8]) -> Result<Vec<u8>, Wrong> {
-    let tokens = lex(alloc, text)?;
-    let tree = parse_program(alloc, &tokens)?;
-    let mut told = Vec::new(alloc);
-    for declaration in tree.declarations.as_slice() {
-        told.extend_from_slice(&told_of(alloc, declaration)?)?;
-    }
-    Ok(told)
-}
-
-fn told_of(alloc: Global, declaration: &Decl) -> Result<Vec<u8>, Wrong> {
-    match declaration {
-        Decl::Rule(rule) => match check_rule(alloc, rule) {
-            Ok(_) => Ok(Vec::new(alloc)),
-            Err(fault) => shown(alloc, &fault),
+fn tell(alloc: Global, text: &[u8], out: &mut Answer) {
+    match lex(alloc, text) {
+        Ok(tokens) => match parse_program(alloc, &tokens) {
+            Ok(tree) => check(alloc, &tree, out),
+            Err(fault) => out.show(&fault),
         },
-        Decl::Procedure { .. } => Err(Wrong::new("a procedure in place of a rule")),
+        Err(fault) => out.show(&fault),
     }
 }
 
-// The line that names the fault of a rule behind a Main; nothing for a rule that is accepted.
-fn line(alloc: Global, text: &[u8]) -> Result<Vec<u8>, Wrong> {
-    let mut line = Vec::new(alloc);
-    match rules_of(alloc, text) {
-        Ok(rules) => {
-            if rules.len() != 1 {
-                return Err(Wrong::new("not one rule"));
+fn check(alloc: Global, tree: &Ast, out: &mut Answer) {
+    for declaration in tree.declarations.as_slice() {
+        if let Decl::Rule(rule) = declaration {
+            if let Err(fault) = check_rule(alloc, rule) {
+                out.show(&fault);
             }
         }
-        Err(fault) => fault.write_line(alloc, &mut line)?,
     }
-    Ok(line)
 }

@@ -1,115 +1,91 @@
-//! The parts of the trees of expressions and conditions, in the order in which they are written.
+//! The trees of expressions and conditions: what is written of each, and the parts that are left in their order.
 
-use super::tree::{Piece, type_word};
-use crate::wrong::Wrong;
+use super::tree::{Piece, Writer, type_word};
 use gp_syntax::{Comparison, Cond, Expr, Name, ProductSign, Signed, SumSign};
 
-/// The word behind `#`, if one is written.
-pub(crate) fn push_mark<'a>(
-    parts: &mut Vec<Piece<'a>>,
-    mark: &'a Option<Name>,
-) -> Result<(), Wrong> {
-    if let Some(word) = mark {
-        parts.push(Piece::Word("#"))?;
-        parts.push(Piece::Name(word))?;
+/// Expressions behind one another.
+pub(super) fn expressions<'a>(writer: &mut Writer<'a, '_>, expressions: &'a [Expr<Name>]) {
+    match expressions.split_first() {
+        Some((first, others)) => {
+            writer.leave(&[Piece::Expression(first), Piece::Expressions(others)])
+        }
+        None => (),
     }
-    Ok(())
 }
 
-fn push_name<'a>(
-    parts: &mut Vec<Piece<'a>>,
-    word: &'static str,
-    name: &'a Name,
-) -> Result<(), Wrong> {
-    parts.push(Piece::Group(word))?;
-    parts.push(Piece::Name(name))?;
-    parts.push(Piece::Close)?;
-    Ok(())
-}
-
-fn push_chain<'a>(
-    parts: &mut Vec<Piece<'a>>,
-    word: &'static str,
-    first: &'a Expr<Name>,
-    rest: &'a [Expr<Name>],
-) -> Result<(), Wrong> {
-    parts.push(Piece::Group(word))?;
-    parts.push(Piece::Expression(first))?;
-    for operand in rest {
-        parts.push(Piece::Expression(operand))?;
-    }
-    parts.push(Piece::Close)?;
-    Ok(())
-}
-
-fn sum_word(sign: SumSign) -> &'static str {
-    match sign {
+/// The further operands of a sum, each behind its sign.
+pub(super) fn rest_of_sum<'a>(
+    writer: &mut Writer<'a, '_>,
+    rest: &'a [Signed<SumSign, Expr<Name>>],
+) {
+    let Some((term, others)) = rest.split_first() else {
+        return;
+    };
+    let sign = match term.sign {
         SumSign::Plus => "+",
         SumSign::Minus => "-",
-    }
+    };
+    let operand = Piece::Expression(&term.operand);
+    writer.leave(&[Piece::Word(sign), operand, Piece::Terms(others)])
 }
 
-fn product_word(sign: ProductSign) -> &'static str {
-    match sign {
+/// The further operands of a product, each behind its sign.
+pub(super) fn rest_of_product<'a>(
+    writer: &mut Writer<'a, '_>,
+    rest: &'a [Signed<ProductSign, Expr<Name>>],
+) {
+    let Some((factor, others)) = rest.split_first() else {
+        return;
+    };
+    let sign = match factor.sign {
         ProductSign::Times => "*",
         ProductSign::Over => "/",
-    }
+    };
+    let operand = Piece::Expression(&factor.operand);
+    writer.leave(&[Piece::Word(sign), operand, Piece::Factors(others)])
 }
 
-fn push_sum<'a>(
-    parts: &mut Vec<Piece<'a>>,
-    first: &'a Expr<Name>,
-    rest: &'a [Signed<SumSign, Expr<Name>>],
-) -> Result<(), Wrong> {
-    parts.push(Piece::Group("sum"))?;
-    parts.push(Piece::Expression(first))?;
-    for term in rest {
-        parts.push(Piece::Word(sum_word(term.sign)))?;
-        parts.push(Piece::Expression(&term.operand))?;
-    }
-    parts.push(Piece::Close)?;
-    Ok(())
-}
-
-fn push_product<'a>(
-    parts: &mut Vec<Piece<'a>>,
-    first: &'a Expr<Name>,
-    rest: &'a [Signed<ProductSign, Expr<Name>>],
-) -> Result<(), Wrong> {
-    parts.push(Piece::Group("product"))?;
-    parts.push(Piece::Expression(first))?;
-    for factor in rest {
-        parts.push(Piece::Word(product_word(factor.sign)))?;
-        parts.push(Piece::Expression(&factor.operand))?;
-    }
-    parts.push(Piece::Close)?;
-    Ok(())
-}
-
-fn push_one<'a>(parts: &mut Vec<Piece<'a>>, piece: Piece<'a>) -> Result<(), Wrong> {
-    parts.push(piece)?;
-    Ok(())
-}
-
-/// The parts of an expression.
-pub(crate) fn push_expression<'a>(
-    parts: &mut Vec<Piece<'a>>,
-    expression: &'a Expr<Name>,
-) -> Result<(), Wrong> {
+/// An expression.
+pub(super) fn expression<'a>(writer: &mut Writer<'a, '_>, expression: &'a Expr<Name>) {
     match expression {
-        Expr::Number(number) => push_one(parts, Piece::Number(*number)),
-        Expr::Text(text) => push_one(parts, Piece::Text(text)),
-        Expr::Variable(name) => push_one(parts, Piece::Name(name)),
-        Expr::InDegree(node) => push_name(parts, "indeg", node),
-        Expr::OutDegree(node) => push_name(parts, "outdeg", node),
-        Expr::Length(variable) => push_name(parts, "length", variable),
-        Expr::Empty => push_one(parts, Piece::Word("empty")),
-        Expr::Negated(operand) => push_chain(parts, "minus", operand.get(), &[]),
-        Expr::Sum(first, rest) => push_sum(parts, first.get(), rest.as_slice()),
-        Expr::Product(first, rest) => push_product(parts, first.get(), rest.as_slice()),
-        Expr::Dot(first, rest) => push_chain(parts, ".", first.get(), rest.as_slice()),
-        Expr::Join(first, rest) => push_chain(parts, ":", first.get(), rest.as_slice()),
+        Expr::Number(number) => writer.leave(&[Piece::Number(*number)]),
+        Expr::Text(chars) => writer.put_string(chars.as_bytes()),
+        Expr::Variable(name) => writer.put(name.as_bytes()),
+        Expr::InDegree(node) => writer.group("indeg", &[Piece::Name(node)]),
+        Expr::OutDegree(node) => writer.group("outdeg", &[Piece::Name(node)]),
+        Expr::Length(variable) => writer.group("length", &[Piece::Name(variable)]),
+        Expr::Empty => writer.put(b"empty"),
+        Expr::Negated(operand) => writer.group("minus", &[Piece::Expression(operand.get())]),
+        Expr::Sum(first, rest) => chain(writer, "sum", first.get(), Piece::Terms(rest.as_slice())),
+        Expr::Product(first, rest) => {
+            chain(
+                writer,
+                "product",
+                first.get(),
+                Piece::Factors(rest.as_slice()),
+            )
+        }
+        Expr::Dot(first, rest) => {
+            chain(
+                writer,
+                ".",
+                first.get(),
+                Piece::Expressions(rest.as_slice()),
+            )
+        }
+        Expr::Join(first, rest) => {
+            chain(
+                writer,
+                ":",
+                first.get(),
+                Piece::Expressions(rest.as_slice()),
+            )
+        }
     }
+}
+
+fn chain<'a>(writer: &mut Writer<'a, '_>, word: &str, first: &'a Expr<Name>, rest: Piece<'a>) {
+    writer.group(word, &[Piece::Expression(first), rest])
 }
 
 fn comparison_word(comparison: Comparison) -> &'static str {
@@ -123,67 +99,57 @@ fn comparison_word(comparison: Comparison) -> &'static str {
     }
 }
 
-fn push_edge_test<'a>(
-    parts: &mut Vec<Piece<'a>>,
-    source: &'a Name,
-    target: &'a Name,
-) -> Result<(), Wrong> {
-    parts.push(Piece::Group("edge"))?;
-    parts.push(Piece::Name(source))?;
-    parts.push(Piece::Name(target))?;
-    Ok(())
-}
-
-fn push_compared<'a>(
-    parts: &mut Vec<Piece<'a>>,
-    word: &'static str,
-    left: &'a Expr<Name>,
-    right: &'a Expr<Name>,
-) -> Result<(), Wrong> {
-    parts.push(Piece::Group(word))?;
-    parts.push(Piece::Expression(left))?;
-    parts.push(Piece::Expression(right))?;
-    parts.push(Piece::Close)?;
-    Ok(())
-}
-
-fn push_conditions<'a>(
-    parts: &mut Vec<Piece<'a>>,
-    word: &'static str,
-    first: &'a Cond<Name, Option<Name>>,
-    rest: &'a [Cond<Name, Option<Name>>],
-) -> Result<(), Wrong> {
-    parts.push(Piece::Group(word))?;
-    parts.push(Piece::Condition(first))?;
-    for condition in rest {
-        parts.push(Piece::Condition(condition))?;
+/// Conditions behind one another.
+pub(super) fn conditions<'a>(
+    writer: &mut Writer<'a, '_>,
+    conditions: &'a [Cond<Name, Option<Name>>],
+) {
+    match conditions.split_first() {
+        Some((first, others)) => {
+            writer.leave(&[Piece::Condition(first), Piece::Conditions(others)])
+        }
+        None => (),
     }
-    parts.push(Piece::Close)?;
-    Ok(())
 }
 
-/// The parts of a condition.
-pub(crate) fn push_condition<'a>(
-    parts: &mut Vec<Piece<'a>>,
-    condition: &'a Cond<Name, Option<Name>>,
-) -> Result<(), Wrong> {
+/// A condition.
+pub(super) fn condition<'a>(writer: &mut Writer<'a, '_>, condition: &'a Cond<Name, Option<Name>>) {
     match condition {
-        Cond::HasType(wanted, list) => push_chain(parts, type_word(*wanted), list, &[]),
+        Cond::HasType(wanted, list) => {
+            writer.group(type_word(*wanted), &[Piece::Expression(list)])
+        }
         Cond::HasEdge(source, target) => {
-            push_edge_test(parts, source, target)?;
-            push_one(parts, Piece::Close)
+            writer.group("edge", &[Piece::Name(source), Piece::Name(target)])
         }
         Cond::HasEdgeWith(source, target, label, mark) => {
-            push_edge_test(parts, source, target)?;
-            push_one(parts, Piece::Expression(label))?;
-            push_mark(parts, mark)?;
-            push_one(parts, Piece::Close)
+            let label = Piece::Expression(label);
+            let ends = [
+                Piece::Name(source),
+                Piece::Name(target),
+                label,
+                Piece::Mark(mark),
+            ];
+            writer.group("edge", &ends)
         }
         Cond::Compared(comparison, left, right) => {
-            push_compared(parts, comparison_word(*comparison), left, right)
+            chain(
+                writer,
+                comparison_word(*comparison),
+                left,
+                Piece::Expression(right),
+            )
         }
-        Cond::Not(part) => push_conditions(parts, "not", part.get(), &[]),
-        Cond::And(first, rest) => push_conditions(parts, "and", first.get(), rest.as_slice()),
-        Cond::Or(first, rest) => push_conditions(parts, "or", first.get(), rest.as_slice()),
+        Cond::Not(part) => writer.group("not", &[Piece::Condition(part.get())]),
+        Cond::And(first, rest) => both(writer, "and", first.get(), rest.as_slice()),
+        Cond::Or(first, rest) => both(writer, "or", first.get(), rest.as_slice()),
     }
+}
+
+fn both<'a>(
+    writer: &mut Writer<'a, '_>,
+    word: &str,
+    first: &'a Cond<Name, Option<Name>>,
+    rest: &'a [Cond<Name, Option<Name>>],
+) {
+    writer.group(word, &[Piece::Condition(first), Piece::Conditions(rest)])
 }
