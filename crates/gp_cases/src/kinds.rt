@@ -13,6 +13,7 @@ pub(crate) enum Kind {
     TokenLines,
     Classes,
     Cursors,
+    NumberLists,
     Wants,
     Integers,
     Depths,
@@ -36,11 +37,12 @@ pub(crate) enum Kind {
 }
 
 /// The files of rows, `NAME.rows`, and the kind of each.
-pub(crate) const FILES: [(&str, Kind); 38] = [
+pub(crate) const FILES: [(&str, Kind); 39] = [
     ("tokens", Kind::Tokens),
     ("token_lines", Kind::TokenLines),
     ("classes", Kind::Classes),
     ("cursors", Kind::Cursors),
+    ("number_lists", Kind::NumberLists),
     ("wants", Kind::Wants),
     ("integers", Kind::Integers),
     ("depths", Kind::Depths),
@@ -84,6 +86,7 @@ pub(crate) fn answer(kind: Kind, alloc: Global, fields: &[Vec<u8>], out: &mut An
         Kind::TokenLines => tokens::line(alloc, fields, out),
         Kind::Classes => tokens::classes(alloc, fields, out),
         Kind::Cursors => cursors::answer(alloc, fields, out),
+        Kind::NumberLists => cursors::lists(alloc, fields, out),
         Kind::Wants => cursors::wants(alloc, fields, out),
         Kind::Integers => cursors::integer(fields, out),
         Kind::Depths => limits::depth(alloc, fields, out),
