@@ -1,0 +1,50 @@
+//! The cases that are tried by running: rows of texts, each with the answer that is wanted.
+//!
+//! The program reads each of its files of rows (`data/NAME.rows`) from the folder that it is run in, gives each row to
+//! the function of its kind, and writes how many rows a file has, and each row whose answer is another one. `rows` says
+//! how rows are written, `kinds` which kinds there are; `texts` has the kinds about texts, `rules` those about rules,
+//! matches and steps.
+#![tactic(auto)]
+
+mod answers;
+mod fields;
+mod kinds;
+mod report;
+mod rows;
+mod samples;
+mod texts;
+mod wrong;
+
+use kinds::{FILES, Kind};
+use report::report_of;
+use std::fs;
+use std::io::Write;
+use std::process::ExitCode;
+use wrong::Wrong;
+
+// Tries the rows of a file, and prints its report.
+fn try_file(rt: &HostRuntime, name: &str, kind: Kind) -> Result<(), Wrong> {
+    let mut path = String::from_str(rt.alloc(), name)?;
+    path.push_str(".rows")?;
+    let bytes = fs::read(rt, path)?;
+    let report = report_of(rt.alloc(), name, kind, &bytes)?;
+    rt.stdout().write_all(&report)?;
+    Ok(())
+}
+
+fn run(rt: &HostRuntime) -> Result<(), Wrong> {
+    for (name, kind) in &FILES {
+        try_file(rt, name, *kind)?;
+    }
+    Ok(())
+}
+
+fn main(rt: HostRuntime) -> ExitCode {
+    match run(&rt) {
+        Ok(()) => ExitCode::SUCCESS,
+        Err(wrong) => {
+            let _ = rt.println(wrong.text());
+            ExitCode::FAILURE
+        }
+    }
+}
