@@ -26,7 +26,13 @@ pub struct Graph {
 
 impl Drop for Graph {
     fn drop(self) {
-        let Graph { nodes, edges, roots: _, node_count: _, last_changed: _ } = self;
+        let Graph {
+            nodes,
+            edges,
+            roots: _,
+            node_count: _,
+            last_changed: _,
+        } = self;
         drop(nodes);
         drop(edges);
     }

@@ -34,7 +34,12 @@ pub struct ProgramParts {
 
 impl Drop for ProgramParts {
     fn drop(self) {
-        let ProgramParts { main, procedures, sets, rules } = self;
+        let ProgramParts {
+            main,
+            procedures,
+            sets,
+            rules,
+        } = self;
         drop(main);
         drop(procedures);
         drop(sets);
@@ -87,11 +92,8 @@ impl Program {
 impl Drop for Command {
     fn drop(self) {
         match self {
-            Command::Call(_)
-            | Command::Proc(_)
-            | Command::Skip
-            | Command::Fail
-            | Command::Break => {}
+            Command::Call(_) | Command::Proc(_) | Command::Skip | Command::Fail | Command::Break =>
+                {}
             Command::Seq(first, rest) | Command::Or(first, rest) => {
                 drop(first);
                 drop(rest);

@@ -125,7 +125,9 @@ impl<R: Drop> Expr<R> {
     }
 
     /// The first and the further operands of a product; any other is handed back.
-    pub fn into_product(self) -> Result<(Boxed<Expr<R>>, Items<Signed<ProductSign, Expr<R>>>), Expr<R>>
+    pub fn into_product(
+        self,
+    ) -> Result<(Boxed<Expr<R>>, Items<Signed<ProductSign, Expr<R>>>), Expr<R>>
         ensures { MatchResult result (λ p. self ≡ e.Product p.0 p.1) (λ other. other ≡ self) }
     {
         match self {

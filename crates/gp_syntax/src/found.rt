@@ -29,7 +29,11 @@ pub struct Found {
 
 impl Drop for Found {
     fn drop(self) {
-        let Found { rule: _, nodes, edges } = self;
+        let Found {
+            rule: _,
+            nodes,
+            edges,
+        } = self;
         drop(nodes);
         drop(edges);
     }

@@ -15,7 +15,11 @@ pub struct VariableGroup {
 
 impl Drop for VariableGroup {
     fn drop(self) {
-        let VariableGroup { first, rest, variable_type: _ } = self;
+        let VariableGroup {
+            first,
+            rest,
+            variable_type: _,
+        } = self;
         drop(first);
         drop(rest);
     }
@@ -31,7 +35,12 @@ pub struct NodeDecl {
 
 impl Drop for NodeDecl {
     fn drop(self) {
-        let NodeDecl { name, root: _, label, mark } = self;
+        let NodeDecl {
+            name,
+            root: _,
+            label,
+            mark,
+        } = self;
         drop(name);
         drop(label);
         drop(mark);
@@ -50,7 +59,14 @@ pub struct EdgeDecl {
 
 impl Drop for EdgeDecl {
     fn drop(self) {
-        let EdgeDecl { name, bidirectional: _, source, target, label, mark } = self;
+        let EdgeDecl {
+            name,
+            bidirectional: _,
+            source,
+            target,
+            label,
+            mark,
+        } = self;
         drop(name);
         drop(source);
         drop(target);
@@ -85,7 +101,14 @@ pub struct RuleDecl {
 
 impl Drop for RuleDecl {
     fn drop(self) {
-        let RuleDecl { name, variables, left, right, interface, condition } = self;
+        let RuleDecl {
+            name,
+            variables,
+            left,
+            right,
+            interface,
+            condition,
+        } = self;
         drop(name);
         drop(variables);
         drop(left);
