@@ -1,0 +1,206 @@
+//! Steps by chance, taken back one after another to the very first graph.
+
+ghost use Rattle.std.specs.Prelude.{◌≡◌, IfOk, OnOk};
+ghost use Rattle.gp_step.specs.Undo.{Fits, Undoes, undone_by};
+
+use crate::fields::{bytes_at, number_at};
+use crate::rows::put_number;
+use crate::rules::cases::is_same;
+use crate::rules::steps::make_step;
+use crate::samples::{host_of, rules_of};
+use crate::wrong::Wrong;
+use gp_graph::Graph;
+use gp_match::{Verdict, check_match};
+use gp_memory::NoMemory;
+use gp_step::{Undo, undo};
+use gp_syntax::{EdgeImage, Found, Rule};
+use rand_core::SeedableRng;
+use rand_core::utils::NextWord;
+use rand_pcg::Lcg64Xsh32;
+use std::alloc::Global;
+
+/// Whether a walk is taken back: some rules, a host, a seed, how many steps are made, and more than how many each rule has
+/// to make.
+pub(crate) fn answer(alloc: Global, fields: &[Vec<u8>]) -> Result<Vec<u8>, Wrong> {
+    let mut random = Lcg64Xsh32::seed_from_u64(number_at(fields, 2)?);
+    let steps = number_at(fields, 3)?;
+    let few = number_at(fields, 4)?;
+    let mut graph = host_of(alloc, bytes_at(fields, 1)?)?;
+    let first = graph.copy(alloc)?;
+    let rules = rules_of(alloc, bytes_at(fields, 0)?)?;
+    let mut taken = Vec::new(alloc);
+    let rules = rules.as_slice();
+    walk(alloc, rules, &mut graph, &mut random, &mut taken, steps)?;
+    if !is_same(&graph, &first) || taken.len() as u64 != steps {
+        return Err(Wrong::new("the walk is not taken back"));
+    }
+    rare_rules(alloc, rules.len(), &taken, few)
+}
+
+// Which rules made no more than so many steps.
+fn rare_rules(alloc: Global, rules: usize, taken: &[u32], few: u64) -> Result<Vec<u8>, Wrong> {
+    let mut text = Vec::from_slice(alloc, b"taken back")?;
+    for rule in 0..rules {
+        let count = taken
+            .iter()
+            .filter(|number| **number as usize == rule)
+            .count();
+        if count as u64 <= few {
+            text.extend_from_slice(b", few by rule ")?;
+            put_number(rule as u64, &mut text)?;
+        }
+    }
+    Ok(text)
+}
+
+// Makes so many steps, and takes them back in reverse order: after each the graph is the one from before it.
+fn walk(
+    alloc: Global,
+    rules: &[Rule],
+    graph: &mut Graph,
+    random: &mut Lcg64Xsh32,
+    taken: &mut Vec<u32>,
+    left: u64,
+) -> Result<(), Wrong>
+    ensures { OnOk result (graph.new.graph ≡ graph.old.graph) }
+{
+    if left == 0 {
+        return Ok(());
+    }
+    let made = make_one(alloc, rules, graph, random, taken)?;
+    walk(alloc, rules, graph, random, taken, left - 1)?;
+    made.take_back(graph)
+}
+
+// What takes a step back, and the graph from before it.
+struct Made {
+    inverses: Undo,
+    before: Graph,
+}
+
+impl Drop for Made {
+    fn drop(self) {
+        let Made { inverses, before } = self;
+        drop(inverses);
+        drop(before);
+    }
+}
+
+impl Made {
+    // Takes the step back.
+    fn take_back(self, graph: &mut Graph) -> Result<(), Wrong>
+        requires { Fits self.inverses graph.old.graph }
+        ensures { graph.new.graph ≡ undone_by self.inverses graph.old.graph }
+    {
+        let Made { inverses, before } = self;
+        undo(graph, inverses);
+        if is_same(graph, &before) {
+            Ok(())
+        } else {
+            Err(Wrong::new("a step is not taken back"))
+        }
+    }
+}
+
+// Makes one step, and puts the number of its rule into `taken`.
+fn make_one(
+    alloc: Global,
+    rules: &[Rule],
+    graph: &mut Graph,
+    random: &mut Lcg64Xsh32,
+    taken: &mut Vec<u32>,
+) -> Result<Made, Wrong>
+    ensures { IfOk result (λ m. Undoes m.inverses graph.new.graph graph.old.graph) }
+{
+    let found = drawn(alloc, rules, graph, random)?;
+    taken.push(found.rule())?;
+    let Some(rule) = rules.get(found.rule() as usize) else {
+        return Err(Wrong::new("there is no such rule"));
+    };
+    let before = graph.copy(alloc)?;
+    let inverses = make_step(alloc, rule, graph, &found)?;
+    if is_same(graph, &before) {
+        return Err(Wrong::new("a step changes nothing"));
+    }
+    Ok(Made { inverses, before })
+}
+
+// ---- what is drawn
+
+// A match that applies, of a rule that is drawn.
+fn drawn(
+    alloc: Global,
+    rules: &[Rule],
+    graph: &Graph,
+    random: &mut Lcg64Xsh32,
+) -> Result<Found, Wrong> {
+    for _ in 0..100 {
+        let number = below(random, rules.len() as u64) as u32;
+        if let Some(rule) = rules.get(number as usize)
+            && let Some(found) = guessed(alloc, number, rule, graph, random)?
+        {
+            return Ok(found);
+        }
+    }
+    Err(Wrong::new("no match is found"))
+}
+
+// A match of this rule that applies, if one is found by guesses.
+fn guessed(
+    alloc: Global,
+    number: u32,
+    rule: &Rule,
+    graph: &Graph,
+    random: &mut Lcg64Xsh32,
+) -> Result<Option<Found>, NoMemory> {
+    for _ in 0..1000 {
+        let mut found = Found::new(alloc, number);
+        if rule.parts().left_edges.is_empty() {
+            push_nodes(rule.parts().left_nodes.len(), graph, random, &mut found)?;
+        } else {
+            push_edge(rule.parts().left_nodes.len(), graph, random, &mut found)?;
+        }
+        if check_match(alloc, rule, graph, &found) == Verdict::Applies {
+            return Ok(Some(found));
+        }
+    }
+    Ok(None)
+}
+
+// Puts so many nodes into a match.
+fn push_nodes(
+    count: usize,
+    graph: &Graph,
+    random: &mut Lcg64Xsh32,
+    found: &mut Found,
+) -> Result<(), NoMemory> {
+    for _ in 0..count {
+        found.push_node(below(random, graph.next_numbers().0))?;
+    }
+    Ok(())
+}
+
+// Puts an edge into a match, and so many of its ends.
+fn push_edge(
+    count: usize,
+    graph: &Graph,
+    random: &mut Lcg64Xsh32,
+    found: &mut Found,
+) -> Result<(), NoMemory> {
+    let number = below(random, graph.next_numbers().1);
+    let reversed = below(random, 2) == 1;
+    let Some((source, target, _, _)) = graph.edge(number) else {
+        return Ok(());
+    };
+    found.push_node(if reversed { target } else { source })?;
+    if count > 1 {
+        found.push_node(if reversed { source } else { target })?;
+    }
+    found.push_edge(EdgeImage { number, reversed })
+}
+
+fn below(random: &mut Lcg64Xsh32, count: u64) -> u64 {
+    u64::from(random.next_word())
+        .checked_rem(count)
+        .unwrap_or(0)
+}
