@@ -27,11 +27,12 @@ pub(crate) enum Kind {
 }
 
 /// The files of rows, `NAME.rows`, and the kind of each.
-pub(crate) const FILES: [(&str, Kind); 21] = [
+pub(crate) const FILES: [(&str, Kind); 22] = [
     ("tokens", Kind::Tokens),
     // about rules
     ("chains", Kind::Worth),
     ("characters", Kind::Characters),
+    ("choices", Kind::Choices),
     ("conditions", Kind::Worth),
     ("degrees", Kind::Worth),
     ("edges", Kind::Worth),
