@@ -3,6 +3,22 @@
 use crate::rows::number_of;
 use crate::wrong::Wrong;
 
+/// A field; nothing where it is not there.
+pub(crate) fn field(fields: &[Vec<u8>], place: usize) -> &[u8] {
+    match fields.get(place) {
+        Some(field) => field.as_slice(),
+        None => b"",
+    }
+}
+
+/// The number that a field is. One that is no number is the greatest one, which no row is about.
+pub(crate) fn number(fields: &[Vec<u8>], place: usize) -> u64 {
+    match number_of(field(fields, place)) {
+        Some(number) => number,
+        None => u64::MAX,
+    }
+}
+
 /// The bytes of a field.
 pub(crate) fn bytes_at(fields: &[Vec<u8>], place: usize) -> Result<&[u8], Wrong> {
     match fields.get(place) {

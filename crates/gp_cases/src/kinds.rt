@@ -1,15 +1,40 @@
 //! The kinds of rows.
 
+use crate::answers::Answer;
 use crate::rules::{choices, lists, matches, searches, steps, unification, values, walks};
-use crate::texts::tokens;
-use crate::wrong::Wrong;
+use crate::texts::programs::cuts;
+use crate::texts::{cursors, hosts, limits, lines, parts, programs, rules, scopes, tokens, traces};
 use std::alloc::Global;
 
 /// What the rows of a file are about.
 #[derive(Clone, Copy)]
 pub(crate) enum Kind {
+    // of texts
     Tokens,
-    // about rules
+    TokenLines,
+    Classes,
+    Cursors,
+    Wants,
+    Integers,
+    Depths,
+    Ranges,
+    Programs,
+    Reads,
+    Cuts,
+    Ends,
+    Arrows,
+    Rules,
+    Scopes,
+    Meanings,
+    Lines,
+    Sentences,
+    Hosts,
+    Beginnings,
+    Traces,
+    Names,
+    Founds,
+    Assignments,
+    // of rules
     Characters,
     Choices,
     Join,
@@ -27,9 +52,46 @@ pub(crate) enum Kind {
 }
 
 /// The files of rows, `NAME.rows`, and the kind of each.
-pub(crate) const FILES: [(&str, Kind); 22] = [
+pub(crate) const FILES: [(&str, Kind); 59] = [
     ("tokens", Kind::Tokens),
-    // about rules
+    ("token_lines", Kind::TokenLines),
+    ("classes", Kind::Classes),
+    ("cursors", Kind::Cursors),
+    ("wants", Kind::Wants),
+    ("integers", Kind::Integers),
+    ("depths", Kind::Depths),
+    ("ranges", Kind::Ranges),
+    ("programs_declared", Kind::Programs),
+    ("programs_lists", Kind::Programs),
+    ("programs_faults", Kind::Programs),
+    ("programs_flaws", Kind::Programs),
+    ("programs_numerals", Kind::Programs),
+    ("programs_depths", Kind::Reads),
+    ("programs_cuts", Kind::Cuts),
+    ("programs_ends", Kind::Ends),
+    ("programs_arrows", Kind::Arrows),
+    ("rules_labels", Kind::Rules),
+    ("rules_marks", Kind::Rules),
+    ("rules_names", Kind::Rules),
+    ("rules_order", Kind::Rules),
+    ("rules_sizes", Kind::Rules),
+    ("rules_first", Kind::Rules),
+    ("rules_worked", Kind::Rules),
+    ("scopes_alone", Kind::Scopes),
+    ("scopes_first", Kind::Scopes),
+    ("scopes_order", Kind::Scopes),
+    ("scopes_chains", Kind::Scopes),
+    ("scopes_bodies", Kind::Scopes),
+    ("meanings", Kind::Meanings),
+    ("lines", Kind::Lines),
+    ("sentences", Kind::Sentences),
+    ("hosts", Kind::Hosts),
+    ("beginnings", Kind::Beginnings),
+    ("traces", Kind::Traces),
+    ("names", Kind::Names),
+    ("founds", Kind::Founds),
+    ("assignments", Kind::Assignments),
+    // of rules
     ("chains", Kind::Worth),
     ("characters", Kind::Characters),
     ("choices", Kind::Choices),
@@ -38,10 +100,10 @@ pub(crate) const FILES: [(&str, Kind); 22] = [
     ("edges", Kind::Worth),
     ("labels", Kind::Join),
     ("loops", Kind::Loop),
-    ("match-causes", Kind::Verdict),
-    ("match-dangling", Kind::Verdict),
-    ("match-images", Kind::Verdict),
-    ("match-labels", Kind::Verdict),
+    ("match_causes", Kind::Verdict),
+    ("match_dangling", Kind::Verdict),
+    ("match_images", Kind::Verdict),
+    ("match_labels", Kind::Verdict),
     ("numbers", Kind::Worth),
     ("orders", Kind::Order),
     ("plans", Kind::Plan),
@@ -53,24 +115,47 @@ pub(crate) const FILES: [(&str, Kind); 22] = [
     ("walks", Kind::Walk),
 ];
 
-/// The answer to a row of this kind, from all its fields but the last one.
-pub(crate) fn answer(kind: Kind, alloc: Global, fields: &[Vec<u8>]) -> Result<Vec<u8>, Wrong> {
+/// Answers a row of this kind, from all its fields but the last one.
+pub(crate) fn answer(kind: Kind, alloc: Global, fields: &[Vec<u8>], out: &mut Answer) {
     match kind {
-        Kind::Tokens => tokens::answer(alloc, fields),
-        // about rules
-        Kind::Characters => lists::characters_answer(alloc, fields),
-        Kind::Choices => choices::answer(alloc, fields),
-        Kind::Join => lists::join_answer(alloc, fields),
-        Kind::Loop => searches::loop_answer(alloc, fields),
-        Kind::Order => lists::order_answer(alloc, fields),
-        Kind::Plan => searches::plan_answer(alloc, fields),
-        Kind::Probes => searches::probes_answer(alloc, fields),
-        Kind::Round => lists::round_answer(alloc, fields),
-        Kind::Search => searches::answer(alloc, fields),
-        Kind::Step => steps::answer(alloc, fields),
-        Kind::Unify => unification::answer(alloc, fields),
-        Kind::Verdict => matches::answer(alloc, fields),
-        Kind::Walk => walks::answer(alloc, fields),
-        Kind::Worth => values::answer(alloc, fields),
+        Kind::Tokens => tokens::answer(alloc, fields, out),
+        Kind::TokenLines => tokens::line(alloc, fields, out),
+        Kind::Classes => tokens::classes(alloc, fields, out),
+        Kind::Cursors => cursors::answer(alloc, fields, out),
+        Kind::Wants => cursors::wants(alloc, fields, out),
+        Kind::Integers => cursors::integer(fields, out),
+        Kind::Depths => limits::depth(alloc, fields, out),
+        Kind::Ranges => limits::range(alloc, fields, out),
+        Kind::Programs => programs::answer(alloc, fields, out),
+        Kind::Reads => programs::read(alloc, fields, out),
+        Kind::Cuts => cuts::cut(alloc, fields, out),
+        Kind::Ends => cuts::ends(alloc, fields, out),
+        Kind::Arrows => cuts::arrows(alloc, fields, out),
+        Kind::Rules => rules::answer(alloc, fields, out),
+        Kind::Scopes => scopes::answer(alloc, fields, out),
+        Kind::Meanings => scopes::meanings(alloc, fields, out),
+        Kind::Lines => lines::answer(alloc, fields, out),
+        Kind::Sentences => lines::sentence(alloc, fields, out),
+        Kind::Hosts => hosts::answer(alloc, fields, out),
+        Kind::Beginnings => hosts::beginnings(alloc, fields, out),
+        Kind::Traces => traces::answer(alloc, fields, out),
+        Kind::Names => parts::name(alloc, fields, out),
+        Kind::Founds => parts::found(alloc, fields, out),
+        Kind::Assignments => parts::assignment(alloc, fields, out),
+        // of rules
+        Kind::Characters => lists::characters(alloc, fields, out),
+        Kind::Choices => choices::answer(alloc, fields, out),
+        Kind::Join => lists::join(alloc, fields, out),
+        Kind::Loop => searches::repeated(alloc, fields, out),
+        Kind::Order => lists::order(alloc, fields, out),
+        Kind::Plan => searches::planned(alloc, fields, out),
+        Kind::Probes => searches::probes(alloc, fields, out),
+        Kind::Round => lists::round(fields, out),
+        Kind::Search => searches::answer(alloc, fields, out),
+        Kind::Step => steps::answer(alloc, fields, out),
+        Kind::Unify => unification::answer(alloc, fields, out),
+        Kind::Verdict => matches::answer(alloc, fields, out),
+        Kind::Walk => walks::answer(alloc, fields, out),
+        Kind::Worth => values::answer(alloc, fields, out),
     }
 }

@@ -6,6 +6,7 @@
 //! matches and steps.
 #![tactic(auto)]
 
+mod answers;
 mod fields;
 mod kinds;
 mod report;
@@ -15,27 +16,26 @@ mod samples;
 mod texts;
 mod wrong;
 
-use kinds::FILES;
-use report::put_report;
-use std::alloc::Global;
+use kinds::{FILES, Kind};
+use report::report_of;
 use std::fs;
 use std::io::Write;
 use std::process::ExitCode;
 use wrong::Wrong;
 
-// The path of a file of rows.
-fn path_of(alloc: Global, name: &str) -> Result<String, Wrong> {
-    let mut path = String::from_str(alloc, name)?;
+// Tries the rows of a file, and prints its report.
+fn try_file(rt: &HostRuntime, name: &str, kind: Kind) -> Result<(), Wrong> {
+    let mut path = String::from_str(rt.alloc(), name)?;
     path.push_str(".rows")?;
-    Ok(path)
+    let bytes = fs::read(rt, path)?;
+    let report = report_of(rt.alloc(), name, kind, &bytes)?;
+    rt.stdout().write_all(&report)?;
+    Ok(())
 }
 
 fn run(rt: &HostRuntime) -> Result<(), Wrong> {
     for (name, kind) in &FILES {
-        let bytes = fs::read(rt, path_of(rt.alloc(), name)?)?;
-        let mut report = Vec::new(rt.alloc());
-        put_report(rt.alloc(), name, *kind, &bytes, &mut report)?;
-        rt.stdout().write_all(&report)?;
+        try_file(rt, name, *kind)?;
     }
     Ok(())
 }

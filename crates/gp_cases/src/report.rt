@@ -1,20 +1,20 @@
 //! The report of a file: how many rows it has, and each row that did not give what is wanted.
 
+use crate::answers::Answer;
 use crate::kinds::{Kind, answer};
-use crate::rows::{Names, fields_of, put_number};
+use crate::rows::{Names, fields_of, split_at};
 use crate::wrong::Wrong;
 use std::alloc::Global;
 
-/// Writes the report of a file of rows of this kind.
-pub(crate) fn put_report(
+/// The report of a file of rows of this kind.
+pub(crate) fn report_of(
     alloc: Global,
     name: &str,
     kind: Kind,
     bytes: &[u8],
-    report: &mut Vec<u8>,
-) -> Result<(), Wrong> {
+) -> Result<Vec<u8>, Wrong> {
     let mut names = Names::new(alloc);
-    let mut mistakes = Vec::new(alloc);
+    let mut mistakes = Answer::new(alloc);
     let mut place = Place {
         name,
         line: 0,
@@ -23,13 +23,23 @@ pub(crate) fn put_report(
     for line in bytes.split(|byte| *byte == b'\n') {
         place.line = place.line.saturating_add(1);
         match fields_of(alloc, &mut names, line) {
-            Ok(fields) => try_row(alloc, &mut place, kind, fields.as_slice(), &mut mistakes)?,
-            Err(wrong) => put_mistake(&place, &[wrong.text().as_bytes()], &mut mistakes)?,
+            Ok(fields) => try_row(alloc, &mut place, kind, &fields, &mut mistakes),
+            Err(wrong) => put_mistake(&place, &[wrong.text().as_bytes()], &mut mistakes),
         }
     }
-    put_all(&[name.as_bytes(), b": "], report)?;
-    put_number(place.rows, report)?;
-    put_all(&[b" rows\n", mistakes.as_slice()], report)
+    let mistakes = mistakes.into_text()?;
+    whole(alloc, &place, &mistakes)
+}
+
+// The line of a file, and the mistakes in it.
+fn whole(alloc: Global, place: &Place<'_>, mistakes: &[u8]) -> Result<Vec<u8>, Wrong> {
+    let mut report = Answer::new(alloc);
+    report.put(place.name.as_bytes());
+    report.put(b": ");
+    report.put_number(place.rows);
+    report.put(b" rows\n");
+    report.put(mistakes);
+    report.into_text()
 }
 
 // Where the report is: the file, its line, and how many rows there were.
@@ -46,78 +56,58 @@ fn try_row(
     place: &mut Place<'_>,
     kind: Kind,
     fields: &[Vec<u8>],
-    mistakes: &mut Vec<u8>,
-) -> Result<(), Wrong> {
+    mistakes: &mut Answer,
+) {
     let Some((wanted, inputs)) = fields.split_last() else {
-        return Ok(());
+        return;
     };
     place.rows = place.rows.saturating_add(1);
-    let wanted = wanted.as_slice();
-    match answer(kind, alloc, inputs) {
-        Ok(given) => {
-            if is_one_of(given.as_slice(), wanted) {
-                return Ok(());
-            }
-            put_mistake(
-                place,
-                &[b"wanted ", wanted, b", gave ", given.as_slice()],
-                mistakes,
-            )
-        }
-        Err(wrong) => {
-            let text = wrong.text().as_bytes();
-            put_mistake(
-                place,
-                &[b"wanted ", wanted, b", no answer: ", text],
-                mistakes,
-            )
-        }
+    let mut given = Answer::new(alloc);
+    answer(kind, alloc, inputs, &mut given);
+    judge(place, wanted, &given, mistakes);
+}
+
+// Tells an answer that is not the one that is wanted.
+fn judge(place: &Place<'_>, wanted: &[u8], given: &Answer, mistakes: &mut Answer) {
+    let texts = [
+        b"wanted ".as_slice(),
+        wanted,
+        b", gave ".as_slice(),
+        given.text(),
+    ];
+    if let Some(wrong) = given.why() {
+        put_mistake(place, &texts, mistakes);
+        put_mistake(place, &[wrong.text().as_bytes()], mistakes);
+    } else if !is_one_of(given.text(), wanted) {
+        put_mistake(place, &texts, mistakes);
     }
 }
 
 // Whether an answer is the one that is wanted, or one of several.
 fn is_one_of(given: &[u8], wanted: &[u8]) -> bool {
-    const OR_ELSE: &[u8] = b" or else ";
     let mut left = wanted;
     for _ in 0..wanted.len() {
-        if left == given {
-            return true;
-        }
-        match left.strip_prefix(given) {
-            Some(rest) if rest.starts_with(OR_ELSE) => return true,
-            _ => (),
-        }
-        match behind(left, OR_ELSE) {
-            Some(rest) => left = rest,
-            None => return false,
+        match split_at(left, b" or else ") {
+            Some((first, others)) => {
+                if given == first {
+                    return true;
+                }
+                left = others;
+            }
+            None => return given == left,
         }
     }
-    left == given
-}
-
-// What stands behind the first of these marks.
-fn behind<'a>(text: &'a [u8], mark: &[u8]) -> Option<&'a [u8]> {
-    for place in 0..text.len() {
-        let (_, rest) = text.split_at(place);
-        if let Some(rest) = rest.strip_prefix(mark) {
-            return Some(rest);
-        }
-    }
-    None
+    given == left
 }
 
 // Writes the line of a mistake.
-fn put_mistake(place: &Place<'_>, texts: &[&[u8]], mistakes: &mut Vec<u8>) -> Result<(), Wrong> {
-    put_all(&[place.name.as_bytes(), b" line "], mistakes)?;
-    put_number(place.line, mistakes)?;
-    put_all(&[b": "], mistakes)?;
-    put_all(texts, mistakes)?;
-    put_all(&[b"\n"], mistakes)
-}
-
-fn put_all(texts: &[&[u8]], report: &mut Vec<u8>) -> Result<(), Wrong> {
+fn put_mistake(place: &Place<'_>, texts: &[&[u8]], mistakes: &mut Answer) {
+    mistakes.put(place.name.as_bytes());
+    mistakes.put(b" line ");
+    mistakes.put_number(place.line);
+    mistakes.put(b": ");
     for text in texts {
-        report.extend_from_slice(text)?;
+        mistakes.put(text);
     }
-    Ok(())
+    mistakes.put(b"\n");
 }

@@ -1,30 +1,56 @@
-//! What rows about rules hold, a rule, a host and a match; and graphs as answers tell them.
+//! What rows about rules hold, a rule, a host and a match; and matches, labels and graphs as answers tell them.
 
-use crate::fields::bytes_at;
-use crate::rows::put_number;
+use crate::answers::Answer;
+use crate::fields::field;
 use crate::samples::{host_of, rules_of};
 use crate::wrong::Wrong;
 use gp_graph::Graph;
 use gp_hostfile::write_graph;
-use gp_syntax::{Found, Item, Items, Rule};
+use gp_syntax::{Found, Item, Rule};
 use gp_trace::read_trace;
+use gp_values::List;
 use std::alloc::Global;
 
-/// Rules, of which the first is the one that is tried, a host, and a match of it.
+/// A rule and a host.
+pub(crate) struct Pair {
+    pub(crate) rule: Rule,
+    pub(crate) graph: Graph,
+}
+
+impl Drop for Pair {
+    fn drop(self) {
+        let Pair { rule, graph } = self;
+        drop(rule);
+        drop(graph);
+    }
+}
+
+/// The rule of the field of this place, and the host of the next one.
+pub(crate) fn pair_at(alloc: Global, fields: &[Vec<u8>], place: usize) -> Result<Pair, Wrong> {
+    let graph = host_of(alloc, field(fields, place.saturating_add(1)))?;
+    let rule = rule_of(alloc, field(fields, place))?;
+    Ok(Pair { rule, graph })
+}
+
+/// The last rule of a text.
+pub(crate) fn rule_of(alloc: Global, text: &[u8]) -> Result<Rule, Wrong> {
+    match rules_of(alloc, text)?.pop() {
+        Some(rule) => Ok(rule),
+        None => Err(Wrong::new("there is no rule")),
+    }
+}
+
+/// A rule, a host, and a match.
 pub(crate) struct Case {
-    pub(crate) rules: Items<Rule>,
+    pub(crate) rule: Rule,
     pub(crate) graph: Graph,
     pub(crate) found: Found,
 }
 
 impl Drop for Case {
     fn drop(self) {
-        let Case {
-            rules,
-            graph,
-            found,
-        } = self;
-        drop(rules);
+        let Case { rule, graph, found } = self;
+        drop(rule);
         drop(graph);
         drop(found);
     }
@@ -32,24 +58,10 @@ impl Drop for Case {
 
 /// The case of three fields, of which the first has this place.
 pub(crate) fn case_at(alloc: Global, fields: &[Vec<u8>], place: usize) -> Result<Case, Wrong> {
-    let rule = bytes_at(fields, place)?;
-    let host = bytes_at(fields, place.saturating_add(1))?;
-    let found = found_of(alloc, bytes_at(fields, place.saturating_add(2))?)?;
-    let graph = host_of(alloc, host)?;
-    let rules = rules_of(alloc, rule)?;
-    Ok(Case {
-        rules,
-        graph,
-        found,
-    })
-}
-
-/// The first of some rules.
-pub(crate) fn first_of(rules: &Items<Rule>) -> Result<&Rule, Wrong> {
-    match rules.as_slice().first() {
-        Some(rule) => Ok(rule),
-        None => Err(Wrong::new("there is no rule")),
-    }
+    let found = found_of(alloc, field(fields, place.saturating_add(2)))?;
+    let graph = host_of(alloc, field(fields, place.saturating_add(1)))?;
+    let rule = rule_of(alloc, field(fields, place))?;
+    Ok(Case { rule, graph, found })
 }
 
 // The match of a text such as `nodes 0 1 edges 0~`, as a line of a trace has it.
@@ -64,54 +76,60 @@ fn found_of(alloc: Global, text: &[u8]) -> Result<Found, Wrong> {
 }
 
 /// Writes the images of a match, those of nodes and those of edges, with a sign where an edge was found reversed.
-pub(crate) fn put_found(found: &Found, text: &mut Vec<u8>) -> Result<(), Wrong> {
-    text.extend_from_slice(b" nodes")?;
+pub(crate) fn put_found(found: &Found, out: &mut Answer) {
+    out.word(b"nodes");
     for node in found.nodes() {
-        text.push(b' ')?;
-        put_number(*node, text)?;
+        out.number(*node);
     }
-    text.extend_from_slice(b" edges")?;
+    out.word(b"edges");
     for image in found.edges() {
-        text.push(b' ')?;
-        put_number(image.number, text)?;
-        text.extend_from_slice(if image.reversed { b"~" } else { b"" })?;
+        out.number(image.number);
+        out.put(if image.reversed { b"~" } else { b"" });
     }
-    Ok(())
+}
+
+/// Writes a list as a label.
+pub(crate) fn put_label(alloc: Global, list: &List, out: &mut Answer) {
+    let mut text = Vec::new(alloc);
+    match list.write_label(&mut text) {
+        Ok(()) => out.word(&text),
+        Err(error) => out.debug(&error),
+    }
 }
 
 /// Writes a graph on one line, and behind it the numbers that nodes and edges have, and the next ones.
-pub(crate) fn put_graph(alloc: Global, graph: &Graph, text: &mut Vec<u8>) -> Result<(), Wrong> {
-    let mut lines = Vec::new(alloc);
-    write_graph(alloc, graph, &mut lines)?;
-    for line in lines.split(|byte| *byte == b'\n') {
-        if !line.is_empty() {
-            text.extend_from_slice(line.trim_ascii_start())?;
-            text.push(b' ')?;
-        }
+pub(crate) fn put_graph(alloc: Global, graph: &Graph, out: &mut Answer) {
+    let mut text = Vec::new(alloc);
+    match write_graph(alloc, graph, &mut text) {
+        Ok(()) => put_lines(&text, out),
+        Err(error) => out.debug(&error),
     }
-    put_numbers(graph, text)
+    put_numbers(graph, out);
 }
 
-fn put_numbers(graph: &Graph, text: &mut Vec<u8>) -> Result<(), Wrong> {
+fn put_lines(text: &[u8], out: &mut Answer) {
+    for line in text.split(|byte| *byte == b'\n') {
+        out.word_if(!line.is_empty(), line.trim_ascii_start());
+    }
+}
+
+fn put_numbers(graph: &Graph, out: &mut Answer) {
     let (next_node, next_edge) = graph.next_numbers();
-    text.extend_from_slice(b"nodes")?;
+    out.word(b"nodes");
     for n in 0..next_node {
         if graph.node(n).is_some() {
-            text.push(b' ')?;
-            put_number(n, text)?;
+            out.number(n);
         }
     }
-    text.extend_from_slice(b" edges")?;
+    out.word(b"edges");
     for e in 0..next_edge {
         if graph.edge(e).is_some() {
-            text.push(b' ')?;
-            put_number(e, text)?;
+            out.number(e);
         }
     }
-    text.extend_from_slice(b" next ")?;
-    put_number(next_node, text)?;
-    text.push(b' ')?;
-    put_number(next_edge, text)
+    out.word(b"next");
+    out.number(next_node);
+    out.number(next_edge);
 }
 
 /// Whether two graphs have the same nodes and edges at the same numbers, and the same next numbers.

@@ -1,11 +1,11 @@
 //! Steps and what takes them back.
 
 ghost use Rattle.std.specs.Prelude.{IfOk};
-ghost use Rattle.gp_step.specs.Undo.{Undoes};
+ghost use Rattle.gp_step.specs.Undo.{Fits, Undoes};
 
-use crate::rules::cases::{Case, case_at, first_of, is_same, put_graph};
-use crate::samples::rules_of;
-use crate::wrong::{Wrong, debugged};
+use crate::answers::Answer;
+use crate::rules::cases::{Case, case_at, is_same, put_graph, rule_of};
+use crate::wrong::Wrong;
 use gp_graph::Graph;
 use gp_match::{Verdict, check_match};
 use gp_memory::NoMemory;
@@ -15,38 +15,46 @@ use std::alloc::Global;
 
 /// What a step leaves, where its match applies, and else the verdict: what the row shows, a rule, a host, and the images.
 /// The step is taken back then: where that does not give the very graph from before, this is said behind it.
-pub(crate) fn answer(alloc: Global, fields: &[Vec<u8>]) -> Result<Vec<u8>, Wrong> {
-    let case = case_at(alloc, fields, 1)?;
-    let rule = first_of(&case.rules)?;
-    match check_match(alloc, rule, &case.graph, &case.found) {
-        Verdict::Applies => made(alloc, rule, &case),
-        verdict => debugged(alloc, &verdict),
+pub(crate) fn answer(alloc: Global, fields: &[Vec<u8>], out: &mut Answer) {
+    match case_at(alloc, fields, 1) {
+        Ok(case) => match check_match(alloc, &case.rule, &case.graph, &case.found) {
+            Verdict::Applies => step_and_back(alloc, &case, out),
+            verdict => out.debug(&verdict),
+        },
+        Err(wrong) => out.wrong(wrong),
     }
 }
 
-fn made(alloc: Global, rule: &Rule, case: &Case) -> Result<Vec<u8>, Wrong> {
-    let mut graph = case.graph.copy(alloc)?;
-    let Ok(inverses) = make_step(alloc, rule, &mut graph, &case.found) else {
-        return refused(alloc, &graph, &case.graph);
-    };
-    let mut text = Vec::new(alloc);
-    put_graph(alloc, &graph, &mut text)?;
-    let copy = inverses.copy(alloc)?;
-    undo(&mut graph, copy);
-    if !is_same(&graph, &case.graph) {
-        text.extend_from_slice(b", not taken back")?;
-    } else if !makes_the_same(alloc, graph, &case.graph)? {
-        text.extend_from_slice(b", another graph when taken back")?;
+fn step_and_back(alloc: Global, case: &Case, out: &mut Answer) {
+    match case.graph.copy(alloc) {
+        Ok(mut graph) => {
+            match make_step(alloc, &case.rule, &mut graph, &case.found) {
+                Ok(inverses) => back(alloc, &mut graph, inverses, out),
+                Err(error) => out.debug(&error),
+            }
+            compare(alloc, graph, &case.graph, out);
+        }
+        Err(error) => out.debug(&error),
     }
-    Ok(text)
 }
 
-// A step that was refused leaves the graph as it was.
-fn refused(alloc: Global, graph: &Graph, before: &Graph) -> Result<Vec<u8>, Wrong> {
-    if is_same(graph, before) {
-        Ok(Vec::from_slice(alloc, b"refused")?)
-    } else {
-        Ok(Vec::from_slice(alloc, b"refused, and changed")?)
+// Tells what a step left, and takes it back by a copy of its inverses.
+fn back(alloc: Global, graph: &mut Graph, inverses: Undo, out: &mut Answer)
+    requires { Fits inverses graph.old.graph }
+{
+    put_graph(alloc, graph, out);
+    match inverses.copy(alloc) {
+        Ok(copy) => undo(graph, copy),
+        Err(error) => out.debug(&error),
+    }
+}
+
+// Compares a graph with that from before the step, and what a step makes of both.
+fn compare(alloc: Global, graph: Graph, before: &Graph, out: &mut Answer) {
+    out.word_if(!is_same(&graph, before), b"and not taken back");
+    match makes_the_same(alloc, graph, before) {
+        Ok(is_so) => out.word_if(!is_so, b"and steps on otherwise"),
+        Err(wrong) => out.wrong(wrong),
     }
 }
 
@@ -69,12 +77,11 @@ pub(crate) fn make_step(
 fn makes_the_same(alloc: Global, mut graph: Graph, before: &Graph) -> Result<bool, Wrong> {
     const PAIR: &[u8] = b"pair() [ | ] => [ (n0, 8) (n1, 9) | (e0, n0, n1, 10) ] interface = {}";
     let mut other = before.copy(alloc)?;
-    let (nodes, edges) = before.next_numbers();
-    let rules = rules_of(alloc, PAIR)?;
-    let rule = first_of(&rules)?;
+    let rule = rule_of(alloc, PAIR)?;
     let nowhere = Found::new(alloc, 0);
-    let _made = make_step(alloc, rule, &mut graph, &nowhere)?;
-    let _made = make_step(alloc, rule, &mut other, &nowhere)?;
+    let _made = make_step(alloc, &rule, &mut graph, &nowhere)?;
+    let _made = make_step(alloc, &rule, &mut other, &nowhere)?;
+    let (nodes, edges) = before.next_numbers();
     let is_numbered = graph.node(nodes).is_some() && graph.edge(edges).is_some();
     Ok(is_numbered && is_same(&graph, &other))
 }

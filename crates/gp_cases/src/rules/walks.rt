@@ -3,8 +3,8 @@
 ghost use Rattle.std.specs.Prelude.{◌≡◌, IfOk, OnOk};
 ghost use Rattle.gp_step.specs.Undo.{Fits, Undoes, undone_by};
 
-use crate::fields::{bytes_at, number_at};
-use crate::rows::put_number;
+use crate::answers::Answer;
+use crate::fields::{field, number};
 use crate::rules::cases::is_same;
 use crate::rules::steps::make_step;
 use crate::samples::{host_of, rules_of};
@@ -21,36 +21,51 @@ use std::alloc::Global;
 
 /// Whether a walk is taken back: some rules, a host, a seed, how many steps are made, and more than how many each rule has
 /// to make.
-pub(crate) fn answer(alloc: Global, fields: &[Vec<u8>]) -> Result<Vec<u8>, Wrong> {
-    let mut random = Lcg64Xsh32::seed_from_u64(number_at(fields, 2)?);
-    let steps = number_at(fields, 3)?;
-    let few = number_at(fields, 4)?;
-    let mut graph = host_of(alloc, bytes_at(fields, 1)?)?;
-    let first = graph.copy(alloc)?;
-    let rules = rules_of(alloc, bytes_at(fields, 0)?)?;
+pub(crate) fn answer(alloc: Global, fields: &[Vec<u8>], out: &mut Answer) {
     let mut taken = Vec::new(alloc);
-    let rules = rules.as_slice();
-    walk(alloc, rules, &mut graph, &mut random, &mut taken, steps)?;
-    if !is_same(&graph, &first) || taken.len() as u64 != steps {
-        return Err(Wrong::new("the walk is not taken back"));
+    match walked(alloc, fields, &mut taken) {
+        Ok(rules) => {
+            out.word_if(taken.len() as u64 == number(fields, 3), b"taken back");
+            put_rare(rules, &taken, number(fields, 4), out);
+        }
+        Err(wrong) => out.wrong(wrong),
     }
-    rare_rules(alloc, rules.len(), &taken, few)
 }
 
-// Which rules made no more than so many steps.
-fn rare_rules(alloc: Global, rules: usize, taken: &[u32], few: u64) -> Result<Vec<u8>, Wrong> {
-    let mut text = Vec::from_slice(alloc, b"taken back")?;
+// Makes the walk, and tells how many rules there are.
+fn walked(alloc: Global, fields: &[Vec<u8>], taken: &mut Vec<u32>) -> Result<usize, Wrong> {
+    let mut random = Lcg64Xsh32::seed_from_u64(number(fields, 2));
+    let mut graph = host_of(alloc, field(fields, 1))?;
+    let rules = rules_of(alloc, field(fields, 0))?;
+    let first = graph.copy(alloc)?;
+    let steps = number(fields, 3);
+    walk(
+        alloc,
+        rules.as_slice(),
+        &mut graph,
+        &mut random,
+        taken,
+        steps,
+    )?;
+    if is_same(&graph, &first) {
+        Ok(rules.len())
+    } else {
+        Err(Wrong::new("the walk is not taken back"))
+    }
+}
+
+// Tells the rules that made no more than so many steps.
+fn put_rare(rules: usize, taken: &[u32], few: u64, out: &mut Answer) {
     for rule in 0..rules {
         let count = taken
             .iter()
             .filter(|number| **number as usize == rule)
             .count();
         if count as u64 <= few {
-            text.extend_from_slice(b", few by rule ")?;
-            put_number(rule as u64, &mut text)?;
+            out.word(b"but few by rule");
+            out.number(rule as u64);
         }
     }
-    Ok(text)
 }
 
 // Makes so many steps, and takes them back in reverse order: after each the graph is the one from before it.

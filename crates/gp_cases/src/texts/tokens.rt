@@ -1,28 +1,67 @@
-//! Texts with their tokens, or their first fault.
+//! Texts with their tokens or their first fault; lines of tokens; classes of words.
 
-use crate::fields::bytes_at;
-use crate::rows::put_number;
-use crate::wrong::{Wrong, debugged, shown};
-use gp_tokens::{Token, lex};
+use crate::answers::Answer;
+use crate::fields::{field, number};
+use crate::wrong::Wrong;
+use gp_tokens::{Keyword, Kind, Token, is_reserved, lex, line_of_token};
 use std::alloc::Global;
 
 /// What a text is cut into: the kind of each token, and where it starts.
-pub(crate) fn answer(alloc: Global, fields: &[Vec<u8>]) -> Result<Vec<u8>, Wrong> {
-    match lex(alloc, bytes_at(fields, 0)?) {
-        Ok(tokens) => listed(alloc, &tokens),
-        Err(fault) => shown(alloc, &fault),
+pub(crate) fn answer(alloc: Global, fields: &[Vec<u8>], out: &mut Answer) {
+    match lex(alloc, field(fields, 0)) {
+        Ok(tokens) => {
+            for token in tokens.iter() {
+                out.debug(&token.kind);
+                out.number(token.start);
+            }
+        }
+        Err(fault) => out.show(&fault),
     }
 }
 
-fn listed(alloc: Global, tokens: &[Token<'_>]) -> Result<Vec<u8>, Wrong> {
-    let mut list = Vec::new(alloc);
-    for token in tokens {
-        if !list.is_empty() {
-            list.push(b' ')?;
-        }
-        list.extend_from_slice(&debugged(alloc, &token.kind)?)?;
-        list.push(b' ')?;
-        put_number(token.start, &mut list)?;
+/// The line on which a token of a text stands.
+pub(crate) fn line(alloc: Global, fields: &[Vec<u8>], out: &mut Answer) {
+    match line_of_token(alloc, field(fields, 0), number(fields, 1)) {
+        Ok(line) => out.number(line),
+        Err(fault) => out.show(&fault),
     }
-    Ok(list)
+}
+
+/// What each token of a text may stand for, behind a copy of its text.
+pub(crate) fn classes(alloc: Global, fields: &[Vec<u8>], out: &mut Answer) {
+    match lex(alloc, field(fields, 0)) {
+        Ok(tokens) => {
+            for token in tokens.iter() {
+                put_copy(alloc, token, out);
+                put_classes(token, out);
+            }
+        }
+        Err(fault) => out.show(&fault),
+    }
+}
+
+// Writes a copy of a token's text, which is printed as it is.
+fn put_copy(alloc: Global, token: &Token<'_>, out: &mut Answer) {
+    match token.text.copy(alloc) {
+        Ok(copy) => {
+            out.show(&copy);
+            if !out.text().ends_with(copy.as_bytes()) {
+                out.wrong(Wrong::new("a text is printed as another one"));
+            }
+        }
+        Err(error) => out.debug(&error),
+    }
+}
+
+fn put_classes(token: &Token<'_>, out: &mut Answer) {
+    out.word_if(token.is_item(), b"item");
+    out.word_if(token.is_rule_name(), b"rule");
+    out.word_if(token.is_variable(), b"variable");
+    out.word_if(token.is_procedure_name(), b"procedure");
+    out.word_if(is_reserved(token.text.as_bytes()), b"reserved");
+    out.word_if(token.is_word(Keyword::Root), b"root");
+    out.word_if(token.is_word(Keyword::Bidirectional), b"bidirectional");
+    if token.kind.is(Kind::Number) {
+        out.debug(&token.number_value());
+    }
 }

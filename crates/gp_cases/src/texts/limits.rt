@@ -1,0 +1,28 @@
+//! How deep brackets and runs of signs may be, and where a numeral of a list is out of range.
+
+use crate::answers::Answer;
+use crate::fields::field;
+use gp_expressions::read_list;
+use gp_grammar::Tokens;
+use gp_program::first_too_deep;
+use gp_tokens::lex;
+use std::alloc::Global;
+
+/// The first token of a text that is nested too deep.
+pub(crate) fn depth(alloc: Global, fields: &[Vec<u8>], out: &mut Answer) {
+    match lex(alloc, field(fields, 0)) {
+        Ok(tokens) => out.debug(&first_too_deep(alloc, &tokens)),
+        Err(fault) => out.show(&fault),
+    }
+}
+
+/// The offset of the first numeral of a list that is out of range.
+pub(crate) fn range(alloc: Global, fields: &[Vec<u8>], out: &mut Answer) {
+    match lex(alloc, field(fields, 0)) {
+        Ok(tokens) => match read_list(&mut Tokens::new(alloc, &tokens), 3) {
+            Ok(read) => out.debug(&read.past),
+            Err(error) => out.debug(&error),
+        },
+        Err(fault) => out.show(&fault),
+    }
+}
