@@ -66,10 +66,18 @@ pub(crate) fn case_at(alloc: Global, fields: &[Vec<u8>], place: usize) -> Result
 
 // The match of a text such as `nodes 0 1 edges 0~`, as a line of a trace has it.
 fn found_of(alloc: Global, text: &[u8]) -> Result<Found, Wrong> {
-    let mut trace = Vec::from_slice(alloc, b"gp2-trace 1\nstep 0 ")?;
-    trace.extend_from_slice(text)?;
-    trace.extend_from_slice(b"\nend\n")?;
-    match read_trace(alloc, &trace)?.pop() {
+    let mut trace = Answer::new(alloc);
+    trace.put(b"gp2-trace 1\nstep 0 ");
+    trace.put(text);
+    trace.put(b"\nend\n");
+    match read_trace(alloc, trace.text()) {
+        Ok(mut items) => step_of(items.pop()),
+        Err(fault) => Err(Wrong::from(fault)),
+    }
+}
+
+fn step_of(item: Option<Item>) -> Result<Found, Wrong> {
+    match item {
         Some(Item::Step(found)) => Ok(found),
         _ => Err(Wrong::new("there is no match")),
     }

@@ -32,7 +32,7 @@ fn step_and_back(alloc: Global, case: &Case, out: &mut Answer) {
                 Ok(inverses) => back(alloc, &mut graph, inverses, out),
                 Err(error) => out.debug(&error),
             }
-            compare(alloc, graph, &case.graph, out);
+            compare(alloc, &graph, &case.graph, out);
         }
         Err(error) => out.debug(&error),
     }
@@ -50,8 +50,8 @@ fn back(alloc: Global, graph: &mut Graph, inverses: Undo, out: &mut Answer)
 }
 
 // Compares a graph with that from before the step, and what a step makes of both.
-fn compare(alloc: Global, graph: Graph, before: &Graph, out: &mut Answer) {
-    out.word_if(!is_same(&graph, before), b"and not taken back");
+fn compare(alloc: Global, graph: &Graph, before: &Graph, out: &mut Answer) {
+    out.word_if(!is_same(graph, before), b"and not taken back");
     match makes_the_same(alloc, graph, before) {
         Ok(is_so) => out.word_if(!is_so, b"and steps on otherwise"),
         Err(wrong) => out.wrong(wrong),
@@ -74,14 +74,21 @@ pub(crate) fn make_step(
 }
 
 // Whether a rule that makes two nodes and an edge makes the same of both graphs, with the next numbers.
-fn makes_the_same(alloc: Global, mut graph: Graph, before: &Graph) -> Result<bool, Wrong> {
+fn makes_the_same(alloc: Global, graph: &Graph, before: &Graph) -> Result<bool, Wrong> {
     const PAIR: &[u8] = b"pair() [ | ] => [ (n0, 8) (n1, 9) | (e0, n0, n1, 10) ] interface = {}";
-    let mut other = before.copy(alloc)?;
     let rule = rule_of(alloc, PAIR)?;
-    let nowhere = Found::new(alloc, 0);
-    let _made = make_step(alloc, &rule, &mut graph, &nowhere)?;
-    let _made = make_step(alloc, &rule, &mut other, &nowhere)?;
+    let next = stepped(alloc, &rule, graph)?;
+    let other = stepped(alloc, &rule, before)?;
     let (nodes, edges) = before.next_numbers();
-    let is_numbered = graph.node(nodes).is_some() && graph.edge(edges).is_some();
-    Ok(is_numbered && is_same(&graph, &other))
+    let is_numbered = next.node(nodes).is_some() && next.edge(edges).is_some();
+    Ok(is_numbered && is_same(&next, &other))
+}
+
+// What a rule without left nodes makes of a graph.
+fn stepped(alloc: Global, rule: &Rule, graph: &Graph) -> Result<Graph, NoMemory> {
+    let mut next = graph.copy(alloc)?;
+    match make_step(alloc, rule, &mut next, &Found::new(alloc, 0)) {
+        Ok(_) => Ok(next),
+        Err(error) => Err(error),
+    }
 }

@@ -34,21 +34,27 @@ pub(crate) fn answer(alloc: Global, fields: &[Vec<u8>], out: &mut Answer) {
 
 // Makes the walk, and tells how many rules there are.
 fn walked(alloc: Global, fields: &[Vec<u8>], taken: &mut Vec<u32>) -> Result<usize, Wrong> {
-    let mut random = Lcg64Xsh32::seed_from_u64(number(fields, 2));
     let mut graph = host_of(alloc, field(fields, 1))?;
     let rules = rules_of(alloc, field(fields, 0))?;
-    let first = graph.copy(alloc)?;
+    let mut random = Lcg64Xsh32::seed_from_u64(number(fields, 2));
     let steps = number(fields, 3);
-    walk(
-        alloc,
-        rules.as_slice(),
-        &mut graph,
-        &mut random,
-        taken,
-        steps,
-    )?;
-    if is_same(&graph, &first) {
-        Ok(rules.len())
+    let rules = rules.as_slice();
+    walk_and_back(alloc, rules, &mut graph, &mut random, taken, steps)?;
+    Ok(rules.len())
+}
+
+fn walk_and_back(
+    alloc: Global,
+    rules: &[Rule],
+    graph: &mut Graph,
+    random: &mut Lcg64Xsh32,
+    taken: &mut Vec<u32>,
+    steps: u64,
+) -> Result<(), Wrong> {
+    let first = graph.copy(alloc)?;
+    walk(alloc, rules, graph, random, taken, steps)?;
+    if is_same(graph, &first) {
+        Ok(())
     } else {
         Err(Wrong::new("the walk is not taken back"))
     }
@@ -129,15 +135,23 @@ fn make_one(
 {
     let found = drawn(alloc, rules, graph, random)?;
     taken.push(found.rule())?;
-    let Some(rule) = rules.get(found.rule() as usize) else {
-        return Err(Wrong::new("there is no such rule"));
-    };
-    let before = graph.copy(alloc)?;
-    let inverses = make_step(alloc, rule, graph, &found)?;
-    if is_same(graph, &before) {
-        return Err(Wrong::new("a step changes nothing"));
+    match rules.get(found.rule() as usize) {
+        Some(rule) => step_of(alloc, rule, graph, &found),
+        None => Err(Wrong::new("there is no such rule")),
     }
-    Ok(Made { inverses, before })
+}
+
+fn step_of(alloc: Global, rule: &Rule, graph: &mut Graph, found: &Found) -> Result<Made, Wrong>
+    ensures { IfOk result (λ m. Undoes m.inverses graph.new.graph graph.old.graph) }
+{
+    let before = graph.copy(alloc)?;
+    let inverses = make_step(alloc, rule, graph, found)?;
+    let made = Made { inverses, before };
+    if is_same(graph, &made.before) {
+        Err(Wrong::new("a step changes nothing"))
+    } else {
+        Ok(made)
+    }
 }
 
 // ---- what is drawn
