@@ -14,6 +14,7 @@ pub(crate) enum Kind {
     TokenLines,
     Classes,
     Cursors,
+    NumberLists,
     Wants,
     Integers,
     Depths,
@@ -52,11 +53,12 @@ pub(crate) enum Kind {
 }
 
 /// The files of rows, `NAME.rows`, and the kind of each.
-pub(crate) const FILES: [(&str, Kind); 59] = [
+pub(crate) const FILES: [(&str, Kind); 60] = [
     ("tokens", Kind::Tokens),
     ("token_lines", Kind::TokenLines),
     ("classes", Kind::Classes),
     ("cursors", Kind::Cursors),
+    ("number_lists", Kind::NumberLists),
     ("wants", Kind::Wants),
     ("integers", Kind::Integers),
     ("depths", Kind::Depths),
@@ -122,6 +124,7 @@ pub(crate) fn answer(kind: Kind, alloc: Global, fields: &[Vec<u8>], out: &mut An
         Kind::TokenLines => tokens::line(alloc, fields, out),
         Kind::Classes => tokens::classes(alloc, fields, out),
         Kind::Cursors => cursors::answer(alloc, fields, out),
+        Kind::NumberLists => cursors::lists(alloc, fields, out),
         Kind::Wants => cursors::wants(alloc, fields, out),
         Kind::Integers => cursors::integer(fields, out),
         Kind::Depths => limits::depth(alloc, fields, out),

@@ -144,7 +144,7 @@ fn byte_of(word: &[u8]) -> Option<u8> {
         b"n" => Some(b'\n'),
         b"t" => Some(b'\t'),
         b"r" => Some(b'\r'),
-        [b'x', high, low] => Some(digit(*high)? * 16 + digit(*low)?),
+        [b'x', high, low] => Some((digit(*high)? & 15) * 16 + (digit(*low)? & 15)),
         _ => None,
     }
 }

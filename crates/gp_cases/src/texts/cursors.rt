@@ -7,44 +7,48 @@ use gp_grammar::{Numeral, Tokens, Want, repeated_by, separated_by, stands_before
 use gp_tokens::{Keyword, Kind, lex};
 use std::alloc::Global;
 
-/// What reading the tokens of a text by these steps gives.
+/// What a cursor over the tokens of a text gives from the front on, step by step.
 pub(crate) fn answer(alloc: Global, fields: &[Vec<u8>], out: &mut Answer) {
     match lex(alloc, field(fields, 0)) {
         Ok(tokens) => {
             let mut cursor = Tokens::new(alloc, &tokens);
-            for step in field(fields, 1).split(|byte| *byte == b' ') {
-                read(&mut cursor, step, out);
-            }
+            read(&mut cursor, out);
+            test(&cursor, out);
         }
         Err(fault) => out.show(&fault),
     }
 }
 
-// Steps that read a part.
-fn read(tokens: &mut Tokens<'_, '_>, step: &[u8], out: &mut Answer) {
-    match step {
-        b"number" => out.debug(&tokens.number()),
-        b"number-at" => out.debug(&tokens.number_at()),
-        b"string" => string(tokens, out),
-        b"numbers" => numbers(tokens, out),
-        b"numbers-by-colons" => numbers_by_colons(tokens, out),
-        b"expect-variable" => expect(tokens, Want::Variable, out),
-        b"expect-(" => expect(tokens, Want::Kind(Kind::OpenParenthesis), out),
-        _ => test(tokens, step, out),
-    }
+// A parenthesis, a word, two numbers and what is none, a string and what is none, and what is no variable.
+fn read(tokens: &mut Tokens<'_, '_>, out: &mut Answer) {
+    expect(tokens, Want::Kind(Kind::OpenParenthesis), out);
+    out.show(&tokens.begins(Want::Keyword(Keyword::Root)));
+    out.show(&tokens.eat(Want::Keyword(Keyword::Bidirectional)));
+    out.show(&tokens.eat(Want::Item));
+    out.debug(&tokens.number());
+    out.debug(&tokens.number_at());
+    out.debug(&tokens.number());
+    string(tokens, out);
+    string(tokens, out);
+    expect(tokens, Want::Variable, out);
 }
 
-// Steps that test what comes next.
-fn test(tokens: &mut Tokens<'_, '_>, step: &[u8], out: &mut Answer) {
+// Whether a bar stands before a bracket, and a bracket before a bar; and how many tokens are left.
+fn test(tokens: &Tokens<'_, '_>, out: &mut Answer) {
     let (bar, close) = (Want::Kind(Kind::Bar), Want::Kind(Kind::CloseBracket));
-    match step {
-        b"bar-before-close" => out.show(&stands_before(tokens.left(), bar, close)),
-        b"close-before-bar" => out.show(&stands_before(tokens.left(), close, bar)),
-        b"begins-root" => out.show(&tokens.begins(Want::Keyword(Keyword::Root))),
-        b"eat-bidirectional" => out.show(&tokens.eat(Want::Keyword(Keyword::Bidirectional))),
-        b"eat-item" => out.show(&tokens.eat(Want::Item)),
-        b"count" => out.show(&tokens.count()),
-        _ => out.wrong(Wrong::new("an unknown step")),
+    out.show(&stands_before(tokens.left(), bar, close));
+    out.show(&stands_before(tokens.left(), close, bar));
+    out.number(tokens.count() as u64);
+}
+
+/// The numbers at the front of a text, those with colons between them, and how many tokens are left behind these.
+pub(crate) fn lists(alloc: Global, fields: &[Vec<u8>], out: &mut Answer) {
+    match lex(alloc, field(fields, 0)) {
+        Ok(tokens) => {
+            numbers(&mut Tokens::new(alloc, &tokens), out);
+            numbers_by_colons(&mut Tokens::new(alloc, &tokens), out);
+        }
+        Err(fault) => out.show(&fault),
     }
 }
 
@@ -72,7 +76,10 @@ fn numbers(tokens: &mut Tokens<'_, '_>, out: &mut Answer) {
 
 fn numbers_by_colons(tokens: &mut Tokens<'_, '_>, out: &mut Answer) {
     match separated_by(tokens, Want::Kind(Kind::Colon), |tokens| tokens.number()) {
-        Ok(numbers) => out.debug(&numbers),
+        Ok(numbers) => {
+            out.debug(&numbers);
+            out.number(tokens.count() as u64);
+        }
         Err(error) => out.debug(&error),
     }
 }
