@@ -90,7 +90,8 @@ fn walk(
     }
     let made = make_one(alloc, rules, graph, random, taken)?;
     walk(alloc, rules, graph, random, taken, left - 1)?;
-    made.take_back(graph)
+    made.take_back(graph)?;
+    Ok(())
 }
 
 // What takes a step back, and the graph from before it.
@@ -164,8 +165,9 @@ fn drawn(
     random: &mut Lcg64Xsh32,
 ) -> Result<Found, Wrong> {
     for _ in 0..100 {
-        let number = below(random, rules.len() as u64) as u32;
-        if let Some(rule) = rules.get(number as usize)
+        let number = below(random, rules.len() as u64);
+        if let Ok(number) = u32::try_from(number)
+            && let Some(rule) = rules.get(number as usize)
             && let Some(found) = guessed(alloc, number, rule, graph, random)?
         {
             return Ok(found);
