@@ -1,6 +1,7 @@
 //! The kinds of rows.
 
 use crate::answers::Answer;
+use crate::rules::{choices, lists, matches, searches, steps, unification, values, walks};
 use crate::texts::programs::cuts;
 use crate::texts::{cursors, hosts, limits, lines, parts, programs, rules, scopes, tokens, traces};
 use std::alloc::Global;
@@ -34,10 +35,25 @@ pub(crate) enum Kind {
     Names,
     Founds,
     Assignments,
+    // of rules
+    Characters,
+    Choices,
+    Join,
+    Loop,
+    Order,
+    Plan,
+    Probes,
+    Round,
+    Search,
+    Step,
+    Unify,
+    Verdict,
+    Walk,
+    Worth,
 }
 
 /// The files of rows, `NAME.rows`, and the kind of each.
-pub(crate) const FILES: [(&str, Kind); 39] = [
+pub(crate) const FILES: [(&str, Kind); 60] = [
     ("tokens", Kind::Tokens),
     ("token_lines", Kind::TokenLines),
     ("classes", Kind::Classes),
@@ -77,6 +93,28 @@ pub(crate) const FILES: [(&str, Kind); 39] = [
     ("names", Kind::Names),
     ("founds", Kind::Founds),
     ("assignments", Kind::Assignments),
+    // of rules
+    ("chains", Kind::Worth),
+    ("characters", Kind::Characters),
+    ("choices", Kind::Choices),
+    ("conditions", Kind::Worth),
+    ("degrees", Kind::Worth),
+    ("edges", Kind::Worth),
+    ("labels", Kind::Join),
+    ("loops", Kind::Loop),
+    ("match_causes", Kind::Verdict),
+    ("match_dangling", Kind::Verdict),
+    ("match_images", Kind::Verdict),
+    ("match_labels", Kind::Verdict),
+    ("numbers", Kind::Worth),
+    ("orders", Kind::Order),
+    ("plans", Kind::Plan),
+    ("probes", Kind::Probes),
+    ("rounds", Kind::Round),
+    ("searches", Kind::Search),
+    ("steps", Kind::Step),
+    ("unification", Kind::Unify),
+    ("walks", Kind::Walk),
 ];
 
 /// Answers a row of this kind, from all its fields but the last one.
@@ -107,5 +145,20 @@ pub(crate) fn answer(kind: Kind, alloc: Global, fields: &[Vec<u8>], out: &mut An
         Kind::Names => parts::name(alloc, fields, out),
         Kind::Founds => parts::found(alloc, fields, out),
         Kind::Assignments => parts::assignment(alloc, fields, out),
+        // of rules
+        Kind::Characters => lists::characters(alloc, fields, out),
+        Kind::Choices => choices::answer(alloc, fields, out),
+        Kind::Join => lists::join(alloc, fields, out),
+        Kind::Loop => searches::repeated(alloc, fields, out),
+        Kind::Order => lists::order(alloc, fields, out),
+        Kind::Plan => searches::planned(alloc, fields, out),
+        Kind::Probes => searches::probes(alloc, fields, out),
+        Kind::Round => lists::round(fields, out),
+        Kind::Search => searches::answer(alloc, fields, out),
+        Kind::Step => steps::answer(alloc, fields, out),
+        Kind::Unify => unification::answer(alloc, fields, out),
+        Kind::Verdict => matches::answer(alloc, fields, out),
+        Kind::Walk => walks::answer(alloc, fields, out),
+        Kind::Worth => values::answer(alloc, fields, out),
     }
 }

@@ -10,6 +10,7 @@ mod fields;
 mod kinds;
 mod report;
 mod rows;
+mod rules;
 mod samples;
 mod texts;
 mod wrong;
