@@ -2,7 +2,8 @@
 //!
 //! The program reads each of its files of rows (`data/NAME.rows`) from the folder that it is run in, gives each row to
 //! the function of its kind, and writes how many rows a file has, and each row whose answer is another one. `rows` says
-//! how rows are written, `kinds` which kinds there are; `texts` has the kinds about texts.
+//! how rows are written, `kinds` which kinds there are; `texts` has the kinds about texts, `rules` those about rules,
+//! matches, steps and searches.
 #![tactic(auto)]
 
 mod answers;
