@@ -58,32 +58,56 @@ fn the_least_true_place_of_a_share_is_found_until_it_is_taken(rt: HostRuntime) -
     Ok(())
 }
 
+// Makes the step at the place, if it may be made.
+fn step(row: &mut CellRow, goal: CellsGoal, place: usize) -> bool {
+    match Cells.check(goal, row, &place) {
+        Verdict::Applies => Cells.apply(row, &place).is_ok(),
+        _ => false,
+    }
+}
+
+// Makes it and takes it back.
+fn step_and_back(row: &mut CellRow, goal: CellsGoal, place: usize) -> bool {
+    let Verdict::Applies = Cells.check(goal, row, &place) else {
+        return false;
+    };
+    let Ok(()) = Cells.apply(row, &place) else {
+        return false;
+    };
+    Cells.back(row, 1);
+    true
+}
+
+const ONCE: CellsGoal = CellsGoal {
+    mode: Mode::Once,
+    shares: 1,
+};
+
+#[test]
+fn a_step_applies_where_its_cell_is_true(rt: HostRuntime) -> Result<(), Fail> {
+    let alloc = rt.alloc();
+    assert_eq!(rt; Cells.mode(ONCE), Mode::Once);
+    let row = CellRow::new(alloc, vec![in alloc; true, false, true]?);
+    for place in [0usize, 1, 2, 3] {
+        assert_eq!(rt; Cells.copy(&place), Ok(place));
+        let applies = matches!(Cells.check(ONCE, &row, &place), Verdict::Applies);
+        assert_eq!(rt; applies, place == 0 || place == 2);
+    }
+    Ok(())
+}
+
+fn is_first_taken(row: &CellRow) -> bool {
+    !row.is_true(0) && row.is_true(2) && row.taken() == &[0usize][..]
+}
+
 #[test]
 fn a_step_makes_its_cell_false_and_back_makes_it_true(rt: HostRuntime) -> Result<(), Fail> {
     let alloc = rt.alloc();
-    let goal = CellsGoal {
-        mode: Mode::Once,
-        shares: 1,
-    };
-    assert_eq!(rt; Cells.mode(goal), Mode::Once);
     let mut row = CellRow::new(alloc, vec![in alloc; true, false, true]?);
-    for place in [0usize, 1, 2, 3] {
-        assert_eq!(rt; Cells.copy(&place), Ok(place));
-        let applies = matches!(Cells.check(goal, &row, &place), Verdict::Applies);
-        assert_eq!(rt; applies, place == 0 || place == 2);
-    }
-    if let Verdict::Applies = Cells.check(goal, &row, &0) {
-        assert!(rt; Cells.apply(&mut row, &0).is_ok());
-    }
-    assert!(rt; !row.is_true(0) && row.is_true(2));
-    assert_eq!(rt; row.taken(), &[0usize][..]);
-    if let Verdict::Applies = Cells.check(goal, &row, &2) {
-        if let Ok(()) = Cells.apply(&mut row, &2) {
-            Cells.back(&mut row, 1);
-        }
-    }
-    assert!(rt; !row.is_true(0) && row.is_true(2));
-    assert_eq!(rt; row.taken(), &[0usize][..]);
+    assert!(rt; step(&mut row, ONCE, 0));
+    assert!(rt; is_first_taken(&row));
+    assert!(rt; step_and_back(&mut row, ONCE, 2));
+    assert!(rt; is_first_taken(&row));
     Ok(())
 }
 

@@ -3,10 +3,11 @@
 mod rules;
 mod sending;
 
-ghost use Rattle.std.specs.Prelude.{◌≡◌, OnOk};
+ghost use Rattle.std.specs.Prelude.{◌≡◌, [], IfOk, OnOk};
+ghost use Rattle.opt_cells.specs.Row.{row};
 ghost use Rattle.opt_core.specs.Runs.{SameStart};
 
-use super::texts::{Spelled, event_of, text_of, text_of_ending};
+use super::texts::{Spelled, event_of, put_number, text_of, text_of_ending};
 use opt_cells::{CellRow, Cells, CellsGoal, Traps};
 use opt_core::sharing::{
     core_may_be_shared, core_may_be_taken, ending_may_be_taken, entries_may_be_taken,
@@ -18,10 +19,12 @@ use sending::send;
 use std::alloc::Global;
 use std::test::Fail;
 
+type CellsRow = (&'static str, Mode, u32, u64, &'static str, &'static str);
+
 // Cells, true or false, with the mode, the shares and the items of a goal; the events that are sent to its core, each
 // with the number of entries that its sender was told of, and then the share to look from, the place of a match, or the
 // share that is barren; and the answers, with the entries, the items and the ending that the core has then.
-const ON_CELLS: [(&str, Mode, u32, u64, &str, &str); 12] = [
+const ON_CELLS: [CellsRow; 12] = [
     // a commit makes older reports stale
     (
         "t",
@@ -158,17 +161,32 @@ fn answer<S: Spelled>(
 {
     let event = event_of::<S>(alloc, event)?;
     let reply = send(s, core, entries, base, event)?;
-    text.push_str(text_of::<S>(alloc, reply)?.as_str())?;
+    text.push_str(text_of::<S>(alloc, &reply)?.as_str())?;
     text.push_str(", ")?;
     Ok(())
 }
 
-// What the core is then.
+// What the core is then, behind the answers.
 fn ended<S: Spelled>(alloc: Global, core: Core<S>, answers: String) -> Result<String, Fail> {
     let (_, entries, left, ending) = core.into_parts();
-    let entries = S::founds(alloc, entries.as_slice())?;
-    let ending = text_of_ending::<S>(alloc, ending)?;
-    Ok(format!(in alloc; "{answers}{entries} {left} {ending}")?)
+    let mut text = answers;
+    put_state::<S>(alloc, entries.as_slice(), left, &ending, &mut text)?;
+    Ok(text)
+}
+
+fn put_state<S: Spelled>(
+    alloc: Global,
+    entries: &[S::Found],
+    left: u64,
+    ending: &Option<Ending<S::Reason>>,
+    text: &mut String,
+) -> Result<(), Fail> {
+    text.push_str(S::founds(alloc, entries)?.as_str())?;
+    text.push_str(" ")?;
+    put_number(left, text)?;
+    text.push_str(" ")?;
+    text.push_str(text_of_ending::<S>(alloc, ending)?.as_str())?;
+    Ok(())
 }
 
 fn cells_of(alloc: Global, text: &str) -> Result<Vec<bool>, Fail> {
@@ -179,6 +197,12 @@ fn cells_of(alloc: Global, text: &str) -> Result<Vec<bool>, Fail> {
     Ok(cells)
 }
 
+fn row_of(alloc: Global, cells: &[bool]) -> Result<CellRow, Fail>
+    ensures { IfOk result (λ r. r ≡ row cells.now []) }
+{
+    Ok(CellRow::new(alloc, cells.to_vec(alloc)?))
+}
+
 // Sends the events to a new core over cells.
 fn told_of_cells(
     alloc: Global,
@@ -187,20 +211,19 @@ fn told_of_cells(
     items: u64,
     events: &str,
 ) -> Result<String, Fail> {
-    let base = CellRow::new(alloc, cells.to_vec(alloc)?);
+    let base = row_of(alloc, cells)?;
     let Ok(mut core) = Core::start(alloc, &Cells, base, goal, items) else {
         return Err(Fail::from("no core was made"));
     };
     let mut entries = Vec::new(alloc);
     let mut text = String::new(alloc);
     for event in events.split(',') {
-        let base = CellRow::new(alloc, cells.to_vec(alloc)?);
         answer(
             alloc,
             &Cells,
             &mut core,
             &mut entries,
-            base,
+            row_of(alloc, cells)?,
             event,
             &mut text,
         )?;
@@ -221,22 +244,26 @@ fn told_of_traps(alloc: Global, items: u64, events: &str) -> Result<String, Fail
     ended(alloc, core, text)
 }
 
+// What the events of a row over cells are answered.
+fn told_of_row(alloc: Global, row: &CellsRow) -> Result<String, Fail> {
+    let (cells, mode, shares, items, events, _) = *row;
+    if shares == 0 {
+        return Err(Fail::from("a goal has a share"));
+    }
+    let cells = cells_of(alloc, cells)?;
+    told_of_cells(alloc, &cells, CellsGoal { mode, shares }, items, events)
+}
+
 #[test]
 fn cores_answer_each_event_as_their_senders_were_told(rt: HostRuntime) -> Result<(), Fail> {
-    let alloc = rt.alloc();
-    for (cells, mode, shares, items, events, answers) in &ON_CELLS {
-        assert!(rt; *shares > 0);
-        let goal = CellsGoal {
-            mode: *mode,
-            shares: *shares,
-        };
-        let cells = cells_of(alloc, cells)?;
-        let told = told_of_cells(alloc, &cells, goal, *items, events)?;
-        assert_eq!(rt; told.as_str(), *answers);
+    for row in &ON_CELLS {
+        assert_eq!(rt; told_of_row(rt.alloc(), row)?.as_str(), row.5);
     }
     for (items, events, answers) in &ON_TRAPS {
-        let told = told_of_traps(alloc, *items, events)?;
-        assert_eq!(rt; told.as_str(), *answers);
+        assert_eq!(rt;
+            told_of_traps(rt.alloc(), *items, events)?.as_str(),
+            *answers
+        );
     }
     Ok(())
 }

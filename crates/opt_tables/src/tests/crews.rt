@@ -97,19 +97,22 @@ fn each_place_is_committed_once_by_eight_workers(rt: HostRuntime) -> Result<(), 
     check_each_place(&rt, rt.alloc(), 8)
 }
 
+// Whether a goal on 64 true cells that wants one match gets one by so many workers, and each of them was told of no other.
+fn gets_one<R: Threads + Wait + Sync>(rt: &R, alloc: Global, workers: u32) -> Result<bool, Fail> {
+    let left = left_by(rt, alloc, (workers, Mode::Once), 64, 200, &Free)?;
+    let is_one = left.entries.len() == 1 && left.items == 199 && left.ending == "committed";
+    Ok(
+        is_one
+            && left.replicas.len() == workers as usize
+            && are_beginnings(&left.entries, &left.replicas),
+    )
+}
+
 #[test]
 fn a_goal_of_one_match_gets_one_by_any_number_of_workers(rt: HostRuntime) -> Result<(), Fail> {
-    let alloc = rt.alloc();
     for workers in [1, 2, 3, 4, 8] {
         for _ in 0..200 {
-            let left = left_by(&rt, alloc, (workers, Mode::Once), 64, 200, &Free)?;
-            assert_eq!(rt; left.entries.len(), 1, "{workers} workers");
-            assert_eq!(rt; (left.ending, left.items), ("committed", 199));
-            assert_eq!(rt; left.replicas.len(), workers as usize);
-            assert!(rt;
-                are_beginnings(&left.entries, &left.replicas),
-                "{workers} workers"
-            );
+            assert!(rt; gets_one(&rt, rt.alloc(), workers)?, "{workers} workers");
         }
     }
     Ok(())

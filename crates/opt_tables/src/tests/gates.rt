@@ -37,10 +37,11 @@ fn answer<R: Wait>(
     ensures at { OnOk result (at.new ≡ reached cells_means (start_of gate.now).base (entries_told pass.new)) }
 {
     let event = event_of::<Cells>(alloc, event)?;
-    let Some(reply) = ask(rt, &Cells, gate, pass, at, event) else {
+    let reply = ask(rt, &Cells, gate, pass, at, event);
+    let Some(_) = &reply else {
         return Err(Fail::from("it may not be asked, or memory was refused"));
     };
-    text.push_str(text_of::<Cells>(alloc, Some(reply))?.as_str())?;
+    text.push_str(text_of::<Cells>(alloc, &reply)?.as_str())?;
     text.push_str(", ")?;
     Ok(())
 }

@@ -1,5 +1,6 @@
 //! Events, answers and endings as texts.
 
+use itoa::Buffer;
 use opt_cells::{Cells, Never, Traps};
 use opt_core::{Ending, Event, Reply};
 use opt_system::System;
@@ -24,7 +25,11 @@ impl Spelled for Cells {
     }
 
     fn founds(alloc: Global, entries: &[usize]) -> Result<String, Fail> {
-        Ok(format!(in alloc; "{entries:?}")?)
+        let mut numbers = Vec::new(alloc);
+        for entry in entries {
+            numbers.push(*entry as u64)?;
+        }
+        bracketed(alloc, &numbers)
     }
 
     fn ended(alloc: Global, ending: &Ending<Never>) -> Result<String, Fail> {
@@ -38,16 +43,43 @@ impl Spelled for Traps {
     }
 
     fn founds(alloc: Global, entries: &[u64]) -> Result<String, Fail> {
-        Ok(format!(in alloc; "{entries:?}")?)
+        bracketed(alloc, entries)
     }
 
     fn ended(alloc: Global, ending: &Ending<u64>) -> Result<String, Fail> {
         let word = word_of(Some(ending));
-        if let Ending::Fault(reason) = ending {
-            return Ok(format!(in alloc; "{word} {reason}")?);
+        match ending {
+            Ending::Fault(reason) => numbered(alloc, word, *reason),
+            _ => Ok(String::from_str(alloc, word)?),
         }
-        Ok(String::from_str(alloc, word)?)
     }
+}
+
+/// Writes a number behind a text.
+pub(crate) fn put_number(number: u64, text: &mut String) -> Result<(), Fail> {
+    text.push_str(Buffer::new().format(number))?;
+    Ok(())
+}
+
+// A word and a number.
+fn numbered(alloc: Global, word: &str, number: u64) -> Result<String, Fail> {
+    let mut text = String::from_str(alloc, word)?;
+    text.push_str(" ")?;
+    put_number(number, &mut text)?;
+    Ok(text)
+}
+
+// Numbers in brackets.
+fn bracketed(alloc: Global, numbers: &[u64]) -> Result<String, Fail> {
+    let mut text = String::from_str(alloc, "[")?;
+    let mut between = "";
+    for number in numbers {
+        text.push_str(between)?;
+        put_number(*number, &mut text)?;
+        between = ", ";
+    }
+    text.push_str("]")?;
+    Ok(text)
 }
 
 /// The number of a word.
@@ -100,34 +132,42 @@ pub(crate) fn word_of<R>(ending: Option<&Ending<R>>) -> &'static str {
 /// How a goal ended, where it has.
 pub(crate) fn text_of_ending<S: Spelled>(
     alloc: Global,
-    ending: Option<Ending<S::Reason>>,
+    ending: &Option<Ending<S::Reason>>,
 ) -> Result<String, Fail> {
     match ending {
-        Some(ending) => S::ended(alloc, &ending),
+        Some(ending) => S::ended(alloc, ending),
         None => Ok(String::from_str(alloc, "running")?),
     }
+}
+
+// News of these entries, with the share to look at.
+fn news<S: Spelled>(alloc: Global, entries: &[S::Found], task: u32) -> Result<String, Fail> {
+    let mut text = String::from_str(alloc, "news ")?;
+    text.push_str(S::founds(alloc, entries)?.as_str())?;
+    text.push_str(" ")?;
+    put_number(u64::from(task), &mut text)?;
+    Ok(text)
+}
+
+// That the goal ended so.
+fn closed<S: Spelled>(alloc: Global, ending: &Ending<S::Reason>) -> Result<String, Fail> {
+    let mut text = String::from_str(alloc, "closed ")?;
+    text.push_str(S::ended(alloc, ending)?.as_str())?;
+    Ok(text)
 }
 
 /// An answer.
 pub(crate) fn text_of<S: Spelled>(
     alloc: Global,
-    reply: Option<Reply<S::Found, S::Reason>>,
+    reply: &Option<Reply<S::Found, S::Reason>>,
 ) -> Result<String, Fail> {
-    let Some(reply) = reply else {
-        return Ok(String::from_str(alloc, "may not come")?);
-    };
-    Ok(match reply {
-        Reply::News { entries, task } => {
-            let entries = S::founds(alloc, entries.as_slice())?;
-            format!(in alloc; "news {entries} {task}")?
-        }
-        Reply::Committed(place) => format!(in alloc; "committed {place}")?,
-        Reply::Stale(count) => format!(in alloc; "stale {count}")?,
-        Reply::Noted => String::from_str(alloc, "noted")?,
-        Reply::Closed(ending) => {
-            let ending = S::ended(alloc, &ending)?;
-            format!(in alloc; "closed {ending}")?
-        }
-        Reply::NoMemory => String::from_str(alloc, "no memory")?,
-    })
+    match reply {
+        None => Ok(String::from_str(alloc, "may not come")?),
+        Some(Reply::News { entries, task }) => news::<S>(alloc, entries.as_slice(), *task),
+        Some(Reply::Committed(place)) => numbered(alloc, "committed", *place),
+        Some(Reply::Stale(count)) => numbered(alloc, "stale", *count),
+        Some(Reply::Noted) => Ok(String::from_str(alloc, "noted")?),
+        Some(Reply::Closed(ending)) => closed::<S>(alloc, ending),
+        Some(Reply::NoMemory) => Ok(String::from_str(alloc, "no memory")?),
+    }
 }
