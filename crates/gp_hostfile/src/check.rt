@@ -183,12 +183,17 @@ fn node_mark_of(word: &Option<Slice<'_>>) -> Option<NodeMark>
     let Some(word) = word else {
         return Some(NodeMark::None);
     };
-    match word.as_bytes() {
-        b"red" => Some(NodeMark::Red),
-        b"green" => Some(NodeMark::Green),
-        b"blue" => Some(NodeMark::Blue),
-        b"grey" => Some(NodeMark::Grey),
-        _ => None,
+    let word = word.as_bytes();
+    if word == b"red".as_slice() {
+        Some(NodeMark::Red)
+    } else if word == b"green".as_slice() {
+        Some(NodeMark::Green)
+    } else if word == b"blue".as_slice() {
+        Some(NodeMark::Blue)
+    } else if word == b"grey".as_slice() {
+        Some(NodeMark::Grey)
+    } else {
+        None
     }
 }
 
@@ -208,11 +213,16 @@ fn edge_mark_of(word: &Option<Slice<'_>>) -> Option<EdgeMark>
     let Some(word) = word else {
         return Some(EdgeMark::None);
     };
-    match word.as_bytes() {
-        b"red" => Some(EdgeMark::Red),
-        b"green" => Some(EdgeMark::Green),
-        b"blue" => Some(EdgeMark::Blue),
-        b"dashed" => Some(EdgeMark::Dashed),
-        _ => None,
+    let word = word.as_bytes();
+    if word == b"red".as_slice() {
+        Some(EdgeMark::Red)
+    } else if word == b"green".as_slice() {
+        Some(EdgeMark::Green)
+    } else if word == b"blue".as_slice() {
+        Some(EdgeMark::Blue)
+    } else if word == b"dashed".as_slice() {
+        Some(EdgeMark::Dashed)
+    } else {
+        None
     }
 }

@@ -66,6 +66,16 @@ fn read_mark<'t>(tokens: &mut Tokens<'_, 't>) -> Result<Option<Slice<'t>>, ReadE
     Ok(Some(word.text.again()))
 }
 
+// Label = ("empty" | Atom {":" Atom}) ["#" Word]
+#[tactic(auto, unfolding(crate::specs::Grammar::label))]
+fn read_label<'t>(tokens: &mut Tokens<'_, 't>) -> Result<(AtomTrees, Option<Slice<'t>>), ReadError>
+    ensures { Reads (reader_of spec.label tokens.old) result tokens.new }
+{
+    let atoms = read_atoms(tokens)?;
+    let mark = read_mark(tokens)?;
+    Ok((atoms, mark))
+}
+
 // Coord = ["-"] Number ["." Number]
 #[tactic(auto, unfolding(crate::specs::Grammar::coord))]
 fn pass_coord(tokens: &mut Tokens<'_, '_>) -> Result<(), ReadError>
@@ -117,7 +127,7 @@ fn read_root(tokens: &mut Tokens<'_, '_>) -> Result<bool, ReadError>
 }
 
 // Node = "(" Item ["(" "R" ")"] "," Label [Position] ")"
-#[tactic(auto, unfolding(crate::specs::Grammar::node, crate::specs::Grammar::label))]
+#[tactic(auto, unfolding(crate::specs::Grammar::node))]
 fn read_node<'t>(tokens: &mut Tokens<'_, 't>) -> Result<NodeTree<'t>, ReadError>
     ensures { Reads (reader_of spec.node tokens.old) result tokens.new }
 {
@@ -125,8 +135,7 @@ fn read_node<'t>(tokens: &mut Tokens<'_, 't>) -> Result<NodeTree<'t>, ReadError>
     let name = tokens.expect(Want::Item)?;
     let root = read_root(tokens)?;
     tokens.expect(COMMA)?;
-    let label = read_atoms(tokens)?;
-    let mark = read_mark(tokens)?;
+    let (label, mark) = read_label(tokens)?;
     pass_place(tokens)?;
     tokens.expect(CLOSE)?;
     Ok(NodeTree {
@@ -138,7 +147,7 @@ fn read_node<'t>(tokens: &mut Tokens<'_, 't>) -> Result<NodeTree<'t>, ReadError>
 }
 
 // Edge = "(" Item "," Item "," Item "," Label ")"
-#[tactic(auto, unfolding(crate::specs::Grammar::edge, crate::specs::Grammar::label))]
+#[tactic(auto, unfolding(crate::specs::Grammar::edge))]
 fn read_edge<'t>(tokens: &mut Tokens<'_, 't>) -> Result<EdgeTree<'t>, ReadError>
     ensures { Reads (reader_of spec.edge tokens.old) result tokens.new }
 {
@@ -149,8 +158,7 @@ fn read_edge<'t>(tokens: &mut Tokens<'_, 't>) -> Result<EdgeTree<'t>, ReadError>
     tokens.expect(COMMA)?;
     let target = tokens.expect(Want::Item)?;
     tokens.expect(COMMA)?;
-    let label = read_atoms(tokens)?;
-    let mark = read_mark(tokens)?;
+    let (label, mark) = read_label(tokens)?;
     tokens.expect(CLOSE)?;
     Ok(EdgeTree {
         name: name.text.again(),

@@ -28,9 +28,15 @@ pub(crate) enum Held {
 }
 
 /// The atoms of a label. Contracts see their list.
-#[derive(Drop)]
 pub(crate) struct AtomTrees {
     held: Held,
+}
+
+impl Drop for AtomTrees {
+    fn drop(self) {
+        let AtomTrees { held } = self;
+        drop(held);
+    }
 }
 
 impl Model for AtomTrees {
