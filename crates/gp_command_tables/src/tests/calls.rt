@@ -124,6 +124,16 @@ pub(crate) fn told_of<R: AllocGlobal + Threads + Wait + Sync>(
     told
 }
 
+/// Fails with the row unless a call where nobody is held comes to this line.
+pub(crate) fn expect_line<R: AllocGlobal + Threads + Wait + Sync>(
+    rt: &R,
+    call: &Call<'_>,
+    wanted: &str,
+    row: &str,
+) -> Result<(), Fail> {
+    expect(told_of(rt, call, &Pacing::Free).is_line(wanted), row)
+}
+
 /// Each row shows what it says, by its words and these behind them. A row is a program, a host, words and what they come
 /// to, with a percent sign at the head of each behind the first; rows have an empty line between each two.
 pub(crate) fn check_rows<R: AllocGlobal + Threads + Wait + Sync>(
@@ -133,8 +143,7 @@ pub(crate) fn check_rows<R: AllocGlobal + Threads + Wait + Sync>(
 ) -> Result<(), Fail> {
     for row in table.split("\n\n") {
         let call = Call::new(part_at(row, 0), part_at(row, 1), (part_at(row, 2), crew));
-        let told = told_of(rt, &call, &Pacing::Free);
-        expect(told.is_line(part_at(row, 3)), row)?;
+        expect_line(rt, &call, part_at(row, 3), row)?;
     }
     Ok(())
 }

@@ -3,7 +3,10 @@
 use crate::tests::answers::{Answer, expect, number_at, part_at};
 use crate::tests::calls::{Call, put_shown, told_of};
 use opt_worker::Pacing;
+use std::alloc::AllocGlobal;
+use std::sync::Wait;
 use std::test::Fail;
+use std::thread::Threads;
 
 const MAKE: &str = "Main = make make() [ | ] => [ (n0, 0) | ] interface = {}";
 
@@ -58,18 +61,22 @@ fn failing<'a>(
     }
 }
 
+// Fails with the row unless its words come to its answer.
+fn check_row<R: AllocGlobal + Threads + Wait + Sync>(rt: &R, row: &str) -> Result<(), Fail> {
+    let marks = part_at(row, 0);
+    let call = failing(
+        Some((part_at(row, 1), "")),
+        number_at(marks, 0),
+        number_at(marks, 1),
+        number_at(marks, 2),
+    );
+    expect(told_of(rt, &call, &Pacing::Free).is(part_at(row, 2)), row)
+}
+
 #[test]
 fn failing_devices_have_their_answers(rt: HostRuntime) -> Result<(), Fail> {
     for row in FAILING.split("\n\n") {
-        let marks = part_at(row, 0);
-        let words = Some((part_at(row, 1), ""));
-        let (out, err, read) = (
-            number_at(marks, 0),
-            number_at(marks, 1),
-            number_at(marks, 2),
-        );
-        let told = told_of(&rt, &failing(words, out, err, read), &Pacing::Free);
-        expect(told.is(part_at(row, 2)), row)?;
+        check_row(&rt, row)?;
     }
     Ok(())
 }

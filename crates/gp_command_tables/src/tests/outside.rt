@@ -34,28 +34,28 @@ fn name_of(refusal: ReadRefusal) -> &'static [u8] {
 }
 
 // Tells what the read of the row's name within its limit gives.
-fn put_read<F: Files>(alloc: Global, files: &mut F, row: &str, told: &mut Answer) {
+fn told_of_read<F: Files>(alloc: Global, files: &mut F, row: &str) -> Answer {
+    let mut told = Answer::new(alloc);
     match files.read(alloc, word_at(row, 0), number_at(row, 1).unwrap_or(0)) {
         Ok(bytes) => told.put(&bytes),
         Err(refusal) => told.put(name_of(refusal)),
     }
+    told
 }
 
-// Fails with the row unless it says what was read, and how many reads failed.
-fn expect_read(told: &Answer, faults: u64, row: &str) -> Result<(), Fail> {
-    expect(
-        told.is(word_at(row, 2)) && number_at(row, 3) == Some(faults),
-        row,
-    )
+// Whether the row says what was read, and how many reads failed.
+fn is_right(told: &Answer, faults: u64, row: &str) -> bool {
+    told.is(word_at(row, 2)) && number_at(row, 3) == Some(faults)
 }
 
 #[test]
 fn files_in_memory_answer_by_name_limit_and_call(rt: HostRuntime) -> Result<(), Fail> {
     let mut files = two_files(rt.alloc(), "four", "host", Some(4));
     for row in HELD.split('\n') {
-        let mut told = Answer::new(rt.alloc());
-        put_read(rt.alloc(), &mut files, row, &mut told);
-        expect_read(&told, files.faults(), row)?;
+        let told = told_of_read(rt.alloc(), &mut files, row);
+        if !is_right(&told, files.faults(), row) {
+            return Err(Fail::new(row));
+        }
     }
     Ok(())
 }
@@ -64,9 +64,10 @@ fn files_in_memory_answer_by_name_limit_and_call(rt: HostRuntime) -> Result<(), 
 fn check_system<R: rt::Files + Drop>(runtime: R, alloc: Global, table: &str) -> Result<(), Fail> {
     let mut files = DiskFiles::new(runtime);
     for row in table.split('\n') {
-        let mut told = Answer::new(alloc);
-        put_read(alloc, &mut files, row, &mut told);
-        expect_read(&told, files.faults(), row)?;
+        let told = told_of_read(alloc, &mut files, row);
+        if !is_right(&told, files.faults(), row) {
+            return Err(Fail::new(row));
+        }
     }
     Ok(())
 }
@@ -85,8 +86,9 @@ const SUNK: &str = "8 - - : 1 1 0 abcde
 8 0 9 : 0 1 1 abcde
 1 0 2 : 0 0 2 a";
 
-// Tells whether the sink of the row takes the two pieces, how many writes failed, and what was written.
-fn put_sunk(alloc: Global, row: &str, told: &mut Answer) {
+// Tells whether a sink takes the two pieces, how many writes failed, and what was written.
+fn told_of_sink(alloc: Global, row: &str) -> Answer {
+    let mut told = Answer::new(alloc);
     let room = number_at(row, 0).unwrap_or(0);
     let call = number_at(row, 1).unwrap_or(0);
     if let Ok(mut sink) = sink(alloc, room, call, number_at(row, 2)) {
@@ -96,6 +98,7 @@ fn put_sunk(alloc: Global, row: &str, told: &mut Answer) {
         told.put(b" ");
         told.put(sink.bytes());
     }
+    told
 }
 
 #[test]
@@ -103,10 +106,8 @@ fn a_sink_in_memory_takes_what_fits_and_what_a_failing_call_lets_out(
     rt: HostRuntime,
 ) -> Result<(), Fail> {
     for row in SUNK.split('\n') {
-        let mut told = Answer::new(rt.alloc());
         let (given, wanted) = row.split_once(" : ").unwrap_or((row, ""));
-        put_sunk(rt.alloc(), given, &mut told);
-        expect(told.is(wanted), row)?;
+        expect(told_of_sink(rt.alloc(), given).is(wanted), row)?;
     }
     Ok(())
 }

@@ -1,9 +1,7 @@
 //! What the top call refuses: words, programs and hosts, with the line of each.
 
-use crate::tests::answers::expect;
-use crate::tests::calls::{Call, check_rows, told_of};
+use crate::tests::calls::{Call, check_rows, expect_line};
 use crate::tests::words::OTHER_WORDS;
-use opt_worker::Pacing;
 use std::test::Fail;
 
 const PROGRAMS: &str = "
@@ -203,12 +201,8 @@ usage: gp2 run PROGRAM HOST [--workers N] [--bound N] [--fan N] [--seed N] [--jo
 #[test]
 fn other_words_are_refused(rt: HostRuntime) -> Result<(), Fail> {
     for words in OTHER_WORDS.split('\n') {
-        let told = told_of(
-            &rt,
-            &Call::new("Main = skip", "[ | ]", (words, "")),
-            &Pacing::Free,
-        );
-        expect(told.is_line(USAGE), words)?;
+        let call = Call::new("Main = skip", "[ | ]", (words, ""));
+        expect_line(&rt, &call, USAGE, words)?;
     }
     Ok(())
 }

@@ -71,24 +71,33 @@ fn texts_of(
     generate(alloc, kind, size, seed)
 }
 
-const MADE: [(Kind, u64, u64, &str, &str); 3] = [
+// A workload, its program and its host.
+type MadeRow = (Kind, u64, u64, &'static str, &'static str);
+
+const MADE: [MadeRow; 3] = [
     (Kind::Closure, 3, 1, LINK, RING_OF_3),
     (Kind::Colour, 2, 1, COLOURS, GRID_OF_4),
     (Kind::Tree, 2, 0, GROW, TREE_OF_2),
 ];
 
+// Whether the program and the host of a workload are those of the row.
+fn is_made(alloc: Global, row: &MadeRow) -> Result<bool, NoMemory> {
+    let texts = texts_of(alloc, row.0, row.1, row.2)?;
+    Ok(texts.0.as_slice() == row.3.as_bytes() && texts.1.as_slice() == row.4.as_bytes())
+}
+
 #[test]
 fn texts_are_made_from_the_words_of_the_seed(rt: HostRuntime) -> Result<(), Fail> {
-    for (kind, size, seed, program, host) in &MADE {
-        let texts = texts_of(rt.alloc(), *kind, *size, *seed)?;
-        expect(texts.0.as_slice() == program.as_bytes(), program)?;
-        expect(texts.1.as_slice() == host.as_bytes(), host)?;
+    for row in &MADE {
+        expect(is_made(rt.alloc(), row)?, row.4)?;
     }
     Ok(())
 }
 
-// How many bytes a host has, and how it ends.
-const ENDS: [(Kind, u64, u64, usize, &str); 6] = [
+// A workload, how many bytes its host has, and how that ends.
+type EndRow = (Kind, u64, u64, usize, &'static str);
+
+const ENDS: [EndRow; 6] = [
     (Kind::Closure, 1, 7, 33, "  (e0, 0, 0, 337)\n]\n"),
     (Kind::Closure, 500, 0, 17906, "  (e499, 499, 0, 767)\n]\n"),
     (Kind::Colour, 1, 0, 21, "  (0, 0 # red)\n|\n]\n"),
@@ -103,12 +112,17 @@ const ENDS: [(Kind, u64, u64, usize, &str); 6] = [
     (Kind::Tree, 18, 0, 16, "  (0, 18)\n|\n]\n"),
 ];
 
+// Whether the host of a workload has so many bytes, and ends so.
+fn ends_so(alloc: Global, row: &EndRow) -> Result<bool, NoMemory> {
+    let texts = texts_of(alloc, row.0, row.1, row.2)?;
+    let begins = texts.1.starts_with(b"[\n  (0, ") && texts.1.len() == row.3;
+    Ok(begins && texts.1.ends_with(row.4.as_bytes()))
+}
+
 #[test]
 fn the_ends_of_the_sizes_have_hosts(rt: HostRuntime) -> Result<(), Fail> {
-    for (kind, size, seed, bytes, end) in &ENDS {
-        let texts = texts_of(rt.alloc(), *kind, *size, *seed)?;
-        let begins = texts.1.starts_with(b"[\n  (0, ") && texts.1.len() == *bytes;
-        expect(begins && texts.1.ends_with(end.as_bytes()), end)?;
+    for row in &ENDS {
+        expect(ends_so(rt.alloc(), row)?, row.4)?;
     }
     Ok(())
 }
