@@ -1,5 +1,6 @@
 //! What words, files and sinks come to.
 
+mod answers;
 mod calls;
 mod crews;
 mod demos;

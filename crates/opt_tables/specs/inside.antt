@@ -1,2 +1,2 @@
 -- What only bodies and proofs need.
-pub mod Added
+pub mod Told

@@ -1,10 +1,10 @@
 //! Concurrent goals, by what their workers are answered.
 
+mod answers;
 mod cells;
 mod cores;
 mod crews;
 mod gates;
-mod replicas;
+mod spelled;
 mod starting;
-mod texts;
 mod workers;

@@ -1,6 +1,6 @@
 //! Calls of the top call over files and sinks in memory.
 
-use crate::tests::words::words_of;
+use crate::tests::answers::{Answer, expect, part_at};
 use gp_cli::gp2_main;
 use gp_io::{MemFiles, MemSink};
 use gp_memory::NoMemory;
@@ -10,142 +10,140 @@ use std::sync::Wait;
 use std::test::Fail;
 use std::thread::Threads;
 
-/// The word at this place of the row, where a blank stands between each two.
-pub(crate) fn word_at(row: &str, place: usize) -> &str {
-    row.split(' ').nth(place).unwrap_or("")
+// Adds the words of a line, with a blank between each two. An empty line has none.
+fn push_words(alloc: Global, line: &str, words: &mut Vec<String>) -> Result<(), NoMemory> {
+    if !line.is_empty() {
+        for word in line.split(' ') {
+            words.push(String::from_str(alloc, word)?)?;
+        }
+    }
+    Ok(())
 }
 
-/// The number that the word writes, or none for another word.
-pub(crate) fn number(word: &str) -> Option<u64> {
-    word.parse::<u64>().ok()
+/// The words of two lines.
+pub(crate) fn words_of(alloc: Global, lines: (&str, &str)) -> Result<Vec<String>, NoMemory> {
+    let mut words = Vec::new(alloc);
+    push_words(alloc, lines.0, &mut words)?;
+    push_words(alloc, lines.1, &mut words)?;
+    Ok(words)
 }
 
-/// The part at this place of the row, where a percent sign at the head of a line stands between each two.
-pub(crate) fn part_at(row: &str, place: usize) -> &str {
-    row.split("\n% ").nth(place).unwrap_or("")
+/// A call: the texts of the files p and h, of which the read of a number may fail, the words of two lines, or that memory
+/// was refused for them, and after how many bytes the first write on out and the one on err may fail.
+#[derive(Clone, Copy)]
+pub(crate) struct Call<'a> {
+    pub(crate) program: &'a str,
+    pub(crate) host: &'a str,
+    pub(crate) words: Option<(&'a str, &'a str)>,
+    pub(crate) read: Option<u64>,
+    pub(crate) out: Option<u64>,
+    pub(crate) err: Option<u64>,
 }
 
-/// The one text and then the other.
-pub(crate) fn joined(alloc: Global, first: &str, second: &str) -> Result<String, Fail> {
-    let mut text = String::from_str(alloc, first)?;
-    text.push_str(second)?;
-    Ok(text)
+impl<'a> Call<'a> {
+    /// A call whose reads and writes succeed.
+    pub(crate) fn new(program: &'a str, host: &'a str, words: (&'a str, &'a str)) -> Call<'a> {
+        Call {
+            program,
+            host,
+            words: Some(words),
+            read: None,
+            out: None,
+            err: None,
+        }
+    }
 }
 
-// A file of that name and text.
-fn file(alloc: Global, name: &str, text: &str) -> Result<(String, Vec<u8>), Fail> {
-    let name = String::from_str(alloc, name)?;
-    Ok((name, text.as_bytes().to_vec(alloc)?))
+// Adds a file of that name and text, unless memory is refused for it.
+fn add(alloc: Global, files: &mut Vec<(String, Vec<u8>)>, name: &str, text: &str) {
+    if let Ok(name) = String::from_str(alloc, name) {
+        if let Ok(text) = Vec::from_slice(alloc, text.as_bytes()) {
+            let _ = files.push((name, text));
+        }
+    }
 }
 
 /// Files p and h of these texts, of which the read of that number fails.
-pub(crate) fn two_files(
-    alloc: Global,
-    program: &str,
-    host: &str,
-    read: Option<u64>,
-) -> Result<MemFiles, Fail> {
+pub(crate) fn two_files(alloc: Global, program: &str, host: &str, read: Option<u64>) -> MemFiles {
+    let mut files = Vec::new(alloc);
+    add(alloc, &mut files, "p", program);
+    add(alloc, &mut files, "h", host);
     let mut failing = Vec::new(alloc);
     if let Some(read) = read {
-        failing.push(read)?;
+        let _ = failing.push(read);
     }
-    let mut files = Vec::new(alloc);
-    files.push(file(alloc, "p", program)?)?;
-    files.push(file(alloc, "h", host)?)?;
-    Ok(MemFiles::new(files, failing))
+    MemFiles::new(files, failing)
 }
 
 /// A sink with so much room, whose write of that number fails after so many bytes.
 pub(crate) fn sink(
     alloc: Global,
     room: u64,
-    call: Option<u64>,
+    call: u64,
     cut: Option<u64>,
-) -> Result<MemSink, Fail> {
+) -> Result<MemSink, NoMemory> {
     let mut failing = Vec::new(alloc);
-    if let (Some(call), Some(cut)) = (call, cut) {
+    if let Some(cut) = cut {
         failing.push((call, cut))?;
     }
-    match MemSink::new(alloc, room, failing) {
-        Ok(sink) => Ok(sink),
-        Err(_) => Err(Fail::from("no room was made")),
-    }
+    MemSink::new(alloc, room, failing)
 }
 
-/// The status, and then what is on out and what is on err, each behind a line of its name where there is something.
-pub(crate) fn shown(alloc: Global, status: u8, out: &[u8], err: &[u8]) -> Result<Vec<u8>, Fail> {
-    let mut text = Vec::new(alloc);
-    text.push(b'0'.wrapping_add(status))?;
+/// Tells the status, and then what is on out and what is on err, each behind a line of its name where there is something.
+pub(crate) fn put_shown(status: u8, out: &[u8], err: &[u8], told: &mut Answer) {
+    told.put(&[b'0'.wrapping_add(status)]);
     if !out.is_empty() {
-        text.extend_from_slice(b" out\n")?;
-        text.extend_from_slice(out)?;
+        told.put(b" out\n");
+        told.put(out);
     }
     if !err.is_empty() {
-        text.extend_from_slice(b" err\n")?;
-        text.extend_from_slice(err)?;
-    }
-    Ok(text)
-}
-
-// The words of the line, or that memory was refused for them.
-fn given(
-    alloc: Global,
-    line: Result<&str, NoMemory>,
-) -> Result<Result<Vec<String>, NoMemory>, Fail> {
-    match line {
-        Ok(line) => Ok(Ok(words_of(alloc, line)?)),
-        Err(NoMemory) => Ok(Err(NoMemory)),
+        told.put(b" err\n");
+        told.put(err);
     }
 }
 
-/// What the words of the line come to over these files and sinks, or what comes where memory was refused for them.
-pub(crate) fn answer_over<R: AllocGlobal + Threads + Wait + Sync>(
+/// What a call comes to, with a pace that may hold workers.
+pub(crate) fn told_of<R: AllocGlobal + Threads + Wait + Sync>(
     rt: &R,
-    line: Result<&str, NoMemory>,
-    files: &mut MemFiles,
-    mut out: MemSink,
-    mut err: MemSink,
+    call: &Call<'_>,
     pace: &Pacing,
-) -> Result<Vec<u8>, Fail> {
-    let words = given(rt.alloc(), line)?;
-    let status = gp2_main(rt, words, files, &mut out, &mut err, pace);
-    shown(rt.alloc(), status, out.bytes(), err.bytes())
-}
-
-/// What the words of the line come to over files p and h of these texts, with a pace that may hold workers.
-pub(crate) fn answer_paced<R: AllocGlobal + Threads + Wait + Sync>(
-    rt: &R,
-    program: &str,
-    host: &str,
-    line: &str,
-    pace: &Pacing,
-) -> Result<Vec<u8>, Fail> {
+) -> Answer {
     let alloc = rt.alloc();
-    let mut files = two_files(alloc, program, host, None)?;
-    let out = sink(alloc, 4096, None, None)?;
-    let err = sink(alloc, 4096, None, None)?;
-    answer_over(rt, Ok(line), &mut files, out, err, pace)
-}
-
-/// What they come to where nobody is held.
-pub(crate) fn answer<R: AllocGlobal + Threads + Wait + Sync>(
-    rt: &R,
-    program: &str,
-    host: &str,
-    line: &str,
-) -> Result<Vec<u8>, Fail> {
-    answer_paced(rt, program, host, line, &Pacing::Free)
-}
-
-/// Whether the bytes are this text and a newline.
-pub(crate) fn is_line(found: &[u8], wanted: &str) -> bool {
-    match found.strip_suffix(b"\n") {
-        Some(found) => found == wanted.as_bytes(),
-        None => false,
+    let mut told = Answer::new(alloc);
+    let mut files = two_files(alloc, call.program, call.host, call.read);
+    let words = match call.words {
+        Some(lines) => words_of(alloc, lines),
+        None => Err(NoMemory),
+    };
+    if let Ok(mut out) = sink(alloc, 4096, 0, call.out) {
+        if let Ok(mut err) = sink(alloc, 4096, 0, call.err) {
+            let status = gp2_main(rt, words, &mut files, &mut out, &mut err, pace);
+            put_shown(status, out.bytes(), err.bytes(), &mut told);
+        }
     }
+    told
 }
 
-/// Whether the bytes are this text, or this text and a newline.
-pub(crate) fn is_text(found: &[u8], wanted: &str) -> bool {
-    found == wanted.as_bytes() || is_line(found, wanted)
+/// Fails with the row unless a call where nobody is held comes to this line.
+pub(crate) fn expect_line<R: AllocGlobal + Threads + Wait + Sync>(
+    rt: &R,
+    call: &Call<'_>,
+    wanted: &str,
+    row: &str,
+) -> Result<(), Fail> {
+    expect(told_of(rt, call, &Pacing::Free).is_line(wanted), row)
+}
+
+/// Each row shows what it says, by its words and these behind them. A row is a program, a host, words and what they come
+/// to, with a percent sign at the head of each behind the first; rows have an empty line between each two.
+pub(crate) fn check_rows<R: AllocGlobal + Threads + Wait + Sync>(
+    rt: &R,
+    table: &str,
+    crew: &str,
+) -> Result<(), Fail> {
+    for row in table.split("\n\n") {
+        let call = Call::new(part_at(row, 0), part_at(row, 1), (part_at(row, 2), crew));
+        expect_line(rt, &call, part_at(row, 3), row)?;
+    }
+    Ok(())
 }

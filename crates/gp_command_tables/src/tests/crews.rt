@@ -1,7 +1,7 @@
 //! Crews: runs that any number of workers answers with the same bytes, and workers that search at the same time.
 
-use crate::tests::calls::{answer_paced, joined};
-use crate::tests::runs::check_rows;
+use crate::tests::answers::{Answer, expect};
+use crate::tests::calls::{Call, check_rows, told_of};
 use opt_worker::{Held, Pacing};
 use std::alloc::AllocGlobal;
 use std::sync::Wait;
@@ -194,12 +194,19 @@ link(a,b,x,y,z:list) [ (n0, x) (n1, y) (n2, z) | (e0, n0, n1, a) (e1, n1, n2, b)
 % 5 err
 bound 0";
 
+const CREWS: [&str; 4] = [
+    "",
+    "--workers 2",
+    "--workers 3 --fan 1",
+    "--workers 4 --fan 1",
+];
+
 #[test]
 fn every_crew_shows_the_same(rt: HostRuntime) -> Result<(), Fail> {
-    check_rows(&rt, CREWED, "")?;
-    check_rows(&rt, CREWED, " --workers 2")?;
-    check_rows(&rt, CREWED, " --workers 3 --fan 1")?;
-    check_rows(&rt, CREWED, " --workers 4 --fan 1")
+    for crew in &CREWS {
+        check_rows(&rt, CREWED, crew)?;
+    }
+    Ok(())
 }
 
 const DELETE: &str = "Main = del! del(x:list) [ (n0, x) | ] => [ | ] interface = {}";
@@ -215,8 +222,7 @@ back 0
 end
 [
 |
-]
-";
+]";
 
 const FIRST_FIRST: &str = "0 out
 gp2-trace 1
@@ -229,37 +235,53 @@ back 0
 end
 [
 |
-]
-";
+]";
 
-// What deleting two nodes shows with this crew, and with a bound and the journal.
-fn two_deleted<R: AllocGlobal + Threads + Wait + Sync>(
+// What deleting two nodes shows with this crew, and with a bound and the journal: which was deleted first.
+fn put_first<R: AllocGlobal + Threads + Wait + Sync>(
     rt: &R,
     crew: &str,
     pace: &Pacing,
-) -> Result<Vec<u8>, Fail> {
-    let words = joined(rt.alloc(), "run p h --bound 5 --journal", crew)?;
-    answer_paced(rt, DELETE, "[ (a, 1) (b, 2) | ]", &words, pace)
+    told: &mut Answer,
+) {
+    let words = ("run p h --bound 5 --journal", crew);
+    let shown = told_of(rt, &Call::new(DELETE, "[ (a, 1) (b, 2) | ]", words), pace);
+    if shown.is_line(SECOND_FIRST) {
+        told.word("second");
+    } else if shown.is_line(FIRST_FIRST) {
+        told.word("first");
+    } else {
+        told.word("neither");
+    }
+}
+
+// The same of two workers that are held for so many looks: and whether they met, or no search was heard of.
+fn held<R: AllocGlobal + Threads + Wait + Sync>(rt: &R, crew: &str, looks: u64) -> Answer {
+    let mut told = Answer::new(rt.alloc());
+    let pace = Pacing::Held(Held::new(looks));
+    put_first(rt, crew, &pace, &mut told);
+    if let Some(held) = pace.held() {
+        if held.met() {
+            told.word("met");
+        }
+        if held.is_untold() {
+            told.word("untold");
+        }
+    }
+    told
 }
 
 #[test]
 fn two_workers_search_at_the_same_time(rt: HostRuntime) -> Result<(), Fail> {
-    let pace = Pacing::Held(Held::new(1_000_000_000));
-    let found = two_deleted(&rt, " --workers 2 --fan 1", &pace)?;
-    assert!(rt; found.as_slice() == SECOND_FIRST.as_bytes());
-    assert!(rt; pace.held().is_some_and(|held| held.met()));
-    Ok(())
+    let told = held(&rt, "--workers 2 --fan 1", 1_000_000_000);
+    expect(told.is("second met"), "two workers")
 }
 
 #[test]
 fn few_candidates_and_one_worker_need_no_crew(rt: HostRuntime) -> Result<(), Fail> {
-    for crew in [" --workers 2 --fan 3", " --workers 1 --fan 1"] {
-        let pace = Pacing::Held(Held::new(1000));
-        let found = two_deleted(&rt, crew, &pace)?;
-        let one = found.as_slice() == FIRST_FIRST.as_bytes();
-        let other = found.as_slice() == SECOND_FIRST.as_bytes();
-        assert!(rt; one || other, "{crew}");
-        assert!(rt; pace.held().is_some_and(|held| held.is_untold()), "{crew}");
+    for crew in &["--workers 2 --fan 3", "--workers 1 --fan 1"] {
+        let told = held(&rt, crew, 1000);
+        expect(told.is("first untold") || told.is("second untold"), crew)?;
     }
     Ok(())
 }

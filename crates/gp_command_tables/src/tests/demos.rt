@@ -1,6 +1,7 @@
 //! Demos through the top call, and the summary of a small graph.
 
-use crate::tests::runs::check_rows;
+use crate::tests::answers::expect;
+use crate::tests::calls::check_rows;
 use gp_demo::summary;
 use gp_gen::Kind;
 use gp_samples::host_of;
@@ -105,8 +106,8 @@ steps 1023";
 
 #[test]
 fn demos_tell_their_summaries(rt: HostRuntime) -> Result<(), Fail> {
-    check_rows(&rt, DEMOS, " --workers 1 --fan 64")?;
-    check_rows(&rt, DEMOS, " --workers 4 --fan 1")
+    check_rows(&rt, DEMOS, "--workers 1 --fan 64")?;
+    check_rows(&rt, DEMOS, "--workers 4 --fan 1")
 }
 
 const HOST: &str = "[ (a, empty # red) (b, empty # blue) (c, empty) (d(R), empty # red) | ]";
@@ -127,6 +128,5 @@ fn marks_and_live_steps_are_counted(rt: HostRuntime) -> Result<(), Fail> {
     let host = host_of(rt.alloc(), HOST)?;
     let items = read_trace(rt.alloc(), TRACE)?;
     let text = summary(rt.alloc(), Kind::Tree, 2, &host, &items)?;
-    assert!(rt; text.as_slice() == SUMMARY);
-    Ok(())
+    expect(text.as_slice() == SUMMARY, "a summary")
 }

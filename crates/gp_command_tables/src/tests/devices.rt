@@ -1,7 +1,7 @@
 //! Reads and writes that fail, and memory that is refused for the words.
 
-use crate::tests::calls::{answer_over, is_text, number, part_at, shown, sink, two_files, word_at};
-use gp_memory::NoMemory;
+use crate::tests::answers::{Answer, expect, number_at, part_at};
+use crate::tests::calls::{Call, put_shown, told_of};
 use opt_worker::Pacing;
 use std::alloc::AllocGlobal;
 use std::sync::Wait;
@@ -44,74 +44,57 @@ read:
 % 9 err
 usa";
 
-// A device that fails: the first write on out or on err after so many bytes, or the read of that number.
-#[derive(Clone, Copy)]
-struct Failing {
+// The call of these words where the first writes on out and err, and a read, fail so.
+fn failing<'a>(
+    words: Option<(&'a str, &'a str)>,
     out: Option<u64>,
     err: Option<u64>,
     read: Option<u64>,
+) -> Call<'a> {
+    Call {
+        program: MAKE,
+        host: "[ | ]",
+        words,
+        read,
+        out,
+        err,
+    }
 }
 
-// What the words come to where these fail.
-fn come_to<R: AllocGlobal + Threads + Wait + Sync>(
-    rt: &R,
-    failing: Failing,
-    line: Result<&str, NoMemory>,
-) -> Result<Vec<u8>, Fail> {
-    let alloc = rt.alloc();
-    let out = sink(alloc, 4096, Some(0), failing.out)?;
-    let err = sink(alloc, 4096, Some(0), failing.err)?;
-    let mut files = two_files(alloc, MAKE, "[ | ]", failing.read)?;
-    answer_over(rt, line, &mut files, out, err, &Pacing::Free)
-}
-
-// Whether the row's words come to its answer.
-fn is_answered<R: AllocGlobal + Threads + Wait + Sync>(rt: &R, row: &str) -> Result<bool, Fail> {
+// Fails with the row unless its words come to its answer.
+fn check_row<R: AllocGlobal + Threads + Wait + Sync>(rt: &R, row: &str) -> Result<(), Fail> {
     let marks = part_at(row, 0);
-    let failing = Failing {
-        out: number(word_at(marks, 0)),
-        err: number(word_at(marks, 1)),
-        read: number(word_at(marks, 2)),
-    };
-    let found = come_to(rt, failing, Ok(part_at(row, 1)))?;
-    Ok(is_text(&found, part_at(row, 2)))
+    let call = failing(
+        Some((part_at(row, 1), "")),
+        number_at(marks, 0),
+        number_at(marks, 1),
+        number_at(marks, 2),
+    );
+    expect(told_of(rt, &call, &Pacing::Free).is(part_at(row, 2)), row)
 }
 
 #[test]
 fn failing_devices_have_their_answers(rt: HostRuntime) -> Result<(), Fail> {
     for row in FAILING.split("\n\n") {
-        assert!(rt; is_answered(&rt, row)?, "{row}");
+        check_row(&rt, row)?;
     }
     Ok(())
-}
-
-// What `make` comes to where the first write on out fails after so many bytes.
-fn cut_after<R: AllocGlobal + Threads + Wait + Sync>(rt: &R, count: u64) -> Result<Vec<u8>, Fail> {
-    let failing = Failing {
-        out: Some(count),
-        err: None,
-        read: None,
-    };
-    come_to(rt, failing, Ok("run p h"))
 }
 
 #[test]
 fn a_graph_is_cut_at_any_byte(rt: HostRuntime) -> Result<(), Fail> {
     for count in 0..16 {
-        let wanted = shown(rt.alloc(), 9, &MADE[..count], b"")?;
-        assert!(rt; cut_after(&rt, count as u64)? == wanted, "{count}");
+        let call = failing(Some(("run p h", "")), Some(count as u64), None, None);
+        let mut wanted = Answer::new(rt.alloc());
+        put_shown(9, &MADE[..count], b"", &mut wanted);
+        let told = told_of(&rt, &call, &Pacing::Free);
+        expect(told.text() == wanted.text(), "a cut")?;
     }
     Ok(())
 }
 
-const NONE: Failing = Failing {
-    out: None,
-    err: None,
-    read: None,
-};
-
 #[test]
 fn words_without_memory_end_in_silence(rt: HostRuntime) -> Result<(), Fail> {
-    assert!(rt; is_text(&come_to(&rt, NONE, Err(NoMemory))?, "7"));
-    Ok(())
+    let told = told_of(&rt, &failing(None, None, None, None), &Pacing::Free);
+    expect(told.is("7"), "silence")
 }

@@ -2,8 +2,9 @@
 
 mod breaking;
 
-use crate::tests::calls::{is_text, number, sink, two_files, word_at};
-use gp_io::{DiskFiles, Failed, Files, MemSink, ReadRefusal, Sink, StdSink};
+use crate::tests::answers::{Answer, expect, number_at, word_at};
+use crate::tests::calls::{sink, two_files};
+use gp_io::{DiskFiles, Files, ReadRefusal, Sink, StdSink};
 use std::alloc::Global;
 use std::io::{self, Write};
 use std::rt;
@@ -24,81 +25,80 @@ const OF_SYSTEM: &str = "/proc/sys/kernel/ostype 6 Linux 0
 /proc/no-such-file 9 Failed 1
 /proc 9 Failed 2";
 
-fn name_of(refusal: ReadRefusal) -> &'static str {
+fn name_of(refusal: ReadRefusal) -> &'static [u8] {
     match refusal {
-        ReadRefusal::Failed => "Failed",
-        ReadRefusal::TooLong => "TooLong",
-        ReadRefusal::NoMemory => "NoMemory",
+        ReadRefusal::Failed => b"Failed",
+        ReadRefusal::TooLong => b"TooLong",
+        ReadRefusal::NoMemory => b"NoMemory",
     }
 }
 
-// Whether the read of the row's name within its limit gives what the row says.
-fn is_read<F: Files>(alloc: Global, files: &mut F, row: &str) -> bool {
-    let limit = number(word_at(row, 1)).unwrap_or(0);
-    match files.read(alloc, word_at(row, 0), limit) {
-        Ok(bytes) => is_text(&bytes, word_at(row, 2)),
-        Err(refusal) => name_of(refusal) == word_at(row, 2),
+// Tells what the read of the row's name within its limit gives.
+fn told_of_read<F: Files>(alloc: Global, files: &mut F, row: &str) -> Answer {
+    let mut told = Answer::new(alloc);
+    match files.read(alloc, word_at(row, 0), number_at(row, 1).unwrap_or(0)) {
+        Ok(bytes) => told.put(&bytes),
+        Err(refusal) => told.put(name_of(refusal)),
     }
+    told
 }
 
-// Whether the row ends so.
-fn has_faults(row: &str, faults: u64) -> bool {
-    number(word_at(row, 3)) == Some(faults)
+// Whether the row says what was read, and how many reads failed.
+fn is_right(told: &Answer, faults: u64, row: &str) -> bool {
+    told.is(word_at(row, 2)) && number_at(row, 3) == Some(faults)
 }
 
 #[test]
 fn files_in_memory_answer_by_name_limit_and_call(rt: HostRuntime) -> Result<(), Fail> {
-    let mut files = two_files(rt.alloc(), "four", "host", Some(4))?;
+    let mut files = two_files(rt.alloc(), "four", "host", Some(4));
     for row in HELD.split('\n') {
-        assert!(rt; is_read(rt.alloc(), &mut files, row), "{row}");
-        assert!(rt; has_faults(row, files.faults()), "{row}");
+        let told = told_of_read(rt.alloc(), &mut files, row);
+        if !is_right(&told, files.faults(), row) {
+            return Err(Fail::new(row));
+        }
     }
     Ok(())
 }
 
-// The first row that the files of this system are not as it says, or no text.
-fn first_wrong<R: rt::Files + Drop>(
-    runtime: R,
-    alloc: Global,
-    table: &'static str,
-) -> &'static str {
+// Reads each file of the table from these of a system.
+fn check_system<R: rt::Files + Drop>(runtime: R, alloc: Global, table: &str) -> Result<(), Fail> {
     let mut files = DiskFiles::new(runtime);
     for row in table.split('\n') {
-        if !is_read(alloc, &mut files, row) || !has_faults(row, files.faults()) {
-            return row;
+        let told = told_of_read(alloc, &mut files, row);
+        if !is_right(&told, files.faults(), row) {
+            return Err(Fail::new(row));
         }
     }
-    ""
+    Ok(())
 }
 
 #[test]
-fn files_of_the_system_are_read_whole_within_the_limit(rt: HostRuntime) {
-    let row = first_wrong(&rt, rt.alloc(), OF_SYSTEM);
-    assert!(rt; row.is_empty(), "{row}");
+fn files_of_the_system_are_read_whole_within_the_limit(rt: HostRuntime) -> Result<(), Fail> {
+    check_system(&rt, rt.alloc(), OF_SYSTEM)
 }
 
 // The room of a sink, the write that fails and how many bytes that one lets out; whether `abc` and then `de` are taken, how
 // many writes failed, and what was written.
-const SUNK: &str = "8 - - 1 1 0 abcde
-4 - - 1 0 1 abcd
-8 0 2 0 1 1 abde
-8 1 0 1 0 1 abc
-8 0 9 0 1 1 abcde
-1 0 2 0 0 2 a";
+const SUNK: &str = "8 - - : 1 1 0 abcde
+4 - - : 1 0 1 abcd
+8 0 2 : 0 1 1 abde
+8 1 0 : 1 0 1 abc
+8 0 9 : 0 1 1 abcde
+1 0 2 : 0 0 2 a";
 
-// Whether the sink of the row takes what the row says.
-fn is_sunk(alloc: Global, row: &str) -> Result<bool, Fail> {
-    let room = number(word_at(row, 0)).unwrap_or(0);
-    let call = number(word_at(row, 1));
-    let mut sink = sink(alloc, room, call, number(word_at(row, 2)))?;
-    let first = sink.write(b"abc").is_ok() as u64;
-    let second = sink.write(b"de").is_ok() as u64;
-    Ok(
-        number(word_at(row, 3)) == Some(first)
-            && number(word_at(row, 4)) == Some(second)
-            && number(word_at(row, 5)) == Some(sink.faults())
-            && is_text(sink.bytes(), word_at(row, 6)),
-    )
+// Tells whether a sink takes the two pieces, how many writes failed, and what was written.
+fn told_of_sink(alloc: Global, row: &str) -> Answer {
+    let mut told = Answer::new(alloc);
+    let room = number_at(row, 0).unwrap_or(0);
+    let call = number_at(row, 1).unwrap_or(0);
+    if let Ok(mut sink) = sink(alloc, room, call, number_at(row, 2)) {
+        told.number(u64::from(sink.write(b"abc").is_ok()));
+        told.number(u64::from(sink.write(b"de").is_ok()));
+        told.number(sink.faults());
+        told.put(b" ");
+        told.put(sink.bytes());
+    }
+    told
 }
 
 #[test]
@@ -106,7 +106,8 @@ fn a_sink_in_memory_takes_what_fits_and_what_a_failing_call_lets_out(
     rt: HostRuntime,
 ) -> Result<(), Fail> {
     for row in SUNK.split('\n') {
-        assert!(rt; is_sunk(rt.alloc(), row)?, "{row}");
+        let (given, wanted) = row.split_once(" : ").unwrap_or((row, ""));
+        expect(told_of_sink(rt.alloc(), given).is(wanted), row)?;
     }
     Ok(())
 }
@@ -141,16 +142,17 @@ fn a_stream_takes_whole_pieces_and_each_failure_counts_once(rt: HostRuntime) -> 
         taken: Vec::new(rt.alloc()),
     };
     let mut sink = StdSink::new(&mut stream);
-    let answers = (sink.write(b"abcde"), sink.write(b"fghijk"), sink.faults());
-    assert!(rt; answers == (Ok(()), Err(Failed), 1));
-    assert!(rt; stream.taken.as_slice() == b"abcdefghi".as_slice());
-    Ok(())
+    let answers = [sink.write(b"abcde").is_ok(), sink.write(b"fghijk").is_ok()];
+    expect(answers == [true, false] && sink.faults() == 1, "two pieces")?;
+    expect(
+        stream.taken.as_slice() == b"abcdefghi".as_slice(),
+        "the second is cut",
+    )
 }
 
 #[test]
 fn standard_error_takes_lines(rt: HostRuntime) -> Result<(), Fail> {
     let mut sink = StdSink::new(rt.stderr());
-    assert!(rt; sink.write(b"a line on standard error\n").is_ok());
-    assert_eq!(rt; sink.faults(), 0);
-    Ok(())
+    let is_taken = sink.write(b"a line on standard error\n").is_ok();
+    expect(is_taken && sink.faults() == 0, "a line")
 }

@@ -1,12 +1,8 @@
 //! What the top call refuses: words, programs and hosts, with the line of each.
 
-use crate::tests::calls::{answer, is_line};
-use crate::tests::runs::check_rows;
+use crate::tests::calls::{Call, check_rows, expect_line};
 use crate::tests::words::OTHER_WORDS;
-use std::alloc::AllocGlobal;
-use std::sync::Wait;
 use std::test::Fail;
-use std::thread::Threads;
 
 const PROGRAMS: &str = "
 % [ | ]
@@ -202,16 +198,11 @@ const USAGE: &str = "2 err
 usage: gp2 run PROGRAM HOST [--workers N] [--bound N] [--fan N] [--seed N] [--journal]
        gp2 demo KIND SIZE SEED [--workers N] [--fan N]";
 
-// Whether the words come to the usage.
-fn is_usage<R: AllocGlobal + Threads + Wait + Sync>(rt: &R, words: &str) -> Result<bool, Fail> {
-    let found = answer(rt, "Main = skip", "[ | ]", words)?;
-    Ok(is_line(&found, USAGE))
-}
-
 #[test]
 fn other_words_are_refused(rt: HostRuntime) -> Result<(), Fail> {
     for words in OTHER_WORDS.split('\n') {
-        assert!(rt; is_usage(&rt, words)?, "{words}");
+        let call = Call::new("Main = skip", "[ | ]", (words, ""));
+        expect_line(&rt, &call, USAGE, words)?;
     }
     Ok(())
 }

@@ -1,8 +1,8 @@
 //! Texts of small sizes, and of the ends of the range of sizes.
 
-ghost use Rattle.gp_gen.specs.Host.{IsSize};
-
+use crate::tests::answers::{Answer, expect};
 use gp_gen::{Kind, generate};
+use gp_memory::NoMemory;
 use rand_core::SeedableRng;
 use rand_core::utils::NextWord;
 use rand_pcg::Lcg64Xsh32;
@@ -43,71 +43,86 @@ const TREE_OF_2: &str = "[\n  (0, 2)\n|\n]\n";
 
 // Seed 1: the words end in 574, 214 and 417, and the third is the first odd one.
 #[test]
-fn a_seed_starts_its_words(rt: HostRuntime) {
+fn a_seed_starts_its_words(rt: HostRuntime) -> Result<(), Fail> {
+    let mut told = Answer::new(rt.alloc());
     let mut generator = Lcg64Xsh32::seed_from_u64(1);
-    for word in [866585574, 2109535214, 3403630417, 296513984] {
-        assert!(rt; generator.next_word() == word, "{word}");
+    for _ in 0..4 {
+        told.number(u64::from(generator.next_word()));
     }
+    let wanted = "866585574 2109535214 3403630417 296513984";
+    expect(told.is(wanted), wanted)
 }
 
-// Whether these are the texts of the workload.
-fn is_made(
+// The texts of a workload, where there is one of this size.
+fn texts_of(
     alloc: Global,
     kind: Kind,
     size: u64,
     seed: u64,
-    program: &str,
-    host: &str,
-) -> Result<bool, Fail>
-    requires { IsSize kind size }
-{
-    let texts = generate(alloc, kind, size, seed)?;
-    let is_program = texts.0.as_slice() == program.as_bytes();
-    Ok(is_program && texts.1.as_slice() == host.as_bytes())
+) -> Result<(Vec<u8>, Vec<u8>), NoMemory> {
+    let largest = match kind {
+        Kind::Closure => 500,
+        Kind::Colour => 500,
+        Kind::Tree => 18,
+    };
+    if size < 1 || size > largest {
+        return Err(NoMemory);
+    }
+    generate(alloc, kind, size, seed)
+}
+
+// A workload, its program and its host.
+type MadeRow = (Kind, u64, u64, &'static str, &'static str);
+
+const MADE: [MadeRow; 3] = [
+    (Kind::Closure, 3, 1, LINK, RING_OF_3),
+    (Kind::Colour, 2, 1, COLOURS, GRID_OF_4),
+    (Kind::Tree, 2, 0, GROW, TREE_OF_2),
+];
+
+// Whether the program and the host of a workload are those of the row.
+fn is_made(alloc: Global, row: &MadeRow) -> Result<bool, NoMemory> {
+    let texts = texts_of(alloc, row.0, row.1, row.2)?;
+    Ok(texts.0.as_slice() == row.3.as_bytes() && texts.1.as_slice() == row.4.as_bytes())
 }
 
 #[test]
 fn texts_are_made_from_the_words_of_the_seed(rt: HostRuntime) -> Result<(), Fail> {
-    let alloc = rt.alloc();
-    assert!(rt; is_made(alloc, Kind::Closure, 3, 1, LINK, RING_OF_3)?);
-    assert!(rt; is_made(alloc, Kind::Colour, 2, 1, COLOURS, GRID_OF_4)?);
-    assert!(rt; is_made(alloc, Kind::Tree, 2, 0, GROW, TREE_OF_2)?);
+    for row in &MADE {
+        expect(is_made(rt.alloc(), row)?, row.4)?;
+    }
     Ok(())
 }
 
-// Whether the host of the workload has so many bytes, and ends so.
-fn ends_so(
-    alloc: Global,
-    kind: Kind,
-    size: u64,
-    seed: u64,
-    bytes: usize,
-    end: &str,
-) -> Result<bool, Fail>
-    requires { IsSize kind size }
-{
-    let texts = generate(alloc, kind, size, seed)?;
-    let begins = texts.1.starts_with(b"[\n  (0, ") && texts.1.len() == bytes;
-    Ok(begins && texts.1.ends_with(end.as_bytes()))
+// A workload, how many bytes its host has, and how that ends.
+type EndRow = (Kind, u64, u64, usize, &'static str);
+
+const ENDS: [EndRow; 6] = [
+    (Kind::Closure, 1, 7, 33, "  (e0, 0, 0, 337)\n]\n"),
+    (Kind::Closure, 500, 0, 17906, "  (e499, 499, 0, 767)\n]\n"),
+    (Kind::Colour, 1, 0, 21, "  (0, 0 # red)\n|\n]\n"),
+    (
+        Kind::Colour,
+        500,
+        0,
+        21439298,
+        "  (e498999, 249499, 249999, empty)\n]\n",
+    ),
+    (Kind::Tree, 1, 0, 15, "  (0, 1)\n|\n]\n"),
+    (Kind::Tree, 18, 0, 16, "  (0, 18)\n|\n]\n"),
+];
+
+// Whether the host of a workload has so many bytes, and ends so.
+fn ends_so(alloc: Global, row: &EndRow) -> Result<bool, NoMemory> {
+    let texts = texts_of(alloc, row.0, row.1, row.2)?;
+    let begins = texts.1.starts_with(b"[\n  (0, ") && texts.1.len() == row.3;
+    Ok(begins && texts.1.ends_with(row.4.as_bytes()))
 }
 
 #[test]
 fn the_ends_of_the_sizes_have_hosts(rt: HostRuntime) -> Result<(), Fail> {
-    for (kind, size, seed, bytes, end) in [
-        (Kind::Closure, 1, 7, 33, "  (e0, 0, 0, 337)\n]\n"),
-        (Kind::Closure, 500, 0, 17906, "  (e499, 499, 0, 767)\n]\n"),
-        (Kind::Colour, 1, 0, 21, "  (0, 0 # red)\n|\n]\n"),
-        (
-            Kind::Colour,
-            500,
-            0,
-            21439298,
-            "  (e498999, 249499, 249999, empty)\n]\n",
-        ),
-        (Kind::Tree, 1, 0, 15, "  (0, 1)\n|\n]\n"),
-        (Kind::Tree, 18, 0, 16, "  (0, 18)\n|\n]\n"),
-    ] {
-        assert!(rt; ends_so(rt.alloc(), kind, size, seed, bytes, end)?, "{end}");
+    for row in &ENDS {
+        expect(ends_so(rt.alloc(), row)?, row.4)?;
     }
     Ok(())
 }

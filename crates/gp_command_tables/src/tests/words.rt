@@ -1,7 +1,9 @@
 //! Words that are a command, with what it is, and words that are none.
 
-use crate::tests::calls::number;
+use crate::tests::answers::{Answer, expect};
+use crate::tests::calls::words_of;
 use gp_gen::Kind;
+use gp_memory::NoMemory;
 use gp_words::{Command, DemoCommand, RunCommand, command_of};
 use std::alloc::Global;
 use std::test::Fail;
@@ -60,74 +62,52 @@ demo closure 3 1 --workers 0
 --help
 help";
 
-/// The words of a line, with a blank between each two.
-pub(crate) fn words_of(alloc: Global, line: &str) -> Result<Vec<String>, Fail> {
-    let mut words = Vec::new(alloc);
-    if line.is_empty() {
-        return Ok(words);
+// Tells the parts of a run.
+fn put_run(c: &RunCommand<'_>, told: &mut Answer) {
+    told.put(c.program.as_bytes());
+    told.put(b" ");
+    told.put(c.host.as_bytes());
+    told.numbers(&[
+        u64::from(c.workers),
+        c.bound,
+        c.fan,
+        c.seed,
+        u64::from(c.journal),
+    ]);
+}
+
+// Tells the parts of a demo.
+fn put_demo(c: &DemoCommand, told: &mut Answer) {
+    told.word(match c.kind {
+        Kind::Closure => "closure",
+        Kind::Colour => "colour",
+        Kind::Tree => "tree",
+    });
+    told.numbers(&[c.size, c.seed, u64::from(c.workers), c.fan]);
+}
+
+// What the command of a line of words is.
+fn told_of(alloc: Global, line: &str) -> Result<Answer, NoMemory> {
+    let mut told = Answer::new(alloc);
+    let words = words_of(alloc, (line, ""))?;
+    match command_of(alloc, &words)? {
+        Some(Command::Run(command)) => put_run(&command, &mut told),
+        Some(Command::Demo(command)) => put_demo(&command, &mut told),
+        None => told.word("none"),
     }
-    for word in line.split(' ') {
-        words.push(String::from_str(alloc, word)?)?;
-    }
-    Ok(words)
+    Ok(told)
 }
 
-// The first word of the row, and the others.
-fn word_and_rest(row: &str) -> (&str, &str) {
-    row.split_once(' ').unwrap_or((row, ""))
-}
-
-// Whether the row is these numbers.
-fn are_numbers(row: &str, numbers: &[u64]) -> bool {
-    let mut rest = row;
-    for wanted in numbers {
-        let (word, behind) = word_and_rest(rest);
-        if number(word) != Some(*wanted) {
-            return false;
-        }
-        rest = behind;
-    }
-    rest.is_empty()
-}
-
-fn is_run(c: RunCommand<'_>, row: &str) -> bool {
-    let (program, rest) = word_and_rest(row);
-    let (host, numbers) = word_and_rest(rest);
-    let journal = c.journal as u64;
-    program == c.program
-        && host == c.host
-        && are_numbers(
-            numbers,
-            &[c.workers as u64, c.bound, c.fan, c.seed, journal],
-        )
-}
-
-fn is_demo(c: DemoCommand, row: &str) -> bool {
-    let (kind, numbers) = word_and_rest(row);
-    let is_kind = match c.kind {
-        Kind::Closure => kind == "closure",
-        Kind::Colour => kind == "colour",
-        Kind::Tree => kind == "tree",
-    };
-    is_kind && are_numbers(numbers, &[c.size, c.seed, c.workers as u64, c.fan])
-}
-
-// Whether the words are the command of the row; `none` is no command.
-fn is_told(alloc: Global, words: &str, row: &str) -> Result<bool, Fail> {
-    let given = words_of(alloc, words)?;
-    match command_of(alloc, &given) {
-        Ok(Some(Command::Run(command))) => Ok(is_run(command, row)),
-        Ok(Some(Command::Demo(command))) => Ok(is_demo(command, row)),
-        Ok(None) => Ok(row == "none"),
-        Err(_) => Err(Fail::from("memory was refused")),
-    }
+// Fails with the row unless the command of the words is this.
+fn expect_command(alloc: Global, words: &str, command: &str, row: &str) -> Result<(), Fail> {
+    expect(told_of(alloc, words)?.is(command), row)
 }
 
 #[test]
 fn options_stand_in_any_order(rt: HostRuntime) -> Result<(), Fail> {
     for row in COMMANDS.split('\n') {
         let (words, command) = row.split_once(" => ").unwrap_or((row, ""));
-        assert!(rt; is_told(rt.alloc(), words, command)?, "{row}");
+        expect_command(rt.alloc(), words, command, row)?;
     }
     Ok(())
 }
@@ -135,7 +115,7 @@ fn options_stand_in_any_order(rt: HostRuntime) -> Result<(), Fail> {
 #[test]
 fn other_words_are_no_command(rt: HostRuntime) -> Result<(), Fail> {
     for words in OTHER_WORDS.split('\n') {
-        assert!(rt; is_told(rt.alloc(), words, "none")?, "{words}");
+        expect_command(rt.alloc(), words, "none", words)?;
     }
     Ok(())
 }

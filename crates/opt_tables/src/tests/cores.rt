@@ -3,11 +3,12 @@
 mod rules;
 mod sending;
 
-ghost use Rattle.std.specs.Prelude.{◌≡◌, [], IfOk, OnOk};
+ghost use Rattle.std.specs.Prelude.{◌≡◌, [], IfOk};
 ghost use Rattle.opt_cells.specs.Row.{row};
-ghost use Rattle.opt_core.specs.Runs.{SameStart};
 
-use super::texts::{Spelled, event_of, put_number, text_of, text_of_ending};
+use super::answers::Answer;
+use super::spelled::{Spelled, event_of, put_core, put_reply};
+use gp_memory::NoMemory;
 use opt_cells::{CellRow, Cells, CellsGoal, Traps};
 use opt_core::sharing::{
     core_may_be_shared, core_may_be_taken, ending_may_be_taken, entries_may_be_taken,
@@ -143,53 +144,36 @@ const ON_TRAPS: [(u64, &str, &str); 3] = [
     ),
 ];
 
-// Sends the event, if it may come, and notes the answer.
-fn answer<S: Spelled>(
+// Sends the events to a new core. Two states like its own are lent: one that stays, and one that follows its entries.
+fn told_by<S: Spelled>(
     alloc: Global,
     s: &S,
-    core: &mut Core<S>,
-    entries: &mut Vec<S::Found>,
-    base: S::State,
-    event: &str,
-    text: &mut String,
-) -> Result<(), Fail>
-    requires system { s.now ≡ core.old.system }
-    requires entries { entries.old.items ≡ core.old.entries }
-    requires base { base ≡ core.old.base }
-    ensures start { SameStart core.old core.new }
-    ensures entries { OnOk result (core.new.entries ≡ entries.new.items) }
+    mut core: Core<S>,
+    base: &S::State,
+    at: &mut S::State,
+    events: &str,
+) -> Answer
+    requires system { s.now ≡ core.system }
+    requires entries { core.entries ≡ [] }
+    requires base { base.now ≡ core.base }
+    requires at { at.old ≡ core.state }
 {
-    let event = event_of::<S>(alloc, event)?;
-    let reply = send(s, core, entries, base, event)?;
-    text.push_str(text_of::<S>(alloc, &reply)?.as_str())?;
-    text.push_str(", ")?;
-    Ok(())
+    let mut told = Answer::new(alloc);
+    let mut count = Some(0);
+    for event in events.split(',') {
+        if let Some(event) = event_of::<S>(alloc, event.trim()) {
+            match send(s, &mut core, base, at, &mut count, event) {
+                Some(reply) => put_reply::<S>(&reply, &mut told),
+                None => told.put("may not come"),
+            }
+        }
+        told.put(", ");
+    }
+    put_core(core, &mut told);
+    told
 }
 
-// What the core is then, behind the answers.
-fn ended<S: Spelled>(alloc: Global, core: Core<S>, answers: String) -> Result<String, Fail> {
-    let (_, entries, left, ending) = core.into_parts();
-    let mut text = answers;
-    put_state::<S>(alloc, entries.as_slice(), left, &ending, &mut text)?;
-    Ok(text)
-}
-
-fn put_state<S: Spelled>(
-    alloc: Global,
-    entries: &[S::Found],
-    left: u64,
-    ending: &Option<Ending<S::Reason>>,
-    text: &mut String,
-) -> Result<(), Fail> {
-    text.push_str(S::founds(alloc, entries)?.as_str())?;
-    text.push_str(" ")?;
-    put_number(left, text)?;
-    text.push_str(" ")?;
-    text.push_str(text_of_ending::<S>(alloc, ending)?.as_str())?;
-    Ok(())
-}
-
-fn cells_of(alloc: Global, text: &str) -> Result<Vec<bool>, Fail> {
+fn cells_of(alloc: Global, text: &str) -> Result<Vec<bool>, NoMemory> {
     let mut cells = Vec::new(alloc);
     for letter in text.as_bytes() {
         cells.push(*letter == b't')?;
@@ -197,92 +181,60 @@ fn cells_of(alloc: Global, text: &str) -> Result<Vec<bool>, Fail> {
     Ok(cells)
 }
 
-fn row_of(alloc: Global, cells: &[bool]) -> Result<CellRow, Fail>
+fn row_of(alloc: Global, cells: &[bool]) -> Result<CellRow, NoMemory>
     ensures { IfOk result (λ r. r ≡ row cells.now []) }
 {
     Ok(CellRow::new(alloc, cells.to_vec(alloc)?))
 }
 
-// Sends the events to a new core over cells.
-fn told_of_cells(
-    alloc: Global,
-    cells: &[bool],
-    goal: CellsGoal,
-    items: u64,
-    events: &str,
-) -> Result<String, Fail> {
-    let base = row_of(alloc, cells)?;
-    let Ok(mut core) = Core::start(alloc, &Cells, base, goal, items) else {
-        return Err(Fail::from("no core was made"));
-    };
-    let mut entries = Vec::new(alloc);
-    let mut text = String::new(alloc);
-    for event in events.split(',') {
-        answer(
-            alloc,
-            &Cells,
-            &mut core,
-            &mut entries,
-            row_of(alloc, cells)?,
-            event,
-            &mut text,
-        )?;
-    }
-    ended(alloc, core, text)
-}
-
-// Sends the events to a new core over traps.
-fn told_of_traps(alloc: Global, items: u64, events: &str) -> Result<String, Fail> {
-    let Ok(mut core) = Core::start(alloc, &Traps, 0, (), items) else {
-        return Err(Fail::from("no core was made"));
-    };
-    let mut entries = Vec::new(alloc);
-    let mut text = String::new(alloc);
-    for event in events.split(',') {
-        answer(alloc, &Traps, &mut core, &mut entries, 0, event, &mut text)?;
-    }
-    ended(alloc, core, text)
-}
-
 // What the events of a row over cells are answered.
-fn told_of_row(alloc: Global, row: &CellsRow) -> Result<String, Fail> {
+fn told_of_cells(alloc: Global, row: &CellsRow) -> Result<Answer, NoMemory> {
     let (cells, mode, shares, items, events, _) = *row;
     if shares == 0 {
-        return Err(Fail::from("a goal has a share"));
+        return Err(NoMemory);
     }
+    let goal = CellsGoal { mode, shares };
     let cells = cells_of(alloc, cells)?;
-    told_of_cells(alloc, &cells, CellsGoal { mode, shares }, items, events)
+    let (base, mut at) = (row_of(alloc, &cells)?, row_of(alloc, &cells)?);
+    match Core::start(alloc, &Cells, row_of(alloc, &cells)?, goal, items) {
+        Ok(core) => Ok(told_by(alloc, &Cells, core, &base, &mut at, events)),
+        Err(_) => Err(NoMemory),
+    }
+}
+
+// What the events of a row over traps are answered.
+fn told_of_traps(alloc: Global, items: u64, events: &str) -> Result<Answer, NoMemory> {
+    match Core::start(alloc, &Traps, 0, (), items) {
+        Ok(core) => Ok(told_by(alloc, &Traps, core, &0, &mut 0, events)),
+        Err(_) => Err(NoMemory),
+    }
 }
 
 #[test]
 fn cores_answer_each_event_as_their_senders_were_told(rt: HostRuntime) -> Result<(), Fail> {
     for row in &ON_CELLS {
-        assert_eq!(rt; told_of_row(rt.alloc(), row)?.as_str(), row.5);
+        told_of_cells(rt.alloc(), row)?.expect(row.5)?;
     }
     for (items, events, answers) in &ON_TRAPS {
-        assert_eq!(rt;
-            told_of_traps(rt.alloc(), *items, events)?.as_str(),
-            *answers
-        );
+        told_of_traps(rt.alloc(), *items, events)?.expect(answers)?;
     }
     Ok(())
 }
 
 #[test]
 fn threads_may_take_cores_events_and_answers(rt: HostRuntime) -> Result<(), Fail> {
-    let alloc = rt.alloc();
-    let Ok(mut core) = Core::start(alloc, &Traps, 0, (), 0) else {
+    let Ok(mut core) = Core::start(rt.alloc(), &Traps, 0, (), 0) else {
         return Err(Fail::from("no core was made"));
     };
     core_may_be_taken(&core);
     core_may_be_shared(&core);
     event_may_be_taken(&Event::<u64>::Stop);
     ending_may_be_taken(&Ending::<u64>::Blocked);
-    let reply = sending::look(&Traps, &mut core, &[], 0, 0);
-    if let Some(Reply::News { entries, task: _ }) = &reply {
+    let _legal = core.ending();
+    let reply = core.step(&Traps, Event::Look { told: 0, from: 0 });
+    if let Reply::News { entries, task: _ } = &reply {
         entries_may_be_taken(entries);
     }
-    let reply = sending::stop(&Traps, &mut core);
     reply_may_be_taken(&reply);
     Ok(())
 }

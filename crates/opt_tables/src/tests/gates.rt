@@ -1,112 +1,126 @@
 //! Passes over cells: what a second pass learns of the first one's commit, and what a join of the two knows.
 
-ghost use Rattle.std.specs.Prelude.{◌≡◌, [], IfOk, OnOk, replicate, true};
-ghost use Rattle.opt_core.specs.Core.{reached};
+ghost use Rattle.std.specs.Prelude.{◌≡◌, IsTrue};
 ghost use Rattle.opt_gate.specs.Pass.{IsPassOf, start_of};
-ghost use Rattle.opt_gate.specs.Turn.{entries_told};
+ghost use Rattle.opt_gate.specs.Turn.{MayAsk};
 ghost use Rattle.opt_cells.specs.Cells.{cells_means};
-ghost use Rattle.opt_cells.specs.Row.{row};
 
-mod asking;
 mod joined;
 
+use super::answers::Answer;
+use super::spelled::{put_core, put_founds, put_reply};
 use super::starting::{opened, true_cells};
-use super::texts::{event_of, text_of};
-use asking::ask;
 use joined::commit_and_join;
 use opt_cells::{CellRow, Cells};
 use opt_gate::sharing::{gate_may_be_shared, pass_may_be_taken};
-use opt_gate::{Gate, Pass};
-use std::alloc::Global;
+use opt_gate::{Ask, Gate, Pass};
+use opt_system::{Sought, System, Verdict};
 use std::sync::Wait;
 use std::test::Fail;
 
-// One turn of a pass whose replica is `at`. The answer is noted.
-fn answer<R: Wait>(
-    rt: &R,
-    alloc: Global,
-    gate: &Gate<Cells>,
-    pass: &mut Pass<Cells>,
-    at: &mut CellRow,
-    event: &str,
-    text: &mut String,
-) -> Result<(), Fail>
-    requires gate { IsPassOf gate.now pass.old }
-    requires at { at.old ≡ reached cells_means (start_of gate.now).base (entries_told pass.old) }
-    ensures gate { IsPassOf gate.now pass.new }
-    ensures at { OnOk result (at.new ≡ reached cells_means (start_of gate.now).base (entries_told pass.new)) }
+// Whether a pass may ask this that was told nothing: what holds of the row that the gate was started with.
+fn may_ask(gate: &Gate<Cells>, pass: &Pass<Cells>, base: &CellRow, ask: &Ask<usize>) -> bool
+    requires { base.now ≡ (start_of gate.now).base }
+    ensures { IsTrue result → MayAsk cells_means (start_of gate.now) pass.now ask.now }
 {
-    let event = event_of::<Cells>(alloc, event)?;
-    let reply = ask(rt, &Cells, gate, pass, at, event);
-    let Some(_) = &reply else {
-        return Err(Fail::from("it may not be asked, or memory was refused"));
-    };
-    text.push_str(text_of::<Cells>(alloc, &reply)?.as_str())?;
-    text.push_str(", ")?;
-    Ok(())
+    let goal = gate.goal();
+    pass.told() == 0
+        && match ask {
+            Ask::Look { from: _ } => true,
+            Ask::Offer { found } => matches!(Cells.check(goal, base, found), Verdict::Applies),
+            Ask::Fault { found } => matches!(Cells.check(goal, base, found), Verdict::Faulty(_)),
+            Ask::Quiet { share } => {
+                *share < Cells.shares(goal)
+                    && matches!(Cells.seek(goal, *share, base), Sought::Barren)
+            }
+            Ask::Stop => true,
+        }
 }
 
-// What a pass is answered that was told nothing, at a gate round a core of one true cell.
-fn told<R: Wait>(
+// One turn of a pass that was told nothing, if it may ask this. The answer is told.
+fn ask<R: Wait>(
     rt: &R,
-    alloc: Global,
     gate: &Gate<Cells>,
     pass: &mut Pass<Cells>,
-    events: &str,
-) -> Result<String, Fail>
+    base: &CellRow,
+    ask: Ask<usize>,
+    told: &mut Answer,
+)
     requires gate { IsPassOf gate.now pass.old }
-    requires told { pass.old.told ≡ 0 }
-    requires base { (start_of gate.now).base ≡ row (replicate 1 true) [] }
+    requires base { base.now ≡ (start_of gate.now).base }
     ensures gate { IsPassOf gate.now pass.new }
 {
-    let mut at = true_cells(alloc, 1)?;
-    let mut text = String::new(alloc);
-    for event in events.split(',') {
-        answer(rt, alloc, gate, pass, &mut at, event, &mut text)?;
+    if may_ask(gate, pass, base, &ask) {
+        put_reply::<Cells>(&gate.turn(rt, pass, &Cells, ask), told);
+    } else {
+        told.put("may not be asked");
     }
-    Ok(text)
+    told.put(", ");
 }
 
-// A gate round a core of one true cell, with its two passes.
-fn opened_for_two(alloc: Global) -> Result<(Gate<Cells>, Pass<Cells>, Pass<Cells>), Fail>
-    ensures passes { IfOk result (λ r. IsPassOf r.0 r.1 × IsPassOf r.0 r.2) }
-    ensures told { IfOk result (λ r. (r.1.told ≡ 0) × (r.2.told ≡ 0)) }
-    ensures base { IfOk result (λ r. (start_of r.0).base ≡ row (replicate 1 true) []) }
+// What two passes of a gate are told: the first one makes its cell false.
+fn tell_two<R: Wait>(
+    rt: &R,
+    gate: &Gate<Cells>,
+    p: &mut Pass<Cells>,
+    q: &mut Pass<Cells>,
+    base: &CellRow,
+    told: &mut Answer,
+)
+    requires p { IsPassOf gate.now p.old }
+    requires q { IsPassOf gate.now q.old }
+    requires base { base.now ≡ (start_of gate.now).base }
+    ensures p { IsPassOf gate.now p.new }
+    ensures q { IsPassOf gate.now q.new }
 {
-    let (gate, mut p) = opened(alloc, 1, 10, 2)?;
-    let q = p.split(&gate, 1);
-    Ok((gate, p, q))
+    ask(rt, gate, p, base, Ask::Look { from: 0 }, told);
+    ask(rt, gate, p, base, Ask::Offer { found: 0 }, told);
+    ask(rt, gate, q, base, Ask::Quiet { share: 1 }, told);
+    ask(rt, gate, q, base, Ask::Look { from: 1 }, told);
 }
+
+// The number of a pass, its room, and the entries that it was told.
+fn put_pass(pass: &Pass<Cells>, told: &mut Answer) {
+    told.put_number(u64::from(pass.number()));
+    told.put(" of room ");
+    told.put_number(pass.room());
+    told.put(" told ");
+    told.put_number(pass.told());
+    told.put(", ");
+}
+
+const SECOND: &str =
+    "2 shares, 1 of room 1 told 0, news [] 0, committed 0, stale 1, news [0] 1, 0 of room 1 told 0, 1 of room 1 told 1, 0 of room 2 told 0, [0] 8 running";
 
 #[test]
 fn a_second_pass_learns_what_the_first_committed(rt: HostRuntime) -> Result<(), Fail> {
-    let alloc = rt.alloc();
-    let (gate, mut p, mut q) = opened_for_two(alloc)?;
-    assert_eq!(rt; (gate.goal().shares, q.number(), q.room()), (2, 1, 1));
-    let text = told(&rt, alloc, &gate, &mut p, "look 0 0, offer 0 0")?;
-    assert_eq!(rt; text.as_str(), "news [] 0, committed 0, ");
-    let text = told(&rt, alloc, &gate, &mut q, "quiet 0 1, look 0 1")?;
-    assert_eq!(rt; text.as_str(), "stale 1, news [0] 1, ");
-    assert_eq!(rt; (p.told(), q.told()), (0, 1));
+    let mut told = Answer::new(rt.alloc());
+    let base = true_cells(rt.alloc(), 1)?;
+    let (gate, mut p) = opened(rt.alloc(), 1, 10, 2)?;
+    let mut q = p.split(&gate, 1);
+    told.put_number(u64::from(gate.goal().shares));
+    told.put(" shares, ");
+    put_pass(&q, &mut told);
+    tell_two(&rt, &gate, &mut p, &mut q, &base, &mut told);
+    put_pass(&p, &mut told);
+    put_pass(&q, &mut told);
     p.join(&gate, q);
-    assert_eq!(rt; (p.number(), p.room(), p.told()), (0, 2, 0));
-    let (_, entries, left, ending) = gate.close(&rt, p).into_parts();
-    assert_eq!(rt; (entries.as_slice(), left), (&[0][..], 8));
-    assert!(rt; ending.is_none());
-    Ok(())
+    put_pass(&p, &mut told);
+    put_core(gate.close(&rt, p), &mut told);
+    told.expect(SECOND)
 }
 
 #[test]
 fn a_joined_pass_knows_the_entry_and_has_its_commit(rt: HostRuntime) -> Result<(), Fail> {
-    let alloc = rt.alloc();
-    let (gate, mut p) = opened(alloc, 1, 10, 2)?;
+    let (gate, mut p) = opened(rt.alloc(), 1, 10, 2)?;
     let q = p.split(&gate, 1);
     pass_may_be_taken(&q);
     gate_may_be_shared(&gate);
     let Some(p) = commit_and_join(&rt, &Cells, &gate, p, q, 0) else {
-        return Err(Fail::from("nothing was committed"));
+        return Err(Fail::new("nothing was committed"));
     };
+    let mut told = Answer::new(rt.alloc());
     let (_, entries, _, _) = gate.close(&rt, p).into_parts();
-    assert_eq!(rt; entries.as_slice(), &[0][..]);
-    Ok(())
+    put_founds::<Cells>(entries.as_slice(), &mut told);
+    told.expect("[0]")
 }

@@ -3,8 +3,10 @@
 ghost use Rattle.std.specs.Prelude.{◌≡◌};
 ghost use Rattle.opt_gate.specs.Pass.{IsPassOf, start_of};
 
+use super::answers::Answer;
+use super::spelled::{put_core, put_founds};
 use super::starting::{opened, true_cells};
-use super::texts::word_of;
+use gp_memory::NoMemory;
 use opt_cells::Cells;
 use opt_gate::{Ask, Gate, Pass};
 use opt_worker::{Free, Pace, job_may_be_taken, work};
@@ -17,17 +19,16 @@ use std::thread::Threads;
 
 #[test]
 fn a_worker_alone_commits_each_place_and_finds_no_more(rt: HostRuntime) -> Result<(), Fail> {
-    let alloc = rt.alloc();
-    let (gate, pass) = opened(alloc, 3, 10, 1)?;
-    let job = (pass, true_cells(alloc, 3)?);
+    let at = true_cells(rt.alloc(), 3)?;
+    let (gate, pass) = opened(rt.alloc(), 3, 10, 1)?;
+    let job = (pass, at);
     job_may_be_taken::<Cells>(&job);
     let (pass, mut at) = job;
     let pass = work(&rt, &Cells, &gate, pass, &mut at, &Free);
-    assert_eq!(rt; at.taken(), &[0usize, 2, 1][..]);
-    let (_, entries, left, ending) = gate.close(&rt, pass).into_parts();
-    assert_eq!(rt; (entries.as_slice(), left), (&[0usize, 2, 1][..], 4));
-    assert_eq!(rt; word_of(ending.as_ref()), "blocked");
-    Ok(())
+    let mut told = Answer::new(rt.alloc());
+    put_founds::<Cells>(at.taken(), &mut told);
+    put_core(gate.close(&rt, pass), &mut told);
+    told.expect("[0, 2, 1][0, 2, 1] 4 blocked")
 }
 
 // Looks at the flag for a long while. Whether it was set.
@@ -75,18 +76,16 @@ fn stop_by_hand<R: Wait>(
     pass
 }
 
-// The ending where a worker on two true cells is stopped by hand, and the number of entries.
-fn stopped_in_search<R: Threads + Wait + Sync>(
-    rt: &R,
-    alloc: Global,
-) -> Result<(&'static str, usize), Fail> {
+// What the core is where a worker on two true cells is stopped by hand.
+fn stopped_in_search<R: Threads + Wait + Sync>(rt: &R, alloc: Global) -> Result<Answer, NoMemory> {
+    let mut told = Answer::new(alloc);
+    let mut at = true_cells(alloc, 2)?;
+    let (gate, mut p) = opened(alloc, 2, 10, 2)?;
+    let q = p.split(&gate, 1);
     let pace = UntilStopped {
         searched: AtomicBool::new(false),
         stopped: AtomicBool::new(false),
     };
-    let (gate, mut p) = opened(alloc, 2, 10, 2)?;
-    let q = p.split(&gate, 1);
-    let mut at = true_cells(alloc, 2)?;
     let (door, held) = (&gate, &pace);
     let (mut p, q) = thread::join(
         rt,
@@ -94,12 +93,11 @@ fn stopped_in_search<R: Threads + Wait + Sync>(
         move || stop_by_hand(rt, &Cells, door, q, held),
     );
     p.join(&gate, q);
-    let (_, entries, _, ending) = gate.close(rt, p).into_parts();
-    Ok((word_of(ending.as_ref()), entries.len()))
+    put_core(gate.close(rt, p), &mut told);
+    Ok(told)
 }
 
 #[test]
 fn a_stop_by_hand_ends_a_worker_that_is_held_in_its_search(rt: HostRuntime) -> Result<(), Fail> {
-    assert_eq!(rt; stopped_in_search(&rt, rt.alloc())?, ("stopped", 0));
-    Ok(())
+    stopped_in_search(&rt, rt.alloc())?.expect("[] 10 stopped")
 }

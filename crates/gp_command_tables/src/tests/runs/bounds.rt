@@ -1,7 +1,8 @@
 //! Loops that end or spend their bound, and choices by a seed.
 
-use super::check_rows;
-use crate::tests::calls::{answer, is_line, joined};
+use crate::tests::answers::{Answer, expect};
+use crate::tests::calls::{Call, check_rows, told_of};
+use opt_worker::Pacing;
 use std::alloc::AllocGlobal;
 use std::sync::Wait;
 use std::test::Fail;
@@ -104,31 +105,40 @@ fn loops_end_or_spend_their_bound(rt: HostRuntime) -> Result<(), Fail> {
     check_rows(&rt, BOUNDS, "")
 }
 
-// Whether a choice of this seed gives the graph, where it gives that or fail.
-fn gives<R: AllocGlobal + Threads + Wait + Sync>(rt: &R, seed: &str) -> Result<bool, Fail> {
-    let words = joined(rt.alloc(), "run p h --seed ", seed)?;
-    let found = answer(rt, "Main = skip or fail", "[ | ]", &words)?;
-    if is_line(&found, "0 out\n[\n|\n]") {
-        return Ok(true);
+const SEEDS: &str = "0 1 2 3 4 5 6 7 8 9 10 11 12 13 14 15 16 17 18 19 20";
+
+// Tells of a seed whether its choice gives the graph, or fails.
+fn put_choice<R: AllocGlobal + Threads + Wait + Sync>(rt: &R, seed: &str, told: &mut Answer) {
+    let call = Call::new("Main = skip or fail", "[ | ]", ("run p h --seed", seed));
+    let shown = told_of(rt, &call, &Pacing::Free);
+    if shown.is_line("0 out\n[\n|\n]") {
+        told.put(b"g");
+    } else if shown.is_line("1 out\nfail") {
+        told.put(b"f");
+    } else {
+        told.put(b"?");
     }
-    if is_line(&found, "1 out\nfail") {
-        return Ok(false);
-    }
-    Err(Fail::from("neither the graph nor fail"))
 }
 
-const SEEDS: &str = "0 1 2 3 4 5 6 7 8 9 10 11 12 13 14 15 16 17 18 19 20";
+// Tells the choices of all seeds.
+fn told_of_seeds<R: AllocGlobal + Threads + Wait + Sync>(rt: &R) -> Answer {
+    let mut told = Answer::new(rt.alloc());
+    for seed in SEEDS.split(' ') {
+        put_choice(rt, seed, &mut told);
+    }
+    told
+}
 
 #[test]
 fn the_seed_chooses(rt: HostRuntime) -> Result<(), Fail> {
-    let mut gave = false;
-    let mut failed = false;
-    for seed in SEEDS.split(' ') {
-        let gives_now = gives(&rt, seed)?;
-        assert!(rt; gives(&rt, seed)? == gives_now, "{seed}");
-        gave = gave || gives_now;
-        failed = failed || !gives_now;
-    }
-    assert!(rt; gave && failed);
-    Ok(())
+    let told = told_of_seeds(&rt);
+    expect(
+        told.text() == told_of_seeds(&rt).text(),
+        "not by the seed alone",
+    )?;
+    expect(
+        told.text().contains(&b'g') && told.text().contains(&b'f'),
+        "one choice alone",
+    )?;
+    expect(!told.text().contains(&b'?'), "neither the graph nor fail")
 }

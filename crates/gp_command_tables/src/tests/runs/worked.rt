@@ -1,6 +1,6 @@
 //! Programs of the whole language on hosts, and what they show.
 
-use super::check_rows;
+use crate::tests::calls::check_rows;
 use std::test::Fail;
 
 const EDGES: &str = "Main = pair // calls it once

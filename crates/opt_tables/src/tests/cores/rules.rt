@@ -1,13 +1,12 @@
 //! Cores of two shares over the rules of a program.
 
-use super::{answer, ended};
-use crate::tests::texts::{Spelled, number_of, put_number, word_of};
+use super::told_by;
+use crate::tests::answers::Answer;
 use gp_journal::Trail;
 use gp_reader::read_program;
 use gp_samples::host_of;
-use gp_syntax::{Found, NumberKind};
-use gp_system::{CallGoal, Fault, Gp};
-use opt_core::{Core, Ending};
+use gp_system::{CallGoal, Gp};
+use opt_core::Core;
 use opt_system::Mode;
 use std::alloc::Global;
 use std::test::Fail;
@@ -111,78 +110,18 @@ const ON_RULES: [Row; 8] = [
     ),
 ];
 
-impl<'p> Spelled for Gp<'p> {
-    fn found(alloc: Global, word: &str) -> Result<Found, Fail> {
-        let mut numbers = word.split('/');
-        let rule = number_of(numbers.next())?;
-        let node = number_of(numbers.next())?;
-        let mut found = Found::new(alloc, rule);
-        found.push_node(u64::from(node))?;
-        Ok(found)
-    }
-
-    fn founds(alloc: Global, entries: &[Found]) -> Result<String, Fail> {
-        let mut text = String::from_str(alloc, "[")?;
-        for entry in entries {
-            let node = entry.nodes().first().unwrap_or(&0);
-            put_number(u64::from(entry.rule()), &mut text)?;
-            text.push_str("/")?;
-            put_number(*node, &mut text)?;
-        }
-        text.push_str("]")?;
-        Ok(text)
-    }
-
-    fn ended(alloc: Global, ending: &Ending<Fault>) -> Result<String, Fail> {
-        let mut text = String::from_str(alloc, word_of(Some(ending)))?;
-        if let Ending::Fault(fault) = ending {
-            text.push_str(" ")?;
-            put_number(u64::from(fault.rule), &mut text)?;
-            text.push_str(match fault.kind {
-                NumberKind::PastBits => " PastBits",
-                NumberKind::ZeroDivisor => " ZeroDivisor",
-            })?;
-        }
-        Ok(text)
-    }
-}
-
-// Sends the events to a new core over the rules.
-fn told_of_rules<'p>(
-    alloc: Global,
-    system: &Gp<'p>,
-    base: &Trail,
-    goal: CallGoal,
-    items: u64,
-    events: &str,
-) -> Result<String, Fail> {
-    let Ok(mut core) = Core::start(alloc, system, base.copy()?, goal, items) else {
-        return Err(Fail::from("no core was made"));
-    };
-    let mut entries = Vec::new(alloc);
-    let mut text = String::new(alloc);
-    for event in events.split(',') {
-        answer(
-            alloc,
-            system,
-            &mut core,
-            &mut entries,
-            base.copy()?,
-            event,
-            &mut text,
-        )?;
-    }
-    ended(alloc, core, text)
-}
-
 // What the events of a row are answered.
-fn told(alloc: Global, row: &Row) -> Result<String, Fail> {
+fn told_of_rules(alloc: Global, row: &Row) -> Result<Answer, Fail> {
     let (program, host, mode, items, events, _) = *row;
+    let goal = CallGoal { call: 0, mode };
     let base = Trail::new(alloc, host_of(alloc, host)?);
+    let mut at = base.copy()?;
     let program = read_program(alloc, program.as_bytes())?;
     let system = Gp::new(alloc, &program, 2)?;
-    let goal = CallGoal { call: 0, mode };
-    told_of_rules(alloc, &system, &base, goal, items, events)
+    match Core::start(alloc, &system, base.copy()?, goal, items) {
+        Ok(core) => Ok(told_by(alloc, &system, core, &base, &mut at, events)),
+        Err(_) => Err(Fail::new("no core was made")),
+    }
 }
 
 #[test]
@@ -190,7 +129,7 @@ fn cores_over_rules_answer_each_event_as_their_senders_were_told(
     rt: HostRuntime,
 ) -> Result<(), Fail> {
     for row in &ON_RULES {
-        assert_eq!(rt; told(rt.alloc(), row)?.as_str(), row.5);
+        told_of_rules(rt.alloc(), row)?.expect(row.5)?;
     }
     Ok(())
 }

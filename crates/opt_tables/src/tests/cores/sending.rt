@@ -1,182 +1,109 @@
 //! Events that are sent to a core, each of which is asked first whether it may come.
 
-ghost use Rattle.std.specs.Prelude.{◌≡◌, ◌≤◌, ◌++◌, IfSome, OnOk, length, take};
-ghost use Rattle.opt_core.specs.Core.{reached};
+ghost use Rattle.std.specs.Prelude.{◌≡◌, ◌≤◌, IsTrue, IfSome, length};
+ghost use Rattle.opt_core.specs.Core.{at_first};
 ghost use Rattle.opt_core.specs.Runs.{SameStart};
-ghost use Rattle.opt_tables.specs.inside.Added.{added};
+ghost use Rattle.opt_core.specs.Steps.{MayCome};
+ghost use Rattle.opt_core.specs.declared.event.Event.TheVariants as event;
+ghost use Rattle.opt_tables.specs.inside.Told.{told_of};
 
-use crate::tests::replicas::follow;
-use gp_memory::NoMemory;
 use opt_core::{Core, Event, Reply};
 use opt_system::{Sought, System, Verdict};
 
-// The state after the first `told` entries, by replaying them on the base.
-fn replayed<S: System>(
-    s: &S,
-    goal: S::Goal,
-    base: S::State,
-    entries: &[S::Found],
-    told: u64,
-) -> Option<S::State>
-    ensures { IfSome result (λ at. (told ≤ length entries.now) × (at ≡ reached (S.means s.now) base (take told entries.now))) }
+// The number of entries that the sender was told of.
+fn told_of<F>(event: &Event<F>) -> u64
+    ensures { result ≡ told_of event.now }
 {
-    if told > entries.len() as u64 {
-        return None;
+    match event {
+        Event::Look { told, from: _ } => *told,
+        Event::Offer { told, found: _ } => *told,
+        Event::Fault { told, found: _ } => *told,
+        Event::Quiet { told, share: _ } => *told,
+        Event::Stop => 0,
     }
-    let mut at = base;
-    if !follow(s, goal, &mut at, &entries[..told as usize]) {
-        return None;
-    }
-    Some(at)
 }
 
-/// The answer to Look.
-pub(crate) fn look<S: System>(
-    s: &S,
-    core: &mut Core<S>,
-    entries: &[S::Found],
-    told: u64,
-    from: u32,
-) -> Option<Reply<S::Found, S::Reason>>
-    requires system { s.now ≡ core.old.system }
-    requires entries { entries.now ≡ core.old.entries }
-    ensures start { SameStart core.old core.new }
-    ensures entries { core.new.entries ≡ entries.now }
+// Whether an event may come, whose sender was told of the entries up to this state.
+fn may_come<S: System>(s: &S, core: &Core<S>, at: &S::State, event: &Event<S::Found>) -> bool
+    requires told { told_of event.now ≤ length core.now.entries }
+    requires at { at.now ≡ at_first (S.means s.now) core.now (told_of event.now) }
+    ensures { IsTrue result → MayCome (S.means s.now) core.now event.now }
 {
-    if told > entries.len() as u64 {
-        return None;
-    }
-    let _legal = core.ending();
-    Some(core.step(s, Event::Look { told, from }))
-}
-
-/// The answer to Stop.
-pub(crate) fn stop<S: System>(s: &S, core: &mut Core<S>) -> Reply<S::Found, S::Reason>
-    requires system { s.now ≡ core.old.system }
-    ensures start { SameStart core.old core.new }
-    ensures entries { core.new.entries ≡ core.old.entries }
-{
-    let _legal = core.ending();
-    core.step(s, Event::Stop)
-}
-
-// The answer to Quiet, if the share is barren.
-fn quiet<S: System>(
-    s: &S,
-    core: &mut Core<S>,
-    entries: &[S::Found],
-    base: S::State,
-    told: u64,
-    share: u32,
-) -> Option<Reply<S::Found, S::Reason>>
-    requires system { s.now ≡ core.old.system }
-    requires entries { entries.now ≡ core.old.entries }
-    requires base { base ≡ core.old.base }
-    ensures start { SameStart core.old core.new }
-    ensures entries { core.new.entries ≡ entries.now }
-{
-    let _legal = core.ending();
     let goal = core.goal();
-    let at = replayed(s, goal, base, entries, told)?;
-    if share >= s.shares(goal) {
-        return None;
+    match event {
+        Event::Offer { told: _, found } => matches!(s.check(goal, at, found), Verdict::Applies),
+        Event::Fault { told: _, found } => matches!(s.check(goal, at, found), Verdict::Faulty(_)),
+        Event::Quiet { told: _, share } => {
+            *share < s.shares(goal) && matches!(s.seek(goal, *share, at), Sought::Barren)
+        }
+        Event::Look { told: _, from: _ } => true,
+        Event::Stop => true,
     }
-    let Sought::Barren = s.seek(goal, share, &at) else {
-        return None;
-    };
-    Some(core.step(s, Event::Quiet { told, share }))
 }
 
-// The answer to Fault, if the match is faulty.
-fn fault<S: System>(
-    s: &S,
-    core: &mut Core<S>,
-    entries: &[S::Found],
-    base: S::State,
-    told: u64,
-    found: S::Found,
-) -> Option<Reply<S::Found, S::Reason>>
-    requires system { s.now ≡ core.old.system }
-    requires entries { entries.now ≡ core.old.entries }
-    requires base { base ≡ core.old.base }
-    ensures start { SameStart core.old core.new }
-    ensures entries { core.new.entries ≡ entries.now }
+// Makes the step of a match, if it applies. Whether it was made.
+fn is_made<S: System>(s: &S, goal: S::Goal, at: &mut S::State, found: &S::Found) -> bool
+    ensures { IsTrue result → at.new ≡ (S.means s.now).after at.old found.now }
 {
-    let _legal = core.ending();
-    let goal = core.goal();
-    let at = replayed(s, goal, base, entries, told)?;
-    let Verdict::Faulty(_) = s.check(goal, &at, &found) else {
-        return None;
-    };
-    Some(core.step(s, Event::Fault { told, found }))
+    matches!(s.check(goal, at, found), Verdict::Applies) && s.apply(at, found).is_ok()
 }
 
-// Notes the match where it was committed.
-fn note<F: Drop, R>(entries: &mut Vec<F>, found: F, reply: &Reply<F, R>) -> Result<(), NoMemory>
-    ensures { OnOk result (entries.new.items ≡ entries.old.items ++ added found reply.now) }
-{
-    match reply {
-        Reply::Committed(_) => entries.push(found)?,
-        Reply::News {
-            entries: _,
-            task: _,
-        } => {}
-        Reply::Stale(_) => {}
-        Reply::Noted => {}
-        Reply::Closed(_) => {}
-        Reply::NoMemory => {}
-    }
-    Ok(())
-}
-
-// The answer to Offer, if the match applies. It is noted where it was committed.
+// The answer to an offer that may come. What it commits is made on the state that follows, if that is still known.
 fn offer<S: System>(
     s: &S,
     core: &mut Core<S>,
-    entries: &mut Vec<S::Found>,
-    base: S::State,
+    at: &mut S::State,
+    count: &mut Option<u64>,
     told: u64,
     found: S::Found,
-) -> Result<Option<Reply<S::Found, S::Reason>>, NoMemory>
+) -> Reply<S::Found, S::Reason>
     requires system { s.now ≡ core.old.system }
-    requires entries { entries.old.items ≡ core.old.entries }
-    requires base { base ≡ core.old.base }
+    requires offer { MayCome (S.means s.now) core.old (event.Offer told found) }
+    requires at { IfSome count.old (λ n. (n ≡ length core.old.entries) × (at.old ≡ core.old.state)) }
     ensures start { SameStart core.old core.new }
-    ensures entries { OnOk result (core.new.entries ≡ entries.new.items) }
+    ensures at { IfSome count.new (λ n. (n ≡ length core.new.entries) × (at.new ≡ core.new.state)) }
 {
-    let _legal = core.ending();
     let goal = core.goal();
-    let Some(at) = replayed(s, goal, base, entries, told) else {
-        return Ok(None);
-    };
-    let Verdict::Applies = s.check(goal, &at, &found) else {
-        return Ok(None);
-    };
-    let kept = s.copy(&found)?;
+    let kept = s.copy(&found);
     let reply = core.step(s, Event::Offer { told, found });
-    note(entries, kept, &reply)?;
-    Ok(Some(reply))
+    if let Reply::Committed(place) = &reply {
+        *count = match &kept {
+            Ok(found) if count.is_some() && is_made(s, goal, at, found) => place.checked_add(1),
+            _ => None,
+        };
+    }
+    reply
 }
 
-/// The answer to the event, if it may come. What it commits is noted.
+/// The answer to an event, if it may come. Its sender was told of no entry, where the state is the base, or of all, where
+/// it is `at`, after `count` entries. What the event commits is made there; none is counted where that was refused.
 pub(crate) fn send<S: System>(
     s: &S,
     core: &mut Core<S>,
-    entries: &mut Vec<S::Found>,
-    base: S::State,
+    base: &S::State,
+    at: &mut S::State,
+    count: &mut Option<u64>,
     event: Event<S::Found>,
-) -> Result<Option<Reply<S::Found, S::Reason>>, NoMemory>
+) -> Option<Reply<S::Found, S::Reason>>
     requires system { s.now ≡ core.old.system }
-    requires entries { entries.old.items ≡ core.old.entries }
-    requires base { base ≡ core.old.base }
+    requires base { base.now ≡ core.old.base }
+    requires at { IfSome count.old (λ n. (n ≡ length core.old.entries) × (at.old ≡ core.old.state)) }
     ensures start { SameStart core.old core.new }
-    ensures entries { OnOk result (core.new.entries ≡ entries.new.items) }
+    ensures at { IfSome count.new (λ n. (n ≡ length core.new.entries) × (at.new ≡ core.new.state)) }
 {
-    match event {
-        Event::Look { told, from } => Ok(look(s, core, entries, told, from)),
-        Event::Offer { told, found } => offer(s, core, entries, base, told, found),
-        Event::Fault { told, found } => Ok(fault(s, core, entries, base, told, found)),
-        Event::Quiet { told, share } => Ok(quiet(s, core, entries, base, told, share)),
-        Event::Stop => Ok(Some(stop(s, core))),
+    let _legal = core.ending();
+    let may_come = match told_of(&event) {
+        0 => may_come(s, core, base, &event),
+        told => *count == Some(told) && may_come(s, core, at, &event),
+    };
+    if !may_come {
+        return None;
     }
+    Some(match event {
+        Event::Offer { told, found } => offer(s, core, at, count, told, found),
+        Event::Look { told, from } => core.step(s, Event::Look { told, from }),
+        Event::Fault { told, found } => core.step(s, Event::Fault { told, found }),
+        Event::Quiet { told, share } => core.step(s, Event::Quiet { told, share }),
+        Event::Stop => core.step(s, Event::Stop),
+    })
 }
