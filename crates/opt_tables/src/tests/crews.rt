@@ -123,14 +123,14 @@ fn a_goal_of_one_match_gets_one_by_any_number_of_workers(rt: HostRuntime) -> Res
     Ok(())
 }
 
-// What is told of two workers that are held to search at the same time, whether they did, and whether the first report
-// of worker 0 committed its match.
+// What is told of two workers that are held to search at the same time and whether they did; and whether the first report
+// of worker 0 committed its match, if it made one.
 fn held<R: Threads + Wait + Sync>(
     rt: &R,
     alloc: Global,
     count: usize,
     items: u64,
-) -> Result<Answer, NoMemory> {
+) -> Result<(Answer, Option<bool>), NoMemory> {
     let pace = Held::new(100_000_000);
     let mut told = pursued(rt, alloc, (2, Mode::Saturate), count, items, &pace)?;
     told.put(if pace.was_late() {
@@ -138,26 +138,22 @@ fn held<R: Threads + Wait + Sync>(
     } else {
         ", in time"
     });
-    told.put(match pace.first_of_zero() {
-        Some(true) => ", first committed",
-        Some(false) => ", first stale",
-        None => ", nothing reported",
-    });
-    Ok(told)
+    Ok((told, pace.first_of_zero()))
 }
 
 #[test]
 fn two_workers_search_at_the_same_time(rt: HostRuntime) -> Result<(), Fail> {
-    held(&rt, rt.alloc(), 2, 10)?.expect(
-        "2 of all, 6 left, blocked, all follow, in time, first committed",
-    )
+    let (told, _) = held(&rt, rt.alloc(), 2, 10)?;
+    told.expect("2 of all, 6 left, blocked, all follow, in time")
 }
 
 #[test]
 fn a_worker_whose_share_is_barren_is_given_the_other_share(rt: HostRuntime) -> Result<(), Fail> {
-    held(&rt, rt.alloc(), 1, 2)?.expect(
-        "1 of all, 0 left, blocked, all follow, in time, first stale",
-    )
+    let (mut told, first) = held(&rt, rt.alloc(), 1, 2)?;
+    if first == Some(false) {
+        told.put(", first stale");
+    }
+    told.expect("1 of all, 0 left, blocked, all follow, in time, first stale")
 }
 
 #[test]
