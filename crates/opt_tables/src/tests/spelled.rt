@@ -16,8 +16,8 @@ pub(crate) trait Spelled: System {
     /// Writes a match.
     fn put_found(found: &Self::Found, told: &mut Answer);
 
-    /// Writes the reason of a fault.
-    fn put_reason(reason: Self::Reason, told: &mut Answer);
+    /// Writes the reason of a fault, where there is one.
+    fn put_reason(reason: Option<Self::Reason>, told: &mut Answer);
 }
 
 impl Spelled for Cells {
@@ -29,7 +29,7 @@ impl Spelled for Cells {
         told.put_number(*found as u64);
     }
 
-    fn put_reason(_reason: Never, _told: &mut Answer) {}
+    fn put_reason(_reason: Option<Never>, _told: &mut Answer) {}
 }
 
 impl Spelled for Traps {
@@ -41,8 +41,10 @@ impl Spelled for Traps {
         told.put_number(*found);
     }
 
-    fn put_reason(reason: u64, told: &mut Answer) {
-        told.put_number(reason);
+    fn put_reason(reason: Option<u64>, told: &mut Answer) {
+        if let Some(reason) = reason {
+            told.put_number(reason);
+        }
     }
 }
 
@@ -61,12 +63,14 @@ impl<'p> Spelled for Gp<'p> {
         told.put_number(*found.nodes().first().unwrap_or(&0));
     }
 
-    fn put_reason(reason: Fault, told: &mut Answer) {
-        told.put_number(u64::from(reason.rule));
-        told.put(match reason.kind {
-            NumberKind::PastBits => " PastBits",
-            NumberKind::ZeroDivisor => " ZeroDivisor",
-        });
+    fn put_reason(reason: Option<Fault>, told: &mut Answer) {
+        if let Some(reason) = reason {
+            told.put_number(u64::from(reason.rule));
+            told.put(match reason.kind {
+                NumberKind::PastBits => " PastBits",
+                NumberKind::ZeroDivisor => " ZeroDivisor",
+            });
+        }
     }
 }
 
@@ -127,7 +131,7 @@ pub(crate) fn word_of<R>(ending: Option<&Ending<R>>) -> &'static str {
 pub(crate) fn put_ending<S: Spelled>(ending: Option<&Ending<S::Reason>>, told: &mut Answer) {
     told.put(word_of(ending));
     if let Some(Ending::Fault(reason)) = ending {
-        S::put_reason(*reason, told);
+        S::put_reason(Some(*reason), told);
     }
 }
 
@@ -137,7 +141,7 @@ pub(crate) fn put_verdict<S: Spelled>(verdict: &Verdict<S::Reason>, told: &mut A
         Verdict::Applies => told.put("applies"),
         Verdict::Faulty(reason) => {
             told.put("faulty ");
-            S::put_reason(*reason, told);
+            S::put_reason(Some(*reason), told);
         }
         Verdict::No => told.put("no"),
         Verdict::NoMemory => told.put("no memory"),
