@@ -339,6 +339,18 @@ fn read_negated(
     read_test(tokens, lists)
 }
 
+// "and" Neg
+#[cycle(condition)]
+fn read_further_negation(
+    tokens: &mut Tokens<'_, '_>,
+    inside: (u64, u64),
+) -> Result<Ranged<CondTree>, ReadError>
+    ensures { Reads (reader_of (behind and_word (spec.negation (list inside.0) inside.1)) tokens.old) result tokens.new }
+{
+    tokens.expect(AND)?;
+    read_negation(tokens, inside.0, inside.1)
+}
+
 // Conj = Neg {"and" Neg}
 #[cycle(condition)]
 #[tactic(auto, unfolding(crate::specs::Conditions::conjunction))]
@@ -350,17 +362,20 @@ fn read_conjunction(
     ensures { Reads (reader_of (spec.conjunction (spec.negation (list lists) room)) tokens.old) result tokens.new }
 {
     let first = read_negation(tokens, lists, room)?;
-    let rest = repeated_by(
-        tokens,
-        AND,
-        |tokens: &mut Tokens<'_, '_>| -> Result<Ranged<CondTree>, ReadError>
-            ensures { Reads (reader_of (behind and_word (spec.negation (list lists) room)) tokens.old) result tokens.new }
-        {
-            tokens.expect(AND)?;
-            read_negation(tokens, lists, room)
-        },
-    )?;
+    let rest = repeated_by(tokens, AND, (lists, room), read_further_negation)?;
     chain(tokens.alloc(), Joint::And, first, rest)
+}
+
+// "or" Conj
+#[cycle(condition)]
+fn read_further_conjunction(
+    tokens: &mut Tokens<'_, '_>,
+    inside: (u64, u64),
+) -> Result<Ranged<CondTree>, ReadError>
+    ensures { Reads (reader_of (behind or_word (spec.conjunction (spec.negation (list inside.0) inside.1))) tokens.old) result tokens.new }
+{
+    tokens.expect(OR)?;
+    read_conjunction(tokens, inside.0, inside.1)
 }
 
 /// Cond = Conj {"or" Conj}
@@ -374,15 +389,6 @@ pub fn read_condition(
     ensures { Reads (reader_of (spec.condition lists room) tokens.old) result tokens.new }
 {
     let first = read_conjunction(tokens, lists, room)?;
-    let rest = repeated_by(
-        tokens,
-        OR,
-        |tokens: &mut Tokens<'_, '_>| -> Result<Ranged<CondTree>, ReadError>
-            ensures { Reads (reader_of (behind or_word (spec.conjunction (spec.negation (list lists) room))) tokens.old) result tokens.new }
-        {
-            tokens.expect(OR)?;
-            read_conjunction(tokens, lists, room)
-        },
-    )?;
+    let rest = repeated_by(tokens, OR, (lists, room), read_further_conjunction)?;
     chain(tokens.alloc(), Joint::Or, first, rest)
 }

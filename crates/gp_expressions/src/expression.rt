@@ -278,6 +278,18 @@ fn read_unary(tokens: &mut Tokens<'_, '_>, room: u64) -> Result<Ranged<Expr<Name
     read_operand(tokens, room)
 }
 
+// "/" Unary
+#[cycle(expression)]
+fn read_divisor(
+    tokens: &mut Tokens<'_, '_>,
+    room: u64,
+) -> Result<Ranged<Signed<ProductSign, Expr<Name>>>, ReadError>
+    ensures { Reads (reader_of (spec.behind slash (Made (spec.signed_by products.Over) (spec.unary (spec.operand room)))) tokens.old) result tokens.new }
+{
+    tokens.expect(SLASH)?;
+    signed(ProductSign::Over, read_unary(tokens, room))
+}
+
 // Unary {"/" Unary}
 #[cycle(expression)]
 #[tactic(auto, unfolding(crate::specs::Expressions::quotients))]
@@ -288,16 +300,7 @@ fn read_quotients(
     ensures { Reads (reader_of (spec.quotients (spec.operand room)) tokens.old) result tokens.new }
 {
     let first = signed(ProductSign::Times, read_unary(tokens, room))?;
-    let rest = repeated_by(
-        tokens,
-        SLASH,
-        |tokens: &mut Tokens<'_, '_>| -> Result<Ranged<Signed<ProductSign, Expr<Name>>>, ReadError>
-            ensures { Reads (reader_of (spec.behind slash (Made (spec.signed_by products.Over) (spec.unary (spec.operand room)))) tokens.old) result tokens.new }
-        {
-            tokens.expect(SLASH)?;
-            signed(ProductSign::Over, read_unary(tokens, room))
-        },
-    )?;
+    let rest = repeated_by(tokens, SLASH, room, read_divisor)?;
     gather_behind(tokens.alloc(), first, rest)
 }
 
@@ -307,17 +310,20 @@ fn read_quotients(
 fn read_product(tokens: &mut Tokens<'_, '_>, room: u64) -> Result<Ranged<Expr<Name>>, ReadError>
     ensures { Reads (reader_of (spec.product (spec.operand room)) tokens.old) result tokens.new }
 {
-    let rows = separated_by(
-        tokens,
-        STAR,
-        |tokens: &mut Tokens<'_, '_>| -> Result<
-            Ranged<Items<Signed<ProductSign, Expr<Name>>>>,
-            ReadError,
-        >
-            ensures { Reads (reader_of (spec.quotients (spec.operand room)) tokens.old) result tokens.new }
-        { read_quotients(tokens, room) },
-    )?;
+    let rows = separated_by(tokens, STAR, room, read_quotients)?;
     product_of(tokens.alloc(), rows)
+}
+
+// "-" Prod
+#[cycle(expression)]
+fn read_subtrahend(
+    tokens: &mut Tokens<'_, '_>,
+    room: u64,
+) -> Result<Ranged<Signed<SumSign, Expr<Name>>>, ReadError>
+    ensures { Reads (reader_of (spec.behind minus (Made (spec.signed_by sums.Minus) (spec.product (spec.operand room)))) tokens.old) result tokens.new }
+{
+    tokens.expect(MINUS)?;
+    signed(SumSign::Minus, read_product(tokens, room))
 }
 
 // Prod {"-" Prod}
@@ -330,16 +336,7 @@ fn read_differences(
     ensures { Reads (reader_of (spec.differences (spec.operand room)) tokens.old) result tokens.new }
 {
     let first = signed(SumSign::Plus, read_product(tokens, room))?;
-    let rest = repeated_by(
-        tokens,
-        MINUS,
-        |tokens: &mut Tokens<'_, '_>| -> Result<Ranged<Signed<SumSign, Expr<Name>>>, ReadError>
-            ensures { Reads (reader_of (spec.behind minus (Made (spec.signed_by sums.Minus) (spec.product (spec.operand room)))) tokens.old) result tokens.new }
-        {
-            tokens.expect(MINUS)?;
-            signed(SumSign::Minus, read_product(tokens, room))
-        },
-    )?;
+    let rest = repeated_by(tokens, MINUS, room, read_subtrahend)?;
     gather_behind(tokens.alloc(), first, rest)
 }
 
@@ -349,16 +346,7 @@ fn read_differences(
 fn read_sum(tokens: &mut Tokens<'_, '_>, room: u64) -> Result<Ranged<Expr<Name>>, ReadError>
     ensures { Reads (reader_of (spec.sum (spec.operand room)) tokens.old) result tokens.new }
 {
-    let rows = separated_by(
-        tokens,
-        PLUS,
-        |tokens: &mut Tokens<'_, '_>| -> Result<
-            Ranged<Items<Signed<SumSign, Expr<Name>>>>,
-            ReadError,
-        >
-            ensures { Reads (reader_of (spec.differences (spec.operand room)) tokens.old) result tokens.new }
-        { read_differences(tokens, room) },
-    )?;
+    let rows = separated_by(tokens, PLUS, room, read_differences)?;
     sum_of(tokens.alloc(), rows)
 }
 
@@ -368,13 +356,7 @@ fn read_sum(tokens: &mut Tokens<'_, '_>, room: u64) -> Result<Ranged<Expr<Name>>
 fn read_dots(tokens: &mut Tokens<'_, '_>, room: u64) -> Result<Ranged<Expr<Name>>, ReadError>
     ensures { Reads (reader_of (spec.dots (spec.operand room)) tokens.old) result tokens.new }
 {
-    let parts = separated_by(
-        tokens,
-        DOT,
-        |tokens: &mut Tokens<'_, '_>| -> Result<Ranged<Expr<Name>>, ReadError>
-            ensures { Reads (reader_of (spec.sum (spec.operand room)) tokens.old) result tokens.new }
-        { read_sum(tokens, room) },
-    )?;
+    let parts = separated_by(tokens, DOT, room, read_sum)?;
     dotted(tokens.alloc(), parts)
 }
 
@@ -384,12 +366,6 @@ fn read_dots(tokens: &mut Tokens<'_, '_>, room: u64) -> Result<Ranged<Expr<Name>
 pub fn read_list(tokens: &mut Tokens<'_, '_>, room: u64) -> Result<Ranged<Expr<Name>>, ReadError>
     ensures { Reads (reader_of (spec.list room) tokens.old) result tokens.new }
 {
-    let parts = separated_by(
-        tokens,
-        COLON,
-        |tokens: &mut Tokens<'_, '_>| -> Result<Ranged<Expr<Name>>, ReadError>
-            ensures { Reads (reader_of (spec.dots (spec.operand room)) tokens.old) result tokens.new }
-        { read_dots(tokens, room) },
-    )?;
+    let parts = separated_by(tokens, COLON, room, read_dots)?;
     colon_joined(tokens.alloc(), parts)
 }

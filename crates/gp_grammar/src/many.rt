@@ -10,40 +10,42 @@ use crate::error::ReadError;
 use crate::want::Want;
 
 /// As many as there are, each of which begins with the token that is wanted.
-pub fn repeated_by<'t, T: Drop, F: Fn(&mut Tokens<'_, 't>) -> Result<T, ReadError>>(
+pub fn repeated_by<'t, C: Copy, T: Drop, F: Fn(&mut Tokens<'_, 't>, C) -> Result<T, ReadError>>(
     tokens: &mut Tokens<'_, 't>,
     want: Want,
+    inside: C,
     read: F,
 ) -> Result<Vec<T>, ReadError>
-    requires { F.IsAlwaysCallable read }
-    ensures { (one : List Token → Option (T × List Token)) → IsReading (F.post read) one → ReadsAs (λ v. v.items) (spec.repeated want one tokens.old) result tokens.new }
+    requires { (ts : _) → F.pre read ts inside }
+    ensures { (one : List Token → Option (T × List Token)) → IsReading (F.post read) inside one → ReadsAs (λ v. v.items) (spec.repeated want one tokens.old) result tokens.new }
 {
     let mut found = Vec::new(tokens.alloc());
     'each: for _ in 0..tokens.count() {
         if !tokens.begins(want) {
             break;
         }
-        found.push(read(tokens)?)?;
+        found.push(read(tokens, inside)?)?;
     }
     Ok(found)
 }
 
 /// One, and another behind each sign.
-pub fn separated_by<'t, T: Drop, F: Fn(&mut Tokens<'_, 't>) -> Result<T, ReadError>>(
+pub fn separated_by<'t, C: Copy, T: Drop, F: Fn(&mut Tokens<'_, 't>, C) -> Result<T, ReadError>>(
     tokens: &mut Tokens<'_, 't>,
     sign: Want,
+    inside: C,
     read: F,
 ) -> Result<Vec<T>, ReadError>
-    requires { F.IsAlwaysCallable read }
-    ensures { (one : List Token → Option (T × List Token)) → IsReading (F.post read) one → ReadsAs (λ v. v.items) (spec.separated sign one tokens.old) result tokens.new }
+    requires { (ts : _) → F.pre read ts inside }
+    ensures { (one : List Token → Option (T × List Token)) → IsReading (F.post read) inside one → ReadsAs (λ v. v.items) (spec.separated sign one tokens.old) result tokens.new }
 {
     let mut found = Vec::with_capacity(tokens.alloc(), 1)?;
-    found.push(read(tokens)?)?;
+    found.push(read(tokens, inside)?)?;
     'each: for _ in 0..tokens.count() {
         if !tokens.eat(sign) {
             break;
         }
-        found.push(read(tokens)?)?;
+        found.push(read(tokens, inside)?)?;
     }
     Ok(found)
 }

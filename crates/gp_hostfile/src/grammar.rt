@@ -27,7 +27,7 @@ const LESS: Want = Want::Kind(Kind::Less);
 
 // Atom = ["-"] Number | String
 #[tactic(auto, unfolding(crate::specs::Grammar::atom))]
-fn read_atom(tokens: &mut Tokens<'_, '_>) -> Result<AtomTree, ReadError>
+fn read_atom(tokens: &mut Tokens<'_, '_>, _nothing: ()) -> Result<AtomTree, ReadError>
     ensures { Reads (reader_of spec.atom tokens.old) result tokens.new }
 {
     let negative = tokens.eat(MINUS);
@@ -50,7 +50,7 @@ fn read_atoms(tokens: &mut Tokens<'_, '_>) -> Result<AtomTrees, ReadError>
     if tokens.eat(Want::Keyword(Keyword::Empty)) {
         return Ok(AtomTrees::new(tokens.alloc()));
     }
-    let atoms = separated_by(tokens, Want::Kind(Kind::Colon), read_atom)?;
+    let atoms = separated_by(tokens, Want::Kind(Kind::Colon), (), read_atom)?;
     Ok(AtomTrees::from_vec(atoms))
 }
 
@@ -128,7 +128,7 @@ fn read_root(tokens: &mut Tokens<'_, '_>) -> Result<bool, ReadError>
 
 // Node = "(" Item ["(" "R" ")"] "," Label [Position] ")"
 #[tactic(auto, unfolding(crate::specs::Grammar::node))]
-fn read_node<'t>(tokens: &mut Tokens<'_, 't>) -> Result<NodeTree<'t>, ReadError>
+fn read_node<'t>(tokens: &mut Tokens<'_, 't>, _nothing: ()) -> Result<NodeTree<'t>, ReadError>
     ensures { Reads (reader_of spec.node tokens.old) result tokens.new }
 {
     tokens.expect(OPEN)?;
@@ -148,7 +148,7 @@ fn read_node<'t>(tokens: &mut Tokens<'_, 't>) -> Result<NodeTree<'t>, ReadError>
 
 // Edge = "(" Item "," Item "," Item "," Label ")"
 #[tactic(auto, unfolding(crate::specs::Grammar::edge))]
-fn read_edge<'t>(tokens: &mut Tokens<'_, 't>) -> Result<EdgeTree<'t>, ReadError>
+fn read_edge<'t>(tokens: &mut Tokens<'_, 't>, _nothing: ()) -> Result<EdgeTree<'t>, ReadError>
     ensures { Reads (reader_of spec.edge tokens.old) result tokens.new }
 {
     tokens.expect(OPEN)?;
@@ -173,14 +173,14 @@ fn read_edge<'t>(tokens: &mut Tokens<'_, 't>) -> Result<EdgeTree<'t>, ReadError>
 fn read_nodes<'t>(tokens: &mut Tokens<'_, 't>) -> Result<Vec<NodeTree<'t>>, ReadError>
     ensures { ReadsAs (λ x. x.items) (reader_of spec.nodes tokens.old) result tokens.new }
 {
-    repeated_by(tokens, OPEN, read_node)
+    repeated_by(tokens, OPEN, (), read_node)
 }
 
 #[tactic(auto, unfolding(crate::specs::Grammar::edges))]
 fn read_edges<'t>(tokens: &mut Tokens<'_, 't>) -> Result<Vec<EdgeTree<'t>>, ReadError>
     ensures { ReadsAs (λ x. x.items) (reader_of spec.edges tokens.old) result tokens.new }
 {
-    repeated_by(tokens, OPEN, read_edge)
+    repeated_by(tokens, OPEN, (), read_edge)
 }
 
 // {Node} "|" {Edge} "]"

@@ -98,13 +98,7 @@ fn read_rule_names(tokens: &mut Tokens<'_, '_>) -> Result<Items<Name>, ReadError
     ensures { Reads (reader_of spec.rule_names tokens.old) result tokens.new }
 {
     if tokens.begins(Want::RuleName) {
-        let names = separated_by(
-            tokens,
-            COMMA,
-            |tokens: &mut Tokens<'_, '_>| -> Result<Name, ReadError>
-                ensures { Reads (reader_of (name wants.RuleName) tokens.old) result tokens.new }
-            { read_name(tokens, Want::RuleName) },
-        )?;
+        let names = separated_by(tokens, COMMA, Want::RuleName, read_name)?;
         return Ok(Items::from_vec(names));
     }
     Ok(Items::new(tokens.alloc()))
@@ -195,13 +189,7 @@ fn read_simple(tokens: &mut Tokens<'_, '_>, room: u64) -> Result<CommandTree, Re
 fn read_block(tokens: &mut Tokens<'_, '_>, room: u64) -> Result<CommandTree, ReadError>
     ensures { Reads (reader_of (spec.block (spec.simple room)) tokens.old) result tokens.new }
 {
-    let parts = separated_by(
-        tokens,
-        OR,
-        |tokens: &mut Tokens<'_, '_>| -> Result<CommandTree, ReadError>
-            ensures { Reads (reader_of (spec.simple room) tokens.old) result tokens.new }
-        { read_simple(tokens, room) },
-    )?;
+    let parts = separated_by(tokens, OR, room, read_simple)?;
     choice(tokens.alloc(), parts)
 }
 
@@ -258,12 +246,6 @@ pub(crate) fn read_commands(
 ) -> Result<CommandTree, ReadError>
     ensures { Reads (reader_of (spec.commands_of room) tokens.old) result tokens.new }
 {
-    let parts = separated_by(
-        tokens,
-        SEMICOLON,
-        |tokens: &mut Tokens<'_, '_>| -> Result<CommandTree, ReadError>
-            ensures { Reads (reader_of (spec.command (spec.simple room)) tokens.old) result tokens.new }
-        { read_command(tokens, room) },
-    )?;
+    let parts = separated_by(tokens, SEMICOLON, room, read_command)?;
     sequence(tokens.alloc(), parts)
 }

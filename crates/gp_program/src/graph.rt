@@ -145,13 +145,7 @@ fn read_edge(tokens: &mut Tokens<'_, '_>, lists: u64) -> Result<Ranged<EdgeDecl>
 fn read_nodes(tokens: &mut Tokens<'_, '_>, lists: u64) -> Result<Ranged<Items<NodeDecl>>, ReadError>
     ensures { Reads (reader_of (spec.nodes (list lists)) tokens.old) result tokens.new }
 {
-    let nodes = repeated_by(
-        tokens,
-        OPEN,
-        |tokens: &mut Tokens<'_, '_>| -> Result<Ranged<NodeDecl>, ReadError>
-            ensures { Reads (reader_of (spec.node (list lists)) tokens.old) result tokens.new }
-        { read_node(tokens, lists) },
-    )?;
+    let nodes = repeated_by(tokens, OPEN, lists, read_node)?;
     Ok(gather(tokens.alloc(), nodes)?)
 }
 
@@ -159,13 +153,7 @@ fn read_nodes(tokens: &mut Tokens<'_, '_>, lists: u64) -> Result<Ranged<Items<No
 fn read_edges(tokens: &mut Tokens<'_, '_>, lists: u64) -> Result<Ranged<Items<EdgeDecl>>, ReadError>
     ensures { Reads (reader_of (spec.edges (list lists)) tokens.old) result tokens.new }
 {
-    let edges = repeated_by(
-        tokens,
-        OPEN,
-        |tokens: &mut Tokens<'_, '_>| -> Result<Ranged<EdgeDecl>, ReadError>
-            ensures { Reads (reader_of (spec.edge (list lists)) tokens.old) result tokens.new }
-        { read_edge(tokens, lists) },
-    )?;
+    let edges = repeated_by(tokens, OPEN, lists, read_edge)?;
     Ok(gather(tokens.alloc(), edges)?)
 }
 

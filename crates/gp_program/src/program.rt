@@ -15,24 +15,25 @@ use gp_syntax::{Ast, Decl, Items};
 use gp_tokens::Kind;
 use std::alloc::Global;
 
+fn read_rule_declaration(
+    tokens: &mut Tokens<'_, '_>,
+    room: u64,
+) -> Result<Ranged<Decl>, ReadError>
+    ensures { Reads (reader_of (Made spec.rule_decl (rule room)) tokens.old) result tokens.new }
+{
+    let rule = read_rule(tokens, room)?;
+    Ok(Ranged {
+        tree: Decl::Rule(rule.tree),
+        past: rule.past,
+    })
+}
+
 // {RuleDecl}
 #[tactic(auto, unfolding(crate::specs::Programs::rules))]
 fn read_rules(tokens: &mut Tokens<'_, '_>, room: u64) -> Result<Ranged<Items<Decl>>, ReadError>
     ensures { Reads (reader_of (spec.rules room) tokens.old) result tokens.new }
 {
-    let rules = repeated_by(
-        tokens,
-        Want::RuleName,
-        |tokens: &mut Tokens<'_, '_>| -> Result<Ranged<Decl>, ReadError>
-            ensures { Reads (reader_of (Made spec.rule_decl (rule room)) tokens.old) result tokens.new }
-        {
-            let rule = read_rule(tokens, room)?;
-            Ok(Ranged {
-                tree: Decl::Rule(rule.tree),
-                past: rule.past,
-            })
-        },
-    )?;
+    let rules = repeated_by(tokens, Want::RuleName, room, read_rule_declaration)?;
     let rules = gather(tokens.alloc(), rules)?;
     Ok(rules)
 }
@@ -100,13 +101,12 @@ fn read_procedure(
 #[tactic(auto, unfolding(crate::specs::Programs::procedure_group))]
 fn read_group(
     tokens: &mut Tokens<'_, '_>,
-    room: u64,
-    inside: u64,
+    depths: (u64, u64),
 ) -> Result<Ranged<Items<Decl>>, ReadError>
-    ensures { Reads (reader_of (spec.procedure_group room (spec.declarations room inside)) tokens.old) result tokens.new }
+    ensures { Reads (reader_of (spec.procedure_group depths.0 (spec.declarations depths.0 depths.1)) tokens.old) result tokens.new }
 {
-    let procedure = read_procedure(tokens, room, inside)?;
-    let rules = read_rules(tokens, room)?;
+    let procedure = read_procedure(tokens, depths.0, depths.1)?;
+    let rules = read_rules(tokens, depths.0)?;
     procedure_first(tokens.alloc(), procedure, rules)
 }
 
@@ -121,13 +121,7 @@ fn read_declarations_in(
     ensures { Reads (reader_of (spec.declarations_in room (spec.declarations room inside)) tokens.old) result tokens.new }
 {
     let rules = read_rules(tokens, room)?;
-    let groups = repeated_by(
-        tokens,
-        Want::ProcedureName,
-        |tokens: &mut Tokens<'_, '_>| -> Result<Ranged<Items<Decl>>, ReadError>
-            ensures { Reads (reader_of (spec.procedure_group room (spec.declarations room inside)) tokens.old) result tokens.new }
-        { read_group(tokens, room, inside) },
-    )?;
+    let groups = repeated_by(tokens, Want::ProcedureName, (room, inside), read_group)?;
     let all = join(rules, groups)?;
     Ok(all)
 }

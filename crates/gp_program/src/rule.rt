@@ -39,22 +39,21 @@ fn read_type(tokens: &mut Tokens<'_, '_>) -> Result<VariableType, ReadError>
     Ok(VariableType::List)
 }
 
+// "," and a name of this class.
+fn read_further_name(tokens: &mut Tokens<'_, '_>, want: Want) -> Result<Name, ReadError>
+    ensures { Reads (reader_of (behind comma (name_of want)) tokens.old) result tokens.new }
+{
+    tokens.expect(COMMA)?;
+    read_name(tokens, want)
+}
+
 // Vars = Var {"," Var} ":" Type
 #[tactic(auto, unfolding(crate::specs::Rules::variable_group))]
-fn read_group(tokens: &mut Tokens<'_, '_>) -> Result<VariableGroup, ReadError>
+fn read_group(tokens: &mut Tokens<'_, '_>, _nothing: ()) -> Result<VariableGroup, ReadError>
     ensures { Reads (reader_of spec.variable_group tokens.old) result tokens.new }
 {
     let first = read_name(tokens, Want::Variable)?;
-    let rest = repeated_by(
-        tokens,
-        COMMA,
-        |tokens: &mut Tokens<'_, '_>| -> Result<Name, ReadError>
-            ensures { Reads (reader_of (behind comma (name_of wants.Variable)) tokens.old) result tokens.new }
-        {
-            tokens.expect(COMMA)?;
-            read_name(tokens, Want::Variable)
-        },
-    )?;
+    let rest = repeated_by(tokens, COMMA, Want::Variable, read_further_name)?;
     tokens.expect(Want::Kind(Kind::Colon))?;
     let variable_type = read_type(tokens)?;
     Ok(VariableGroup {
@@ -70,7 +69,7 @@ fn read_variables(tokens: &mut Tokens<'_, '_>) -> Result<Items<VariableGroup>, R
     ensures { Reads (reader_of spec.variables tokens.old) result tokens.new }
 {
     if tokens.begins(Want::Variable) {
-        let groups = separated_by(tokens, Want::Kind(Kind::Semicolon), read_group)?;
+        let groups = separated_by(tokens, Want::Kind(Kind::Semicolon), (), read_group)?;
         return Ok(Items::from_vec(groups));
     }
     Ok(Items::new(tokens.alloc()))
@@ -82,13 +81,7 @@ fn read_interface(tokens: &mut Tokens<'_, '_>) -> Result<Items<Name>, ReadError>
     ensures { Reads (reader_of spec.interface tokens.old) result tokens.new }
 {
     if tokens.begins(Want::Item) {
-        let names = separated_by(
-            tokens,
-            COMMA,
-            |tokens: &mut Tokens<'_, '_>| -> Result<Name, ReadError>
-                ensures { Reads (reader_of (name_of wants.Item) tokens.old) result tokens.new }
-            { read_name(tokens, Want::Item) },
-        )?;
+        let names = separated_by(tokens, COMMA, Want::Item, read_name)?;
         return Ok(Items::from_vec(names));
     }
     Ok(Items::new(tokens.alloc()))

@@ -3,7 +3,7 @@
 use crate::answers::Answer;
 use crate::fields::field;
 use crate::wrong::Wrong;
-use gp_grammar::{Numeral, Tokens, Want, repeated_by, separated_by, stands_before};
+use gp_grammar::{Numeral, ReadError, Tokens, Want, repeated_by, separated_by, stands_before};
 use gp_tokens::{Keyword, Kind, lex};
 use std::alloc::Global;
 
@@ -67,15 +67,19 @@ fn expect(tokens: &mut Tokens<'_, '_>, want: Want, out: &mut Answer) {
     }
 }
 
+fn read_number(tokens: &mut Tokens<'_, '_>, _nothing: ()) -> Result<u128, ReadError> {
+    tokens.number()
+}
+
 fn numbers(tokens: &mut Tokens<'_, '_>, out: &mut Answer) {
-    match repeated_by(tokens, Want::Kind(Kind::Number), |tokens| tokens.number()) {
+    match repeated_by(tokens, Want::Kind(Kind::Number), (), read_number) {
         Ok(numbers) => out.debug(&numbers),
         Err(error) => out.debug(&error),
     }
 }
 
 fn numbers_by_colons(tokens: &mut Tokens<'_, '_>, out: &mut Answer) {
-    match separated_by(tokens, Want::Kind(Kind::Colon), |tokens| tokens.number()) {
+    match separated_by(tokens, Want::Kind(Kind::Colon), (), read_number) {
         Ok(numbers) => {
             out.debug(&numbers);
             out.number(tokens.count() as u64);

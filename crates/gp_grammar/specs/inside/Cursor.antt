@@ -13,6 +13,6 @@ ReadsAs view read (Err e) left = Fails e read
 abbrev pub Reads : {X : Type 0} → Option (X × List Token) → Result X ReadError → List Token → Type 0
 Reads read result left = ReadsAs (λ x. x) read result left
 
--- Each call of a closure reads what the reading function reads.
-pub record IsReading {T : Type 0} (post : MutBor (List Token) → Result T ReadError → MutBor (List Token) → Type 0) (one : List Token → Option (T × List Token)) : Type 0 where
-  pub reads : (old new : MutBor (List Token)) (r : Result T ReadError) → post old r new → Reads (one old.now) r new.now
+-- Each call of a function, with this beside the tokens, reads what the reading function reads.
+pub record IsReading {C T : Type 0} (post : MutBor (List Token) → C → Result T ReadError → MutBor (List Token) → Type 0) (inside : C) (one : List Token → Option (T × List Token)) : Type 0 where
+  pub reads : (old new : MutBor (List Token)) (r : Result T ReadError) → post old inside r new → Reads (one old.now) r new.now

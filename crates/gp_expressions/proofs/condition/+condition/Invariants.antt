@@ -4,14 +4,14 @@ use Rattle.gp_expressions.proofs.condition.+condition.Given as goal
 abbrev pub decreases-read_negation : goal.decreases-read_negation
 decreases-read_negation l = 7 * l.room
 
-abbrev pub decreases-read_conjunction-repeated_by : goal.decreases-read_conjunction-repeated_by
-decreases-read_conjunction-repeated_by l = 7 * l.room + 1
+abbrev pub decreases-read_further_negation : goal.decreases-read_further_negation
+decreases-read_further_negation l = 7 * l.inside.1 + 1
 
 abbrev pub decreases-read_conjunction : goal.decreases-read_conjunction
 decreases-read_conjunction l = 7 * l.room + 2
 
-abbrev pub decreases-read_condition-repeated_by : goal.decreases-read_condition-repeated_by
-decreases-read_condition-repeated_by l = 7 * l.room + 3
+abbrev pub decreases-read_further_conjunction : goal.decreases-read_further_conjunction
+decreases-read_further_conjunction l = 7 * l.inside.1 + 3
 
 abbrev pub decreases-read_condition : goal.decreases-read_condition
 decreases-read_condition l = 7 * l.room + 4

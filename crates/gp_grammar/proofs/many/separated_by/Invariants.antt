@@ -6,4 +6,4 @@ use Rattle.gp_grammar.proofs.Loops.{GoesOn}
 use Rattle.gp_grammar.proofs.many.separated_by.Given as goal
 
 abbrev pub invariant-each : goal.invariant-each
-invariant-each g l = (one : _) → IsReading (goal.F-post g l.read) one → GoesOn l.sign (next_of l.sign one) (separated l.sign one l.fn.tokens) l.found.items (l.end - l.counter) l.tokens
+invariant-each g l = (one : _) → IsReading (goal.F-post g l.read) l.inside one → GoesOn l.sign (next_of l.sign one) (separated l.sign one l.fn.tokens) l.found.items (l.end - l.counter) l.tokens

@@ -4,9 +4,6 @@ use Rattle.gp_program.proofs.command.+command.Given as goal
 abbrev pub decreases-read_simple : goal.decreases-read_simple
 decreases-read_simple l = 10 * l.room
 
-abbrev pub decreases-read_block-separated_by : goal.decreases-read_block-separated_by
-decreases-read_block-separated_by l = 10 * l.room + 1
-
 abbrev pub decreases-read_block : goal.decreases-read_block
 decreases-read_block l = 10 * l.room + 2
 
@@ -18,9 +15,6 @@ decreases-read_part l = 10 * l.room + 4
 
 abbrev pub decreases-read_command : goal.decreases-read_command
 decreases-read_command l = 10 * l.room + 5
-
-abbrev pub decreases-read_commands-separated_by : goal.decreases-read_commands-separated_by
-decreases-read_commands-separated_by l = 10 * l.room + 6
 
 abbrev pub decreases-read_commands : goal.decreases-read_commands
 decreases-read_commands l = 10 * l.room + 7

@@ -11,10 +11,7 @@ abbrev pub decreases-read_procedure : goal.decreases-read_procedure
 decreases-read_procedure l = 6 * l.inside + 2
 
 abbrev pub decreases-read_group : goal.decreases-read_group
-decreases-read_group l = 6 * l.inside + 3
-
-abbrev pub decreases-read_declarations_in-repeated_by : goal.decreases-read_declarations_in-repeated_by
-decreases-read_declarations_in-repeated_by l = 6 * l.inside + 4
+decreases-read_group l = 6 * l.depths.1 + 3
 
 abbrev pub decreases-read_declarations_in : goal.decreases-read_declarations_in
 decreases-read_declarations_in l = 6 * l.inside + 5
