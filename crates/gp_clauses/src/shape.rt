@@ -9,7 +9,7 @@ use gp_syntax::{Expr, Name, ProductSign, Signed, SumSign};
 use gp_values::Chars;
 
 /// What is done with what stands before an operand, and with the operand.
-#[derive(Clone, Copy, Debug, PartialEq, Eq)]
+#[derive(Clone, Copy)]
 pub enum Operation {
     Plus,
     Minus,

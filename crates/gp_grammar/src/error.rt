@@ -7,7 +7,7 @@ use gp_memory::NoMemory as Refused;
 use std::alloc::{AllocError, AllocFailed};
 
 /// Why tokens could not be read.
-#[derive(Debug, Drop, PartialEq, Eq)]
+#[derive(Debug, Drop)]
 pub enum ReadError {
     /// Memory was refused.
     NoMemory,

@@ -4,7 +4,7 @@ ghost use Rattle.std.specs.Prelude.{◌≡◌, true};
 ghost use Rattle.gp_grammar.specs.Numerals.{integer_of, signed};
 
 /// The value of a number, and whether a minus stands before it.
-#[derive(Clone, Copy, Debug, PartialEq, Eq)]
+#[derive(Clone, Copy)]
 pub struct Numeral {
     pub negative: bool,
     pub value: u128,

@@ -7,7 +7,7 @@ use thiserror::Error;
 
 /// Why a host text gave no graph: its first fault, in the order of these variants. Those of one variant go by the
 /// order of the text, and those of nodes come before those of edges.
-#[derive(Debug, Drop, PartialEq, Eq, Error)]
+#[derive(Debug, Drop, Error)]
 pub enum HostFault {
     /// The text has no tokens, and this is why.
     #[error("{0}")]

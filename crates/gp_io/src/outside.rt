@@ -7,7 +7,7 @@ ghost use Rattle.gp_io.specs.declared.outside.ReadRefusal.TheVariants as refusal
 use std::alloc::{AllocError, Global};
 
 /// Why a file was not read.
-#[derive(Clone, Copy, Debug, PartialEq, Eq)]
+#[derive(Clone, Copy, PartialEq, Eq)]
 pub enum ReadRefusal {
     /// The file could not be read, or is not there.
     Failed,
@@ -26,7 +26,7 @@ impl From<AllocError> for ReadRefusal {
 }
 
 /// A write that failed.
-#[derive(Clone, Copy, Debug, PartialEq, Eq)]
+#[derive(Clone, Copy, PartialEq, Eq)]
 pub struct Failed;
 
 /// Files that are read whole, by their names.

@@ -15,7 +15,7 @@ use std::alloc::Global;
 use thiserror::Error;
 
 /// Why tokens have no tree: the first of these that holds. The number is the place of a token, counted from 0.
-#[derive(Debug, Drop, PartialEq, Eq, Error)]
+#[derive(Debug, Drop, Error)]
 pub enum ParseFault {
     /// The first token that is nested more than 64 deep.
     #[error("TooDeep {0}")]

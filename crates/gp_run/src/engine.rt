@@ -8,7 +8,7 @@ use gp_memory::NoMemory;
 use gp_syntax::NumberKind;
 
 /// What a call of a rule set came to.
-#[derive(Clone, Copy, Debug, PartialEq, Eq)]
+#[derive(Clone, Copy, PartialEq, Eq)]
 pub enum Called {
     /// A match of the set was applied.
     Stepped,
@@ -22,7 +22,7 @@ pub enum Called {
 }
 
 /// What a loop over a call came to.
-#[derive(Clone, Copy, Debug, PartialEq, Eq)]
+#[derive(Clone, Copy, PartialEq, Eq)]
 pub enum Repeated {
     /// The set is blocked, and the last turn is taken back.
     Ended,
@@ -34,7 +34,7 @@ pub enum Repeated {
 }
 
 /// What the beginning of a turn came to.
-#[derive(Clone, Copy, Debug, PartialEq, Eq)]
+#[derive(Clone, Copy, PartialEq, Eq)]
 pub enum Turned {
     Made,
     /// No item is left.

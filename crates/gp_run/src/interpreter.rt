@@ -13,7 +13,7 @@ use gp_syntax::{NumberKind, Program};
 const MOST_CALLS: u32 = 64;
 
 /// How a run of a program ended.
-#[derive(Clone, Copy, Debug, PartialEq, Eq)]
+#[derive(Clone, Copy, PartialEq, Eq)]
 pub enum Finish {
     /// With the engine's graph.
     Graph,

@@ -2,7 +2,7 @@
 
 /// The declared type of a variable (Plump 2012, section 2: char is a subtype of string; int and string are subtypes
 /// of atom; atom is a subtype of list).
-#[derive(Clone, Copy, Debug, PartialEq, Eq)]
+#[derive(Clone, Copy, PartialEq, Eq)]
 pub enum VariableType {
     Int,
     Char,
@@ -19,7 +19,7 @@ pub enum NumberKind {
 }
 
 /// The comparisons of conditions: the first two compare lists, the others integers.
-#[derive(Clone, Copy, Debug, PartialEq, Eq)]
+#[derive(Clone, Copy, PartialEq, Eq)]
 pub enum Comparison {
     Equal,
     NotEqual,

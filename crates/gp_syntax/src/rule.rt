@@ -14,7 +14,7 @@ use sqlite_items::Items;
 use std::marker::Model;
 
 /// What a rule says of a mark: which one, or any.
-#[derive(Clone, Copy, Debug, PartialEq, Eq)]
+#[derive(Clone, Copy, PartialEq, Eq)]
 pub enum MarkPattern<M> {
     Marked(M),
     Any,

@@ -7,7 +7,7 @@ use std::alloc::{AllocError, AllocFailed};
 use thiserror::Error;
 
 /// Why a text has no tokens. Each number is an offset in bytes from the front of the text.
-#[derive(Debug, Drop, PartialEq, Eq, Error)]
+#[derive(Debug, Drop, Error)]
 pub enum LexFault {
     /// A byte that begins no token, or one inside a string that is not from 32 to 126.
     #[error("BadByte {0}")]

@@ -9,7 +9,7 @@ use crate::number::number;
 use crate::token::Kind;
 
 /// A class of bytes that may stand in a run.
-#[derive(Clone, Copy, Debug)]
+#[derive(Clone, Copy)]
 pub enum Class {
     Digit,
     Word,
@@ -18,7 +18,7 @@ pub enum Class {
 }
 
 /// What stands at the front, with its length.
-#[derive(Debug, Drop)]
+#[derive(Drop)]
 pub enum First {
     Skip(usize),
     Token(Kind, usize),

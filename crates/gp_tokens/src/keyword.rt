@@ -5,7 +5,7 @@ ghost use Rattle.gp_tokens.specs.Words.{keyword_text};
 ghost use Rattle.gp_tokens.specs.Words as spec;
 
 /// A word with a meaning of its own. All but `R` and `B` are reserved.
-#[derive(Clone, Copy, Debug, PartialEq, Eq)]
+#[derive(Clone, Copy, PartialEq, Eq)]
 pub enum Keyword {
     Interface,
     Where,

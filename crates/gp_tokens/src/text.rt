@@ -80,7 +80,7 @@ impl fmt::Display for Text {
 }
 
 /// Bytes of a text that is held elsewhere, as those of a token. Contracts see their list.
-#[derive(Debug, Drop)]
+#[derive(Drop)]
 pub struct Slice<'t> {
     bytes: &'t [u8],
 }

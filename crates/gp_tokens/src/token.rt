@@ -53,7 +53,7 @@ impl Kind {
 
 /// A token: what it is, the offset of its first byte in the text, and its bytes, which
 /// it borrows from the text.
-#[derive(Debug, Drop, PartialEq, Eq)]
+#[derive(Drop)]
 pub struct Token<'t> {
     pub kind: Kind,
     pub start: u64,

@@ -5,7 +5,7 @@ use std::alloc::{AllocError, AllocFailed};
 use thiserror::Error;
 
 /// Why a text is no trace.
-#[derive(Clone, Copy, Debug, PartialEq, Eq, Error)]
+#[derive(Clone, Copy, Debug, Error)]
 pub enum TraceFault {
     /// The first line, counted from 1, that is not of the form of its place: that of the header, of an item or of the
     /// end. A line that is missing and one behind the end are such lines.

@@ -1,7 +1,7 @@
 //! The marks of nodes and edges. They are ordered as they are listed.
 
 /// The mark of a node of a host graph (Bak 2015, "Marks").
-#[derive(Clone, Copy, Debug, PartialEq, Eq, PartialOrd, Ord)]
+#[derive(Clone, Copy, PartialEq, Eq, PartialOrd, Ord)]
 pub enum NodeMark {
     None,
     Red,
@@ -11,7 +11,7 @@ pub enum NodeMark {
 }
 
 /// The mark of an edge of a host graph.
-#[derive(Clone, Copy, Debug, PartialEq, Eq, PartialOrd, Ord)]
+#[derive(Clone, Copy, PartialEq, Eq, PartialOrd, Ord)]
 pub enum EdgeMark {
     None,
     Red,

@@ -10,7 +10,7 @@ use gp_memory::NoMemory;
 use opt_system::{Mode, Sought, System, Verdict};
 
 /// The system of rows of cells. Share j of S holds the places that are j modulo S, and no match is faulty.
-#[derive(Clone, Copy, Debug)]
+#[derive(Clone, Copy)]
 pub struct Cells;
 
 impl System for Cells {

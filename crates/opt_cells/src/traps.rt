@@ -8,7 +8,7 @@ use opt_system::{Mode, Sought, System, Verdict};
 
 /// A state is the number of steps made. Before the first step 0 applies, and any other number is faulty, with itself as
 /// the reason.
-#[derive(Clone, Copy, Debug)]
+#[derive(Clone, Copy)]
 pub struct Traps;
 
 impl System for Traps {

@@ -3,7 +3,7 @@
 use crate::entries::Entries;
 
 /// How a goal ended.
-#[derive(Clone, Copy, Debug)]
+#[derive(Clone, Copy)]
 pub enum Ending<R> {
     /// A goal of one match has it.
     Committed,

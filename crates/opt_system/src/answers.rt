@@ -1,7 +1,7 @@
 //! What the calls of a system answer.
 
 /// How often a goal's matches are taken.
-#[derive(Clone, Copy, Debug, PartialEq, Eq)]
+#[derive(Clone, Copy, PartialEq, Eq)]
 pub enum Mode {
     /// One match is taken.
     Once,

@@ -14,7 +14,7 @@ pub trait Pace {
 }
 
 /// The pace that holds nobody.
-#[derive(Clone, Copy, Debug)]
+#[derive(Clone, Copy)]
 pub struct Free;
 
 impl Pace for Free {
