@@ -92,13 +92,19 @@ fn try_of(
     Ok(CommandTree::Try(condition, met, Boxed::new(alloc, unmet)?))
 }
 
+fn read_rule_name(tokens: &mut Tokens<'_, '_>, _nothing: ()) -> Result<Name, ReadError>
+    ensures { Reads (reader_of (name wants.RuleName) tokens.old) result tokens.new }
+{
+    read_name(tokens, Want::RuleName)
+}
+
 // [RuleName {"," RuleName}]
 #[tactic(auto, unfolding(crate::specs::Commands::rule_names))]
 fn read_rule_names(tokens: &mut Tokens<'_, '_>) -> Result<Items<Name>, ReadError>
     ensures { Reads (reader_of spec.rule_names tokens.old) result tokens.new }
 {
     if tokens.begins(Want::RuleName) {
-        let names = separated_by(tokens, COMMA, Want::RuleName, read_name)?;
+        let names = separated_by(tokens, COMMA, (), read_rule_name)?;
         return Ok(Items::from_vec(names));
     }
     Ok(Items::new(tokens.alloc()))

@@ -75,13 +75,19 @@ fn read_variables(tokens: &mut Tokens<'_, '_>) -> Result<Items<VariableGroup>, R
     Ok(Items::new(tokens.alloc()))
 }
 
+fn read_item(tokens: &mut Tokens<'_, '_>, _nothing: ()) -> Result<Name, ReadError>
+    ensures { Reads (reader_of (name_of wants.Item) tokens.old) result tokens.new }
+{
+    read_name(tokens, Want::Item)
+}
+
 // [Item {"," Item}]
 #[tactic(auto, unfolding(crate::specs::Rules::interface))]
 fn read_interface(tokens: &mut Tokens<'_, '_>) -> Result<Items<Name>, ReadError>
     ensures { Reads (reader_of spec.interface tokens.old) result tokens.new }
 {
     if tokens.begins(Want::Item) {
-        let names = separated_by(tokens, COMMA, Want::Item, read_name)?;
+        let names = separated_by(tokens, COMMA, (), read_item)?;
         return Ok(Items::from_vec(names));
     }
     Ok(Items::new(tokens.alloc()))
