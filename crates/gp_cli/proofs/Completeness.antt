@@ -1,8 +1,8 @@
 -- From the cause to the status.
 use Rattle.std.proofs.Common.{◌≡◌, ℕ, ◌<◌, Bool, List, [], ◌∷◌, length, refl, sym, ap, subst, arith, inl, inr}
-use Rattle.std.specs.Prelude.{◌⊎◌, Option, Some, None}
+use Rattle.std.specs.Prelude.{Option, Some, None}
 use Rattle.std.specs.FinMap as map
-use Rattle.gp_io.specs.Outside.{Content, KnownFiles, KnownSink, HasFile, Rose, raised}
+use Rattle.gp_io.specs.Outside.{Content, KnownFiles, KnownSink, HasFile}
 use Rattle.gp_values.specs.Names.{Name}
 use Rattle.gp_values.specs.Graph.{Graph}
 use Rattle.gp_syntax.specs.Run.{Program}

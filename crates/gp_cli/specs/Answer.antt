@@ -1,5 +1,5 @@
 -- What the top call may answer, and why.
-use Rattle.std.specs.Prelude.{◌≡◌, ◌⊎◌, ℕ, ◌^◌, ◌≤◌, ◌<◌, Bool, true, false, List, [], ◌∷◌, length, map, slice_get, Option, Some, None}
+use Rattle.std.specs.Prelude.{◌≡◌, ◌⊎◌, ℕ, ◌^◌, ◌≤◌, ◌<◌, Bool, false, List, [], ◌∷◌, length, map, slice_get, Option, Some, None}
 use Rattle.std.specs.Option.{option_map_or}
 use Rattle.gp_io.specs.Outside.{Content, KnownFiles, KnownSink, Rose, HasFile, LacksFile, piece_of}
 use Rattle.gp_values.specs.Names.{Name}

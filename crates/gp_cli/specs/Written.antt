@@ -1,5 +1,5 @@
 -- What stands on a sink after the call.
-use Rattle.std.specs.Prelude.{◌≡◌, ℕ, List, [], ◌∷◌, ◌++◌, length, take}
+use Rattle.std.specs.Prelude.{◌≡◌, ℕ, List, ◌∷◌, ◌++◌, length, take}
 use Rattle.gp_io.specs.Outside.{KnownSink, Gains, Rose, piece_of, raised, raised_by}
 
 -- On out the journal is one piece, and behind it the result is one. An empty text is no piece.
