@@ -1,5 +1,5 @@
 -- From what is read of the files to what is answered.
-use Rattle.std.proofs.Common.{◌≡◌, ℕ, ◌≤◌, List, [], sym, subst, arith, inl, inr}
+use Rattle.std.proofs.Common.{◌≡◌, ℕ, ◌≤◌, List, sym, subst, arith, inl, inr}
 use Rattle.std.specs.Prelude.{◌⊎◌, Option, Some, Result, Ok, Err}
 use Rattle.gp_io.specs.Outside.{Content, KnownFiles, Rose, LacksFile}
 use Rattle.gp_values.specs.Names.{Name}

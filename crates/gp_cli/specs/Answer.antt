@@ -1,7 +1,7 @@
 -- What the top call may answer, and why.
-use Rattle.std.specs.Prelude.{◌≡◌, ◌≢◌, ◌⊎◌, ℕ, ◌^◌, ◌≤◌, ◌<◌, Bool, true, false, List, [], ◌∷◌, ◌++◌, length, map, take, slice_get, Option, Some, None}
+use Rattle.std.specs.Prelude.{◌≡◌, ◌⊎◌, ℕ, ◌^◌, ◌≤◌, ◌<◌, Bool, false, List, [], ◌∷◌, length, map, slice_get, Option, Some, None}
 use Rattle.std.specs.Option.{option_map_or}
-use Rattle.gp_io.specs.Outside.{Content, KnownFiles, KnownSink, Rose, HasFile, LacksFile, Gains}
+use Rattle.gp_io.specs.Outside.{Content, KnownFiles, KnownSink, Rose, HasFile, LacksFile, piece_of}
 use Rattle.gp_values.specs.Names.{Name}
 use Rattle.gp_values.specs.Graph.{Graph}
 use Rattle.gp_syntax.specs.declared.kinds.NumberKind.{NumberKind}
@@ -16,6 +16,7 @@ use Rattle.gp_gen.specs.Texts.{program_text, host_text}
 use Rattle.gp_words.specs.CommandLine.{RunCommand, DemoCommand, Command, run, demo, command_of}
 use Rattle.gp_cli.specs.Choices.{AreSeeded}
 use Rattle.gp_cli.specs.Texts.{Said, graph, failed, demo_done, usage, long_program, bad_program, long_host, bad_host, bound_spent, number_fault, unread, Shows}
+use Rattle.gp_cli.specs.Written.{out_pieces, TakesAll, IsCutShort}
 
 -- the greatest number of bytes of a file
 abbrev pub limit : ℕ
@@ -57,6 +58,16 @@ pub record HasHost (content : Option Content) (name : Name) (g : Graph) : Type 0
   pub bytes : List ℕ
   pub has : HasBytes content name bytes
   pub text : IsHostText bytes g
+
+-- it is longer than the limit, or its bytes have a fault of a program's text
+pub data HasFaultyProgram (content : Option Content) (name : Name) : Type 0 where
+  has_long_program : HasLongFile content name → HasFaultyProgram content name
+  has_bad_program : {bytes : List ℕ} {f : ProgramFault} → HasBytes content name bytes → IsFaultyText bytes f → HasFaultyProgram content name
+
+-- it is longer than the limit, or its bytes have a fault of a host's text
+pub data HasFaultyHost (content : Option Content) (name : Name) : Type 0 where
+  has_long_host : HasLongFile content name → HasFaultyHost content name
+  has_bad_host : {bytes : List ℕ} {f : HostFault} → HasBytes content name bytes → IsHostFault bytes f → HasFaultyHost content name
 
 -- ---- what a program comes to on a host
 
@@ -149,38 +160,38 @@ wants_journal (demo k) = false
 abbrev pub asks_journal : List Name → Bool
 asks_journal words = option_map_or wants_journal (command_of words) false
 
--- a true answer with its status, and its bytes on out and on err
-pub record Replies (words : List Name) (old new : KnownFiles) (status : ℕ) (o e : List ℕ) : Type 0 where
+-- a true answer with its status, its journal and its result for out, and its text for err
+pub record Replies (words : List Name) (old new : KnownFiles) (status : ℕ) (journal result text : List ℕ) : Type 0 where
   pub said : Said
   pub is_true : IsTrue words old new said
-  pub shows : Shows (asks_journal words) said status o e
+  pub shows : Shows (asks_journal words) said status journal result text
 
--- What the top call answers: a reply, whole; want of memory, and then nothing; or, where the count of a sink rose on
--- which the reply has bytes, what went out before that write failed and a beginning of its text. Out is written before
--- err, and nothing is written after a failed write.
-pub data Answer (words : List Name) (old new : KnownFiles) (out_old out_new err_old err_new : KnownSink) : ℕ → List ℕ → List ℕ → Type 0 where
-  replied : {status : ℕ} {o e : List ℕ} → Replies words old new status o e → Answer words old new out_old out_new err_old err_new status o e
-  no_memory : Answer words old new out_old out_new err_old err_new 7 [] []
-  out_fault : {status : ℕ} {o e : List ℕ} (n : ℕ) → Replies words old new status o e → o ≢ [] → Rose out_old.faults out_new.faults →
-      Answer words old new out_old out_new err_old err_new 9 (take n o) []
-  err_fault : {status : ℕ} {o e : List ℕ} (n : ℕ) → Replies words old new status o e → e ≢ [] → Rose err_old.faults err_new.faults →
-      Answer words old new out_old out_new err_old err_new 9 o (take n e)
+-- What the top call answers: a reply, whole; want of memory, and then nothing is written; or, where the write of a piece of
+-- the reply failed, 9. Out is written before err, and nothing is written after a failed write. The counts of faults stay,
+-- but at 9.
+pub data Answered (words : List Name) (old new : KnownFiles) (out_old out_new err_old err_new : KnownSink) : ℕ → Type 0 where
+  replied : {status : ℕ} {journal result text : List ℕ} → Replies words old new status journal result text →
+      TakesAll out_old out_new (out_pieces journal result) → TakesAll err_old err_new (piece_of text) → Answered words old new out_old out_new err_old err_new status
+  no_memory : TakesAll out_old out_new [] → TakesAll err_old err_new [] → Answered words old new out_old out_new err_old err_new 7
+  out_fault : {status : ℕ} {journal result text : List ℕ} → Replies words old new status journal result text →
+      IsCutShort out_old out_new (out_pieces journal result) → TakesAll err_old err_new [] → Answered words old new out_old out_new err_old err_new 9
+  err_fault : {status : ℕ} {journal result text : List ℕ} → Replies words old new status journal result text →
+      TakesAll out_old out_new (out_pieces journal result) → IsCutShort err_old err_new (piece_of text) → Answered words old new out_old out_new err_old err_new 9
 
--- what went out on both sinks behind what was there, where that is known, is an answer of that status
-pub record Answered (words : List Name) (old new : KnownFiles) (out_old out_new err_old err_new : KnownSink) (status : ℕ) : Type 0 where
-  pub on_out : List ℕ
-  pub on_err : List ℕ
-  pub gains_out : Gains out_old out_new on_out
-  pub gains_err : Gains err_old err_new on_err
-  pub answer : Answer words old new out_old out_new err_old err_new status on_out on_err
-
--- want of memory for the words themselves: status 7, and nothing went out
-pub record IsSilent (out_old out_new err_old err_new : KnownSink) (status : ℕ) : Type 0 where
+-- want of memory for the words themselves: status 7, no file is read, and nothing is written
+pub record IsSilent {F O E : Type 0} (old new : F) (out_old out_new : O) (err_old err_new : E) (status : ℕ) : Type 0 where
   pub no_memory : status ≡ 7
-  pub gains_out : Gains out_old out_new []
-  pub gains_err : Gains err_old err_new []
+  pub unread : new ≡ old
+  pub out_unwritten : out_new ≡ out_old
+  pub err_unwritten : err_new ≡ err_old
 
--- ---- what valid input is answered with
+-- the command reads no file: it is none, or a demo
+abbrev pub ReadsNone : Option Command → Type 0
+ReadsNone None = Unit {0}
+ReadsNone (Some (run k)) = ⊥
+ReadsNone (Some (demo k)) = Unit {0}
+
+-- ---- from the cause to the status
 
 abbrev pub IsOneOf : List ℕ → ℕ → Type 0
 IsOneOf [] status = ⊥
@@ -205,6 +216,43 @@ DemoCompletes words out_old out_new err_old err_new status =
     (k : DemoCommand) → command_of words ≡ Some (demo k) →
     Stays out_old.faults out_new.faults → Stays err_old.faults err_new.faults → IsOneOf (0 ∷ 1 ∷ 3 ∷ 4 ∷ 5 ∷ 6 ∷ 7 ∷ []) status
 
+-- Words that are no command are refused, unless memory is, or a write fails.
+abbrev pub RefusesWords : List Name → ℕ → Type 0
+RefusesWords words status = command_of words ≡ None → IsOneOf (2 ∷ 7 ∷ 9 ∷ []) status
+
+-- Where the files' content is known, a faulty program of `run` is refused, unless memory is, or a file is not read, or a write
+-- fails.
+abbrev pub RefusesProgram : List Name → KnownFiles → ℕ → Type 0
+RefusesProgram words old status =
+    (held : Content) (k : RunCommand) → old.content ≡ Some held → command_of words ≡ Some (run k) → HasFaultyProgram old.content k.program →
+    IsOneOf (3 ∷ 7 ∷ 8 ∷ 9 ∷ []) status
+
+-- A faulty host of `run` likewise, where its program is one.
+abbrev pub RefusesHost : List Name → KnownFiles → ℕ → Type 0
+RefusesHost words old status =
+    (held : Content) (k : RunCommand) (p : Program) (rule_names : List Name) → old.content ≡ Some held → command_of words ≡ Some (run k) →
+    HasProgram old.content k.program p rule_names → HasFaultyHost old.content k.host → IsOneOf (4 ∷ 7 ∷ 8 ∷ 9 ∷ []) status
+
+-- A faulty text of `demo` is refused, unless memory is, or a write fails.
+abbrev pub RefusesDemoProgram : List Name → ℕ → Type 0
+RefusesDemoProgram words status = (k : DemoCommand) (f : ProgramFault) → command_of words ≡ Some (demo k) → IsFaultyText (demo_program k) f → IsOneOf (3 ∷ 7 ∷ 9 ∷ []) status
+
+abbrev pub RefusesDemoHost : List Name → ℕ → Type 0
+RefusesDemoHost words status =
+    (k : DemoCommand) (p : Program) (f : HostFault) → command_of words ≡ Some (demo k) → IsProgramText (demo_program k) p → IsHostFault (demo_host k) f →
+    IsOneOf (4 ∷ 7 ∷ 9 ∷ []) status
+
+-- A sink whose count of faults rose is told of.
+abbrev pub TellsFaults : KnownSink → KnownSink → ℕ → Type 0
+TellsFaults old new status = old.faults < new.faults → status ≡ 9
+
 pub record Completes (words : List Name) (old new : KnownFiles) (out_old out_new err_old err_new : KnownSink) (status : ℕ) : Type 0 where
   pub runs : RunCompletes words old new out_old out_new err_old err_new status
   pub demos : DemoCompletes words out_old out_new err_old err_new status
+  pub words_refused : RefusesWords words status
+  pub program_refused : RefusesProgram words old status
+  pub host_refused : RefusesHost words old status
+  pub demo_program_refused : RefusesDemoProgram words status
+  pub demo_host_refused : RefusesDemoHost words status
+  pub out_faults : TellsFaults out_old out_new status
+  pub err_faults : TellsFaults err_old err_new status

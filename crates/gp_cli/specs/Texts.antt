@@ -65,16 +65,16 @@ read_text name = codes "read: " ++ name ++ codes "\n"
 abbrev pub journal_text : Bool → List Item → List ℕ
 journal_text asked t = if asked then trace_text t else []
 
--- The status of an answer, its bytes on out, and its bytes on err.
-pub data Shows (asked : Bool) : Said → ℕ → List ℕ → List ℕ → Type 0 where
-  graph_shown : {t : List Item} {h : Graph} {text : List ℕ} → IsGraphText h text → Shows asked (graph t h) 0 (journal_text asked t ++ text) []
-  fail_shown : {t : List Item} → Shows asked (failed t) 1 (journal_text asked t ++ fail_text) []
-  demo_shown : {kind : Kind} {size : ℕ} {t : List Item} {h : Graph} → Shows asked (demo_done kind size t h) 0 (summary_text kind size h t) []
-  usage_shown : Shows asked usage 2 [] usage_text
-  long_program_shown : Shows asked long_program 3 [] program_too_long
-  bad_program_shown : {f : ProgramFault} → Shows asked (bad_program f) 3 [] (line_of f)
-  long_host_shown : Shows asked long_host 4 [] host_too_long
-  bad_host_shown : {bytes : List ℕ} {f : HostFault} {line : List ℕ} → IsHostLine bytes f line → Shows asked (bad_host bytes f) 4 [] line
-  bound_shown : {bound : ℕ} → Shows asked (bound_spent bound) 5 [] (bound_text bound)
-  number_shown : {rule : Name} {kind : NumberKind} → Shows asked (number_fault rule kind) 6 [] (number_text rule kind)
-  unread_shown : {name : Name} → Shows asked (unread name) 8 [] (read_text name)
+-- The status of an answer, its journal and its result, which go to out, and its text for err.
+pub data Shows (asked : Bool) : Said → ℕ → List ℕ → List ℕ → List ℕ → Type 0 where
+  graph_shown : {t : List Item} {h : Graph} {text : List ℕ} → IsGraphText h text → Shows asked (graph t h) 0 (journal_text asked t) text []
+  fail_shown : {t : List Item} → Shows asked (failed t) 1 (journal_text asked t) fail_text []
+  demo_shown : {kind : Kind} {size : ℕ} {t : List Item} {h : Graph} → Shows asked (demo_done kind size t h) 0 [] (summary_text kind size h t) []
+  usage_shown : Shows asked usage 2 [] [] usage_text
+  long_program_shown : Shows asked long_program 3 [] [] program_too_long
+  bad_program_shown : {f : ProgramFault} → Shows asked (bad_program f) 3 [] [] (line_of f)
+  long_host_shown : Shows asked long_host 4 [] [] host_too_long
+  bad_host_shown : {bytes : List ℕ} {f : HostFault} {line : List ℕ} → IsHostLine bytes f line → Shows asked (bad_host bytes f) 4 [] [] line
+  bound_shown : {bound : ℕ} → Shows asked (bound_spent bound) 5 [] [] (bound_text bound)
+  number_shown : {rule : Name} {kind : NumberKind} → Shows asked (number_fault rule kind) 6 [] [] (number_text rule kind)
+  unread_shown : {name : Name} → Shows asked (unread name) 8 [] [] (read_text name)

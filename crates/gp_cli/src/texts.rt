@@ -1,6 +1,6 @@
 //! The text of an answer.
 
-ghost use Rattle.std.specs.Prelude.{◌≡◌, ◌++◌, Bool, [], IfOk, codes};
+ghost use Rattle.std.specs.Prelude.{◌≡◌, Bool, [], IfOk, codes};
 ghost use Rattle.std.specs.Fmt.{decimal};
 ghost use Rattle.gp_hostfile.specs.GraphText.{IsGraphText};
 ghost use Rattle.gp_reader.specs.FaultLines.{line_of};
@@ -125,7 +125,7 @@ fn on_out(alloc: Global, status: Status, journal: Vec<u8>, text: Vec<u8>) -> Rep
 
 // A graph with its trace.
 fn graph_reply(alloc: Global, asked: bool, journal: &Journal) -> Result<Reply, NoMemory>
-    ensures { IfOk result (λ r. Shows asked (graph (items_of journal.now.items) journal.now.trail.graph) (status_code r.status) (r.journal.items ++ r.result.items) r.err.items) }
+    ensures { IfOk result (λ r. Shows asked (graph (items_of journal.now.items) journal.now.trail.graph) (status_code r.status) r.journal.items r.result.items r.err.items) }
 {
     let trace = journal_text(alloc, asked, journal)?;
     let text = graph_text(alloc, journal.graph())?;
@@ -133,7 +133,7 @@ fn graph_reply(alloc: Global, asked: bool, journal: &Journal) -> Result<Reply, N
 }
 
 fn fail_reply(alloc: Global, asked: bool, journal: &Journal) -> Result<Reply, NoMemory>
-    ensures { IfOk result (λ r. Shows asked (failed (items_of journal.now.items)) (status_code r.status) (r.journal.items ++ r.result.items) r.err.items) }
+    ensures { IfOk result (λ r. Shows asked (failed (items_of journal.now.items)) (status_code r.status) r.journal.items r.result.items r.err.items) }
 {
     let trace = journal_text(alloc, asked, journal)?;
     let text = Vec::from_slice(alloc, b"fail\n")?;
@@ -142,7 +142,7 @@ fn fail_reply(alloc: Global, asked: bool, journal: &Journal) -> Result<Reply, No
 
 // The summary of a demo.
 fn demo_reply(alloc: Global, kind: Kind, size: u64, journal: &Journal) -> Result<Reply, NoMemory>
-    ensures { IfOk result (λ r. (asked : Bool) → Shows asked (demo_done kind size (items_of journal.now.items) journal.now.trail.graph) (status_code r.status) (r.journal.items ++ r.result.items) r.err.items) }
+    ensures { IfOk result (λ r. (asked : Bool) → Shows asked (demo_done kind size (items_of journal.now.items) journal.now.trail.graph) (status_code r.status) r.journal.items r.result.items r.err.items) }
 {
     let text = summary(alloc, kind, size, journal.graph(), journal.items())?;
     Ok(on_out(alloc, Status::Graph, Vec::new(alloc), text))
@@ -157,7 +157,7 @@ fn constant(alloc: Global, text: &[u8]) -> Result<Vec<u8>, NoMemory>
 
 /// The texts of an answer, with the journal where it is asked for.
 pub(crate) fn reply_of(alloc: Global, asked: bool, said: &Said<'_>) -> Result<Reply, NoMemory>
-    ensures { IfOk result (λ r. Shows asked (said_of said.now) (status_code r.status) (r.journal.items ++ r.result.items) r.err.items) }
+    ensures { IfOk result (λ r. Shows asked (said_of said.now) (status_code r.status) r.journal.items r.result.items r.err.items) }
 {
     match said {
         Said::Graph(journal) => graph_reply(alloc, asked, journal),

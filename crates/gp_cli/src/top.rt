@@ -1,11 +1,11 @@
 //! The top call.
 
-ghost use Rattle.std.specs.Prelude.{◌≡◌, ◌++◌, List, map, string_bytes, Some, option_map, false, IfOk, IfSome, OnErr};
+ghost use Rattle.std.specs.Prelude.{◌≡◌, List, map, string_bytes, Some, option_map, false, IfOk, IfSome, OnErr};
 ghost use Rattle.std.specs.Option.{option_map_or};
 ghost use Rattle.gp_values.specs.Names.{Name as AnyName};
 ghost use Rattle.gp_words.specs.CommandLine as spec;
 ghost use Rattle.gp_words.specs.Told.{run_now, command_now, HasSize};
-ghost use Rattle.gp_cli.specs.Answer.{wants_journal, IsTrue, Replies, Answered, Completes, IsSilent};
+ghost use Rattle.gp_cli.specs.Answer.{wants_journal, IsTrue, Replies, ReadsNone, Answered, Completes, IsSilent};
 ghost use Rattle.gp_cli.specs.Texts.{Shows};
 ghost use Rattle.gp_cli.specs.inside.Parts.{RunsFiles};
 ghost use Rattle.gp_cli.specs.inside.Statuses.{status_code};
@@ -58,8 +58,9 @@ fn said_by_command<'a, F: Files, R: Threads + Wait + Sync>(
     pace: &Pacing,
 ) -> Result<Said<'a>, NoMemory>
     requires { HasSize command }
-    ensures { IfOk result (λ s. (words : List AnyName) → spec.command_of words ≡ Some (command_now command.entry) →
+    ensures answer { IfOk result (λ s. (words : List AnyName) → spec.command_of words ≡ Some (command_now command.entry) →
         IsTrue words (F.known files.old) (F.known files.new) (said_of s)) }
+    ensures unread { ReadsNone (Some (command_now command.entry)) → files.new ≡ files.old }
 {
     match command {
         Command::Run(command) => settled(said_by_files(rt, alloc, command, files, pace)),
@@ -76,8 +77,9 @@ fn said_by<'a, F: Files, R: Threads + Wait + Sync>(
     pace: &Pacing,
 ) -> Result<Said<'a>, NoMemory>
     requires { IfSome command HasSize }
-    ensures { IfOk result (λ s. (words : List AnyName) → option_map command_now command.entry ≡ spec.command_of words →
+    ensures answer { IfOk result (λ s. (words : List AnyName) → option_map command_now command.entry ≡ spec.command_of words →
         IsTrue words (F.known files.old) (F.known files.new) (said_of s)) }
+    ensures unread { ReadsNone (option_map command_now command.entry) → files.new ≡ files.old }
 {
     match command {
         None => Ok(Said::Usage),
@@ -97,7 +99,7 @@ fn asks(command: Option<Command<'_>>) -> bool
 
 // The texts of an answer, which is let go.
 fn texts_of(alloc: Global, asked: bool, said: Said<'_>) -> Result<Reply, NoMemory>
-    ensures { IfOk result (λ r. Shows asked (said_of said.entry) (status_code r.status) (r.journal.items ++ r.result.items) r.err.items) }
+    ensures { IfOk result (λ r. Shows asked (said_of said.entry) (status_code r.status) r.journal.items r.result.items r.err.items) }
 {
     reply_of(alloc, asked, &said)
 }
@@ -109,8 +111,9 @@ fn reply_to<F: Files, R: Threads + Wait + Sync>(
     files: &mut F,
     pace: &Pacing,
 ) -> Result<Reply, NoMemory>
-    ensures { IfOk result (λ r. Replies (map string_bytes words.now) (F.known files.old) (F.known files.new)
-        (status_code r.status) (r.journal.items ++ r.result.items) r.err.items) }
+    ensures replies { IfOk result (λ r. Replies (map string_bytes words.now) (F.known files.old) (F.known files.new)
+        (status_code r.status) r.journal.items r.result.items r.err.items) }
+    ensures unread { ReadsNone (spec.command_of (map string_bytes words.now)) → files.new ≡ files.old }
 {
     let command = command_of(alloc, words)?;
     let said = said_by(rt, alloc, command, files, pace)?;
@@ -131,6 +134,7 @@ fn answer_words<F: Files, O: Sink, E: Sink, R: Threads + Wait + Sync>(
         (O.known out.old) (O.known out.new) (E.known err.old) (E.known err.new) result }
     ensures complete { Completes (map string_bytes words.now) (F.known files.old) (F.known files.new)
         (O.known out.old) (O.known out.new) (E.known err.old) (E.known err.new) result }
+    ensures unread { ReadsNone (spec.command_of (map string_bytes words.now)) → files.new ≡ files.old }
 {
     texts_have_one_fault();
     match reply_to(rt, alloc, words, files, pace) {
@@ -154,7 +158,8 @@ pub fn gp2_main<R: AllocGlobal + Threads + Wait + Sync, F: Files, O: Sink, E: Si
         (O.known out.old) (O.known out.new) (E.known err.old) (E.known err.new) result) }
     ensures complete { IfOk words (λ given. Completes (map string_bytes given.items) (F.known files.old) (F.known files.new)
         (O.known out.old) (O.known out.new) (E.known err.old) (E.known err.new) result) }
-    ensures refused { OnErr words (IsSilent (O.known out.old) (O.known out.new) (E.known err.old) (E.known err.new) result) }
+    ensures unread { IfOk words (λ given. ReadsNone (spec.command_of (map string_bytes given.items)) → files.new ≡ files.old) }
+    ensures refused { OnErr words (IsSilent files.old files.new out.old out.new err.old err.new result) }
 {
     match words {
         Ok(words) => answer_words(rt, rt.alloc(), &words, files, out, err, pace),

@@ -1,5 +1,5 @@
 -- What a read and a write may answer, by what is known of the files' content and of what was written.
-use Rattle.std.specs.Prelude.{◌≡◌, ◌⊎◌, ℕ, ◌+◌, ◌-◌, ◌^◌, ◌≤◌, ◌<◌, min, List, ◌++◌, length, take, Option, Some, None, IfSome, IsSomeAnd, Result, Ok, Err}
+use Rattle.std.specs.Prelude.{◌≡◌, ◌⊎◌, ℕ, zero, suc, ◌+◌, ◌-◌, ◌^◌, ◌≤◌, ◌<◌, min, List, [], ◌∷◌, ◌++◌, length, take, Option, Some, None, IfSome, IsSomeAnd, Result, Ok, Err}
 use Rattle.std.specs.Option.{option_map}
 use Rattle.std.specs.Ordering.{nat_cmp}
 use Rattle.std.specs.Cmp.Lexicographic.{slice_cmp}
@@ -19,14 +19,21 @@ pub record KnownFiles : Type 0 where
   pub content : Option Content
   pub faults : ℕ
 
--- what is known of a sink: what was written, where that is known, and how often a write failed
+-- what is known of a sink: the pieces that went out, in order, where these are known, how many writes there were, and how
+-- many of them failed; what was written is the pieces one after another
 pub record KnownSink : Type 0 where
-  pub written : Option (List ℕ)
+  pub pieces : Option (List (List ℕ))
+  pub writes : ℕ
   pub faults : ℕ
 
--- a count of faults after one more, which stays at its last value
+-- a count after one more, which stays at its last value
 abbrev pub raised : ℕ → ℕ
 raised count = min (count + 1) (2 ^ 64 - 1)
+
+-- after so many more
+abbrev pub raised_by : ℕ → ℕ → ℕ
+raised_by zero count = count
+raised_by (suc more) count = raised_by more (raised count)
 
 -- the count of faults rose, or stands at its last value
 abbrev pub Rose : ℕ → ℕ → Type 0
@@ -50,12 +57,17 @@ ReadAnswers old new name limit (Err refusal.TooLong) = (bytes : List ℕ) × Has
 ReadAnswers old new name limit (Err refusal.Failed) = Rose old.faults new.faults ⊎ (LacksFile old.content name × (new.faults ≡ old.faults))
 ReadAnswers old new name limit (Err refusal.NoMemory) = new.faults ≡ old.faults
 
--- Bytes went out behind what was written before. Where that is not known, this says nothing.
-abbrev pub Gains : KnownSink → KnownSink → List ℕ → Type 0
-Gains old new bytes = new.written ≡ option_map (λ written. written ++ bytes) old.written
+-- the piece that a text is; an empty text is none
+abbrev pub piece_of : List ℕ → List (List ℕ)
+piece_of [] = []
+piece_of (byte ∷ bytes) = (byte ∷ bytes) ∷ []
+
+-- Pieces went out behind those that did before. Where these are not known, this says nothing.
+abbrev pub Gains : KnownSink → KnownSink → List (List ℕ) → Type 0
+Gains old new pieces = new.pieces ≡ option_map (λ before. before ++ pieces) old.pieces
 
 -- What a write may answer, by what is known of the sink before it and now: the whole piece went out, and the
--- count stayed; or a prefix of it went out, and the count rose.
+-- count of faults stayed; or a prefix of it went out, and the count rose.
 abbrev pub WriteAnswers : KnownSink → KnownSink → List ℕ → Result (Unit {0}) Fault → Type 0
-WriteAnswers old new piece (Ok _) = Gains old new piece × (new.faults ≡ old.faults)
-WriteAnswers old new piece (Err _) = (n : ℕ) × Gains old new (take n piece) × Rose old.faults new.faults
+WriteAnswers old new piece (Ok _) = Gains old new (piece_of piece) × (new.faults ≡ old.faults)
+WriteAnswers old new piece (Err _) = (n : ℕ) × Gains old new (piece_of (take n piece)) × Rose old.faults new.faults

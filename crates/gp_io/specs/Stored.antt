@@ -1,5 +1,5 @@
 -- Files and a sink in memory, as contracts see them.
-use Rattle.std.specs.Prelude.{ℕ, ◌-◌, List, [], ◌∷◌, map, length, Option, Some, None, unwrap_or, min, if◌then◌else◌, ◌==◌, refl}
+use Rattle.std.specs.Prelude.{ℕ, ◌-◌, List, [], ◌∷◌, map, length, take, drop, Option, Some, None, unwrap_or, min, if◌then◌else◌, ◌==◌, refl}
 use Rattle.std.specs.Coded.{Coded, code_by, coded×, coded_ℕ, coded_list}
 use Rattle.std.specs.FinMap as finite
 use Rattle.std.specs.String.{string_bytes}
@@ -32,10 +32,11 @@ files_code =
     (λ f. (f.content, (f.failing, (f.calls, f.faults))))
     (λ p. record { content = p.0; failing = p.1.0; calls = p.1.1.0; faults = p.1.1.1 }) (λ _. refl)
 
--- what was written, for how many bytes there is room, the numbers of the writes that fail, each with the
--- number of bytes that go out before, how many writes there were, and how many failed
+-- what was written, the pieces in which it was, for how many bytes there is room, the numbers of the writes that fail,
+-- each with the number of bytes that go out before, how many writes there were, and how many failed
 pub record StoredBytes : Type 0 where
   pub written : List ℕ
+  pub pieces : List (List ℕ)
   pub room : ℕ
   pub failing : List (ℕ × ℕ)
   pub calls : ℕ
@@ -43,7 +44,12 @@ pub record StoredBytes : Type 0 where
 
 -- what is known of it as of a sink
 abbrev pub known_bytes : StoredBytes → KnownSink
-known_bytes sink = record { written = Some sink.written; faults = sink.faults }
+known_bytes sink = record { pieces = Some sink.pieces; writes = sink.calls; faults = sink.faults }
+
+-- bytes cut into pieces of these lengths
+abbrev pub cut_by : List ℕ → List ℕ → List (List ℕ)
+cut_by [] bytes = []
+cut_by (n ∷ ns) bytes = take n bytes ∷ cut_by ns (drop n bytes)
 
 -- how many bytes a write of that number lets out before it fails, by the first pair that lists it
 abbrev pub bytes_before_failure : List (ℕ × ℕ) → ℕ → Option ℕ

@@ -1,7 +1,8 @@
 //! A sink in memory.
 
-ghost use Rattle.std.specs.Prelude.{◌≡◌, ◌≤◌, ◌↔◌, ◌++◌, [], None, IfOk, IsOk, OnErr, length, take};
-ghost use Rattle.gp_io.specs.Outside.{WriteAnswers, raised};
+ghost use Rattle.std.specs.Prelude.{◌≡◌, ◌≤◌, ◌↔◌, ◌++◌, [], None, IfOk, IsOk, OnErr, map, length, take};
+ghost use Rattle.std.specs.List.{concat};
+ghost use Rattle.gp_io.specs.Outside.{WriteAnswers, piece_of, raised};
 ghost use Rattle.gp_io.specs.Stored.{known_bytes, bytes_before_failure, bytes_let_out, room_left};
 
 use crate::outside::{Failed, Sink};
@@ -13,6 +14,8 @@ use std::marker::Model;
 #[derive(Drop)]
 pub struct MemSink {
     bytes: Vec<u8>,
+    /// The lengths of the pieces. An empty one is none, so there are no more of them than bytes.
+    lengths: Vec<u64>,
     room: u64,
     failing: Vec<(u64, u64)>,
     calls: u64,
@@ -20,20 +23,22 @@ pub struct MemSink {
 }
 
 impl Model for MemSink {
-    ghost use Rattle.std.specs.Prelude.{◌≤◌, vec_len, vec_capacity};
-    ghost use Rattle.gp_io.specs.Stored.{StoredBytes};
+    ghost use Rattle.std.specs.Prelude.{◌≡◌, ◌≤◌, length, sum, vec_len, vec_capacity};
+    ghost use Rattle.gp_io.specs.Stored.{StoredBytes, cut_by};
 
     ghost Value = { StoredBytes };
 
     ghost view = { λ m. record {
       written = m.bytes.items;
+      pieces = cut_by m.lengths.items m.bytes.items;
       room = m.room;
       failing = m.failing.items;
       calls = m.calls;
       faults = m.faults;
     } };
 
-    ghost invariant = { λ m. (vec_len m.bytes ≤ m.room) × (m.room ≤ vec_capacity m.bytes) };
+    ghost invariant = { λ m. (vec_len m.bytes ≤ m.room) × (m.room ≤ vec_capacity m.bytes)
+        × (vec_len m.lengths ≤ vec_len m.bytes) × (m.room ≤ vec_capacity m.lengths) × (sum m.lengths.items ≡ length m.bytes.items) };
 }
 
 impl MemSink {
@@ -41,28 +46,37 @@ impl MemSink {
     /// fail, counted from 0, each with the number of bytes that go out before.
     pub fn new(alloc: Global, room: u64, failing: Vec<(u64, u64)>) -> Result<MemSink, NoMemory>
         ensures written { IfOk result (λ sink. sink.written ≡ []) }
+        ensures pieces { IfOk result (λ sink. sink.pieces ≡ []) }
         ensures room { IfOk result (λ sink. sink.room ≡ room) }
         ensures failing { IfOk result (λ sink. sink.failing ≡ failing.items) }
         ensures calls { IfOk result (λ sink. sink.calls ≡ 0) }
         ensures faults { IfOk result (λ sink. sink.faults ≡ 0) }
     {
-        match Vec::with_capacity(alloc, room as usize) {
-            Ok(bytes) => Ok(MemSink {
-                bytes,
-                room,
-                failing,
-                calls: 0,
-                faults: 0,
-            }),
-            Err(_) => Err(NoMemory),
-        }
+        let bytes = Vec::with_capacity(alloc, room as usize)?;
+        let lengths = Vec::with_capacity(alloc, room as usize)?;
+        Ok(MemSink {
+            bytes,
+            lengths,
+            room,
+            failing,
+            calls: 0,
+            faults: 0,
+        })
     }
 
-    /// The bytes that were written.
+    /// The bytes that were written: the pieces, one after another.
     pub fn bytes(&self) -> &[u8]
-        ensures { result.now ≡ self.now.written }
+        ensures written { result.now ≡ self.now.written }
+        ensures pieces { result.now ≡ concat self.now.pieces }
     {
         self.bytes.as_slice()
+    }
+
+    /// How many bytes each piece has.
+    pub fn lengths(&self) -> &[u64]
+        ensures { result.now ≡ map length self.now.pieces }
+    {
+        self.lengths.as_slice()
     }
 
     /// How many writes failed.
@@ -70,6 +84,42 @@ impl MemSink {
         ensures { result ≡ self.now.faults }
     {
         self.faults
+    }
+
+    // For how many more bytes there is room.
+    fn left(&self) -> u64
+        ensures { result ≡ room_left self.now }
+    {
+        self.room - self.bytes.len() as u64
+    }
+
+    // Counts a write, and answers how many bytes go out before it fails, where it is listed.
+    fn begin(&mut self) -> Option<u64>
+        ensures cut { result ≡ bytes_before_failure self.old.failing self.old.calls }
+        ensures same { self.new ≡ record self.old { calls = raised self.old.calls } }
+    {
+        let call = self.calls;
+        self.calls = call.saturating_add(1);
+        cut_of(&self.failing, call)
+    }
+
+    // Puts these bytes behind the others, as one piece.
+    fn keep(&mut self, bytes: &[u8])
+        requires { length bytes.now ≤ room_left self.old }
+        ensures { self.new ≡ record self.old { written = self.old.written ++ bytes.now; pieces = self.old.pieces ++ piece_of bytes.now } }
+    {
+        if !bytes.is_empty() {
+            self.bytes.extend_from_slice(bytes).unwrap();
+            self.lengths.push(bytes.len() as u64).unwrap();
+        }
+    }
+
+    // Counts a fault.
+    fn fail(&mut self)
+        ensures counted { self.new ≡ record self.old { faults = raised self.old.faults } }
+        ensures later { self.old.faults ≤ self.new.faults }
+    {
+        self.faults = self.faults.saturating_add(1);
     }
 }
 
@@ -92,6 +142,7 @@ impl Sink for MemSink {
 
     fn write(&mut self, piece: &[u8]) -> Result<(), Failed>
         ensures answer { WriteAnswers (known_bytes self.old) (known_bytes self.new) piece.now result }
+        ensures writes { self.new.calls ≡ raised self.old.calls }
         ensures later { self.old.faults ≤ self.new.faults }
 
         // It fails exactly where the call is listed or the piece does not fit: so with an empty list the
@@ -101,24 +152,21 @@ impl Sink for MemSink {
             × (length piece.now ≤ room_left self.old)) }
         ensures prefix { OnErr result
             (self.new.written ≡ self.old.written ++ take (bytes_let_out self.old) piece.now) }
+        ensures cut { OnErr result
+            (self.new.pieces ≡ self.old.pieces ++ piece_of (take (bytes_let_out self.old) piece.now)) }
         ensures counted { OnErr result (self.new.faults ≡ raised self.old.faults) }
         ensures room { self.new.room ≡ self.old.room }
         ensures failing { self.new.failing ≡ self.old.failing }
-        ensures calls { self.new.calls ≡ raised self.old.calls }
     {
-        let call = self.calls;
-        self.calls = call.saturating_add(1);
-        let left = self.room - self.bytes.len() as u64;
-        let cut = cut_of(&self.failing, call);
+        let cut = self.begin();
+        let left = self.left();
         if cut.is_none() && piece.len() as u64 <= left {
-            self.bytes.extend_from_slice(piece).unwrap();
+            self.keep(piece);
             return Ok(());
         }
         let out = (piece.len() as u64).min(left).min(cut.unwrap_or(left));
-        self.bytes
-            .extend_from_slice(&piece[..out as usize])
-            .unwrap();
-        self.faults = self.faults.saturating_add(1);
+        self.keep(&piece[..out as usize]);
+        self.fail();
         Err(Failed)
     }
 }

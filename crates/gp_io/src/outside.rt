@@ -1,7 +1,7 @@
 //! What a program sees of the outside: files that it reads whole, and sinks that take bytes.
 
 ghost use Rattle.std.specs.Prelude.{◌≡◌, ◌≤◌};
-ghost use Rattle.gp_io.specs.Outside.{KnownFiles, KnownSink, ReadAnswers, WriteAnswers};
+ghost use Rattle.gp_io.specs.Outside.{KnownFiles, KnownSink, ReadAnswers, WriteAnswers, raised};
 ghost use Rattle.gp_io.specs.declared.outside.ReadRefusal.TheVariants as refusal;
 
 use std::alloc::{AllocError, Global};
@@ -45,12 +45,13 @@ pub trait Files {
 
 /// What takes bytes, piece by piece.
 pub trait Sink {
-    /// What is known of it: the bytes that were written, where these are known, and how often a write failed.
-    /// The count never falls.
+    /// What is known of it: the pieces that went out, where these are known, how many writes there were, and how many
+    /// of them failed. No count falls.
     ghost known: { Self → KnownSink };
 
     /// Writes the whole piece, or a prefix of it and then counts a fault. It takes no memory.
     fn write(&mut self, piece: &[u8]) -> Result<(), Failed>
         ensures answer { WriteAnswers (known self.old) (known self.new) piece.now result }
+        ensures writes { (known self.new).writes ≡ raised (known self.old).writes }
         ensures later { (known self.old).faults ≤ (known self.new).faults };
 }

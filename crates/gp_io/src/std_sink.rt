@@ -1,7 +1,7 @@
 //! The standard streams. Contracts know nothing of what was written to them.
 
 ghost use Rattle.std.specs.Prelude.{◌≡◌, ◌≤◌};
-ghost use Rattle.gp_io.specs.Outside.{WriteAnswers};
+ghost use Rattle.gp_io.specs.Outside.{WriteAnswers, raised};
 ghost use Rattle.gp_io.specs.Streams.{known_stream, Takes};
 
 use crate::outside::{Failed, Sink};
@@ -9,10 +9,11 @@ use std::io::Write;
 use std::marker::Model;
 
 /// Standard output or standard error, or any other stream of the system. A write that fails or takes
-/// nothing counts a fault. Contracts see the stream and the count.
+/// nothing counts a fault. Contracts see the stream and the counts.
 #[derive(Drop)]
 pub struct StdSink<W: Write> {
     stream: W,
+    writes: u64,
     faults: u64,
 }
 
@@ -23,16 +24,21 @@ impl<W: Write> Model for StdSink<W> {
 
     ghost coded = { stream_code W.code };
 
-    ghost view = { λ s. record { stream = s.stream; faults = s.faults } };
+    ghost view = { λ s. record { stream = s.stream; writes = s.writes; faults = s.faults } };
 }
 
 impl<W: Write> StdSink<W> {
-    /// A sink over the stream, with no fault so far.
+    /// A sink over the stream, with no write so far.
     pub fn new(stream: W) -> StdSink<W>
         ensures stream { result.stream ≡ stream }
+        ensures writes { result.writes ≡ 0 }
         ensures faults { result.faults ≡ 0 }
     {
-        StdSink { stream, faults: 0 }
+        StdSink {
+            stream,
+            writes: 0,
+            faults: 0,
+        }
     }
 
     /// How many writes failed.
@@ -65,11 +71,13 @@ impl<W: Write> Sink for StdSink<W> {
 
     fn write(&mut self, piece: &[u8]) -> Result<(), Failed>
         ensures answer { WriteAnswers (known_stream self.old) (known_stream self.new) piece.now result }
+        ensures writes { self.new.writes ≡ raised self.old.writes }
         ensures later { self.old.faults ≤ self.new.faults }
 
         // A stream whose bytes are known gains the whole piece, or a prefix of it.
         ensures stream { Takes (W.contents self.old.stream) (W.contents self.new.stream) piece.now result }
     {
+        self.writes = self.writes.saturating_add(1);
         let answer = write_whole(&mut self.stream, piece);
         if answer.is_err() {
             self.faults = self.faults.saturating_add(1);

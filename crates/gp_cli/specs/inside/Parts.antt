@@ -1,8 +1,8 @@
 -- What the parts of the top call do.
-use Rattle.std.specs.Prelude.{◌≡◌, ◌≢◌, ℕ, List, [], map, take, Result, Ok, Err}
+use Rattle.std.specs.Prelude.{◌≡◌, ℕ, List, [], map, Result, Ok, Err}
 use Rattle.std.specs.declared.vec.Vec.{Vec}
 use Rattle.std.specs.declared.alloc.Global.{Global}
-use Rattle.gp_io.specs.Outside.{KnownFiles, KnownSink, Rose, Gains}
+use Rattle.gp_io.specs.Outside.{KnownFiles, KnownSink}
 use Rattle.gp_io.specs.declared.outside.Failed.{Failed as Fault}
 use Rattle.gp_memory.specs.Free.{Free}
 use Rattle.gp_values.specs.Names.{Name}
@@ -20,6 +20,7 @@ use Rattle.gp_cli.specs.declared.said.Stop.TheVariants as stops
 use Rattle.gp_cli.specs.declared.said.Said.{Said}
 use Rattle.gp_cli.specs.Texts as texts
 use Rattle.gp_cli.specs.Answer.{HasBytes, HasLongFile, CannotRead, TellsProgram, HasProgram, HasHost, StopsAtProgram, StopsAtHost, RunAnswers, DemoAnswers}
+use Rattle.gp_cli.specs.Written.{TakesAll, IsCutShort}
 use Rattle.gp_cli.specs.inside.Told.{said_of}
 
 -- ---- files
@@ -73,16 +74,14 @@ RunsDemo k (Err stops.NoMemory) = Free
 
 -- ---- what is written
 
--- Both texts went out, and the status stands. Or it is 9: a beginning of the first went out, its sink's count rose, and
--- nothing of the second went out; or the first went out, and a beginning of the second, whose sink's count rose.
-pub data Delivers (status : ℕ) (o e : List ℕ) (out_old out_new err_old err_new : KnownSink) : ℕ → Type 0 where
-  whole : Gains out_old out_new o → Gains err_old err_new e → Delivers status o e out_old out_new err_old err_new status
-  out_cut : (n : ℕ) → Gains out_old out_new (take n o) → Gains err_old err_new [] → o ≢ [] → Rose out_old.faults out_new.faults →
-      Delivers status o e out_old out_new err_old err_new 9
-  err_cut : (n : ℕ) → Gains out_old out_new o → Gains err_old err_new (take n e) → e ≢ [] → Rose err_old.faults err_new.faults →
-      Delivers status o e out_old out_new err_old err_new 9
+-- all of these pieces went out, or the write of one failed
+abbrev pub Writes : KnownSink → KnownSink → List (List ℕ) → Result (Unit {0}) Fault → Type 0
+Writes old new pieces (Ok _) = TakesAll old new pieces
+Writes old new pieces (Err _) = IsCutShort old new pieces
 
--- The whole text went out; or a beginning of it, which is not empty, and the count rose.
-abbrev pub Writes : KnownSink → KnownSink → List ℕ → Result (Unit {0}) Fault → Type 0
-Writes old new text (Ok _) = Gains old new text
-Writes old new text (Err _) = (n : ℕ) × Gains old new (take n text) × (text ≢ []) × Rose old.faults new.faults
+-- All pieces went out, and the status stands. Or it is 9: the first sink was cut short, and the second was given nothing; or
+-- the first took all, and the second was cut short.
+pub data Delivers (status : ℕ) (out err : List (List ℕ)) (out_old out_new err_old err_new : KnownSink) : ℕ → Type 0 where
+  whole : TakesAll out_old out_new out → TakesAll err_old err_new err → Delivers status out err out_old out_new err_old err_new status
+  out_cut : IsCutShort out_old out_new out → TakesAll err_old err_new [] → Delivers status out err out_old out_new err_old err_new 9
+  err_cut : TakesAll out_old out_new out → IsCutShort err_old err_new err → Delivers status out err out_old out_new err_old err_new 9

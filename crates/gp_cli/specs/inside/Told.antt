@@ -1,5 +1,4 @@
 -- The answer that a value of the code is.
-use Rattle.gp_syntax.specs.Run as meant
 use Rattle.gp_journal.specs.Journal.{items_of}
 use Rattle.gp_cli.specs.declared.said.Said.{Said}
 use Rattle.gp_cli.specs.declared.said.Said.TheVariants as code

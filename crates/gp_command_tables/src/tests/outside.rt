@@ -78,15 +78,15 @@ fn files_of_the_system_are_read_whole_within_the_limit(rt: HostRuntime) -> Resul
 }
 
 // The room of a sink, the write that fails and how many bytes that one lets out; whether `abc` and then `de` are taken, how
-// many writes failed, and what was written.
-const SUNK: &str = "8 - - : 1 1 0 abcde
-4 - - : 1 0 1 abcd
-8 0 2 : 0 1 1 abde
-8 1 0 : 1 0 1 abc
-8 0 9 : 0 1 1 abcde
-1 0 2 : 0 0 2 a";
+// many writes failed, how long the pieces are that went out, and what was written.
+const SUNK: &str = "8 - - : 1 1 0 3 2 abcde
+4 - - : 1 0 1 3 1 abcd
+8 0 2 : 0 1 1 2 2 abde
+8 1 0 : 1 0 1 3 abc
+8 0 9 : 0 1 1 3 2 abcde
+1 0 2 : 0 0 2 1 a";
 
-// Tells whether a sink takes the two pieces, how many writes failed, and what was written.
+// Tells whether a sink takes the two pieces, how many writes failed, how long the pieces are, and what was written.
 fn told_of_sink(alloc: Global, row: &str) -> Answer {
     let mut told = Answer::new(alloc);
     let room = number_at(row, 0).unwrap_or(0);
@@ -95,6 +95,7 @@ fn told_of_sink(alloc: Global, row: &str) -> Answer {
         told.number(u64::from(sink.write(b"abc").is_ok()));
         told.number(u64::from(sink.write(b"de").is_ok()));
         told.number(sink.faults());
+        told.numbers(sink.lengths());
         told.put(b" ");
         told.put(sink.bytes());
     }

@@ -1,12 +1,10 @@
-use Rattle.std.proofs.Common.{◌≡◌, ◌<◌, map, length, sym, subst}
+use Rattle.std.proofs.Common.{◌<◌, map, length, sym, subst}
 use Rattle.std.proofs.lemmas.List.{length-map}
 use Rattle.std.proofs.lemmas.Option.{slice_get_within}
 use Rattle.std.proofs.lemmas.Result.{IfOk-weaker}
 use Rattle.gp_syntax.specs.Tree.{program_of_tree, rule_of_tree}
-use Rattle.gp_cli.specs.Texts.{Said}
 use Rattle.gp_cli.specs.Answer.{Comes, gives, fails, is_spent, is_faulty}
 use Rattle.gp_cli.specs.inside.Parts.{names_of}
-use Rattle.gp_cli.specs.inside.Told.{said_of}
 use Rattle.gp_cli.proofs.Runs.{runs_to}
 use Rattle.gp_cli.proofs.run.run.Goals as goal
 

@@ -3,10 +3,13 @@ use Rattle.gp_cli.proofs.Completeness.{completes}
 use Rattle.gp_cli.proofs.top.answer_words.Goals as goal
 
 pub returns-in-Ok-clause-answered : goal.returns-in-Ok-clause-answered
-returns-in-Ok-clause-answered g c = delivered c.in-Ok.ensures c.deliver.ensures
+returns-in-Ok-clause-answered g c = delivered c.in-Ok.ensures.replies c.deliver.ensures
 
 pub returns-in-Ok-clause-complete : goal.returns-in-Ok-clause-complete
-returns-in-Ok-clause-complete g c = completes c.texts_have_one_fault.ensures.none (delivered c.in-Ok.ensures c.deliver.ensures).answer
+returns-in-Ok-clause-complete g c = completes c.texts_have_one_fault.ensures.none (delivered c.in-Ok.ensures.replies c.deliver.ensures)
 
 pub returns-in-Err-clause-answered : goal.returns-in-Err-clause-answered
 returns-in-Err-clause-answered g c = rw c.code.ensures (silent _ _)
+
+pub returns-in-Err-clause-complete : goal.returns-in-Err-clause-complete
+returns-in-Err-clause-complete g c = rw c.code.ensures (completes c.texts_have_one_fault.ensures.none (silent _ _))
