@@ -7,7 +7,7 @@ use std::alloc::Global;
 use std::fmt::{Debug, Display};
 
 /// An answer, most often of words with a space between each two of them.
-pub(crate) struct Answer {
+pub struct Answer {
     alloc: Global,
     text: Vec<u8>,
     wrong: Option<Wrong>,
@@ -26,7 +26,7 @@ impl Drop for Answer {
 
 impl Answer {
     /// Nothing.
-    pub(crate) fn new(alloc: Global) -> Answer {
+    pub fn new(alloc: Global) -> Answer {
         Answer {
             alloc,
             text: Vec::new(alloc),
@@ -35,19 +35,19 @@ impl Answer {
     }
 
     /// Writes bytes.
-    pub(crate) fn put(&mut self, bytes: &[u8]) {
+    pub fn put(&mut self, bytes: &[u8]) {
         if self.text.extend_from_slice(bytes).is_err() {
             self.wrong(Wrong::new("no memory"));
         }
     }
 
     /// Writes a number.
-    pub(crate) fn put_number(&mut self, number: u64) {
+    pub fn put_number(&mut self, number: u64) {
         self.put(Buffer::new().format(number).as_bytes());
     }
 
     /// Writes a word.
-    pub(crate) fn word(&mut self, word: &[u8]) {
+    pub fn word(&mut self, word: &[u8]) {
         if !self.text.is_empty() {
             self.put(b" ");
         }
@@ -55,19 +55,19 @@ impl Answer {
     }
 
     /// Writes a word if this is so.
-    pub(crate) fn word_if(&mut self, is_so: bool, word: &[u8]) {
+    pub fn word_if(&mut self, is_so: bool, word: &[u8]) {
         if is_so {
             self.word(word);
         }
     }
 
     /// Writes a number as a word.
-    pub(crate) fn number(&mut self, number: u64) {
+    pub fn number(&mut self, number: u64) {
         self.word(Buffer::new().format(number).as_bytes());
     }
 
     /// Writes a value as a word, as `{}` prints it.
-    pub(crate) fn show<T: Display>(&mut self, value: &T) {
+    pub fn show<T: Display>(&mut self, value: &T) {
         match shown(self.alloc, value) {
             Ok(text) => self.word(&text),
             Err(wrong) => self.wrong(wrong),
@@ -75,15 +75,23 @@ impl Answer {
     }
 
     /// Writes a value as a word, as `{:?}` prints it.
-    pub(crate) fn debug<T: Debug>(&mut self, value: &T) {
+    pub fn debug<T: Debug>(&mut self, value: &T) {
         match debugged(self.alloc, value) {
             Ok(text) => self.word(&text),
             Err(wrong) => self.wrong(wrong),
         }
     }
 
+    /// Writes another answer, if it is one.
+    pub fn add(&mut self, other: &Answer) {
+        self.put(&other.text);
+        if let Some(wrong) = other.wrong {
+            self.wrong(wrong);
+        }
+    }
+
     /// Writes what was made elsewhere.
-    pub(crate) fn take(&mut self, given: Result<Vec<u8>, Wrong>) {
+    pub fn take(&mut self, given: Result<Vec<u8>, Wrong>) {
         match given {
             Ok(text) => self.put(&text),
             Err(wrong) => self.wrong(wrong),
@@ -91,22 +99,22 @@ impl Answer {
     }
 
     /// Says that there is no answer.
-    pub(crate) fn wrong(&mut self, wrong: Wrong) {
+    pub fn wrong(&mut self, wrong: Wrong) {
         self.wrong = Some(wrong);
     }
 
     /// What is written so far.
-    pub(crate) fn text(&self) -> &[u8] {
+    pub fn text(&self) -> &[u8] {
         &self.text
     }
 
     /// Why there is no answer.
-    pub(crate) fn why(&self) -> Option<Wrong> {
+    pub fn why(&self) -> Option<Wrong> {
         self.wrong
     }
 
     /// The answer.
-    pub(crate) fn into_text(self) -> Result<Vec<u8>, Wrong> {
+    pub fn into_text(self) -> Result<Vec<u8>, Wrong> {
         let Answer {
             alloc: _,
             text,

@@ -79,7 +79,7 @@ pub(crate) fn fields_of(
 }
 
 /// What stands before and behind the first of these marks.
-pub(crate) fn split_at<'a>(text: &'a [u8], mark: &[u8]) -> Option<(&'a [u8], &'a [u8])> {
+pub fn split_at<'a>(text: &'a [u8], mark: &[u8]) -> Option<(&'a [u8], &'a [u8])> {
     for place in 0..text.len() {
         let (before, rest) = text.split_at(place);
         if let Some(behind) = rest.strip_prefix(mark) {
@@ -191,10 +191,4 @@ fn put_byte(count: u64, copy: u64, byte: u8, out: &mut Answer) {
         b'$' => out.put_number(count.saturating_sub(copy).saturating_sub(1)),
         _ => out.put(&[byte]),
     }
-}
-
-/// Writes a number behind a text.
-pub(crate) fn put_number(number: u64, text: &mut Vec<u8>) -> Result<(), Wrong> {
-    text.extend_from_slice(itoa::Buffer::new().format(number).as_bytes())?;
-    Ok(())
 }

@@ -8,20 +8,20 @@ const MOST: usize = 200;
 
 /// What went wrong, as a text. It has no `Debug`, so that `?` turns each error that has one into it.
 #[derive(Clone, Copy)]
-pub(crate) struct Wrong {
+pub struct Wrong {
     text: InlineText<{ MOST }>,
 }
 
 impl Wrong {
     /// This message.
-    pub(crate) fn new(message: &'static str) -> Wrong {
+    pub fn new(message: &'static str) -> Wrong {
         Wrong {
             text: InlineText::of(message),
         }
     }
 
     /// The message.
-    pub(crate) fn text(&self) -> &str {
+    pub fn text(&self) -> &str {
         self.text.as_str()
     }
 }
