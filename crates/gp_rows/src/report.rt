@@ -1,7 +1,7 @@
 //! The report of a file: how many rows it has, and each row that did not give what is wanted.
 
 use crate::answers::Answer;
-use crate::rows::{Names, fields_of, split_at};
+use crate::rows::{Names, put_fields, split_at};
 use crate::wrong::Wrong;
 use std::alloc::Global;
 
@@ -46,18 +46,15 @@ impl Report {
     /// The fields of the next line: none, unless it is a row.
     pub fn read(&mut self, line: &[u8]) -> Vec<Vec<u8>> {
         self.line = self.line.saturating_add(1);
-        match fields_of(self.alloc, &mut self.names, line) {
-            Ok(fields) => {
-                if !fields.is_empty() {
-                    self.rows = self.rows.saturating_add(1);
-                }
-                fields
-            }
-            Err(wrong) => {
-                self.put_mistake(&[wrong.text().as_bytes()]);
-                Vec::new(self.alloc)
-            }
+        let mut fields = Vec::new(self.alloc);
+        if let Err(wrong) = put_fields(self.alloc, &mut self.names, line, &mut fields) {
+            self.put_mistake(&[wrong.text().as_bytes()]);
+            return Vec::new(self.alloc);
         }
+        if !fields.is_empty() {
+            self.rows = self.rows.saturating_add(1);
+        }
+        fields
     }
 
     /// Tells an answer to the row of this line that is not the one that is wanted.

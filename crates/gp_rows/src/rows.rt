@@ -1,5 +1,7 @@
 //! Rows of a file: its lines, cut into fields, with what stands between backquotes written out.
 
+ghost use Rattle.std.specs.Prelude.{◌≡◌, ◌++◌, IfSome};
+
 use crate::answers::Answer;
 use crate::wrong::Wrong;
 use std::alloc::Global;
@@ -60,26 +62,26 @@ impl Names {
     }
 }
 
-/// The fields of a line. An empty line, a comment and a definition have none.
-pub(crate) fn fields_of(
+/// Puts the fields of a line behind others. An empty line, a comment and a definition have none.
+pub(crate) fn put_fields(
     alloc: Global,
     names: &mut Names,
     line: &[u8],
-) -> Result<Vec<Vec<u8>>, Wrong> {
+    fields: &mut Vec<Vec<u8>>,
+) -> Result<(), Wrong> {
     if line.is_empty() || line.starts_with(b"//") {
-        return Ok(Vec::new(alloc));
+        return Ok(());
     }
     match line.strip_prefix(b"`let ".as_slice()) {
-        Some(definition) => {
-            names.define(alloc, definition)?;
-            Ok(Vec::new(alloc))
-        }
-        None => cut(alloc, names, line),
+        Some(definition) => names.define(alloc, definition),
+        None => cut(alloc, names, line, fields),
     }
 }
 
 /// What stands before and behind the first of these marks.
-pub fn split_at<'a>(text: &'a [u8], mark: &[u8]) -> Option<(&'a [u8], &'a [u8])> {
+pub fn split_at<'a>(text: &'a [u8], mark: &[u8]) -> Option<(&'a [u8], &'a [u8])>
+    ensures { IfSome result (λ parts. text.now ≡ parts.0.now ++ mark.now ++ parts.1.now) }
+{
     for place in 0..text.len() {
         let (before, rest) = text.split_at(place);
         if let Some(behind) = rest.strip_prefix(mark) {
@@ -89,22 +91,30 @@ pub fn split_at<'a>(text: &'a [u8], mark: &[u8]) -> Option<(&'a [u8], &'a [u8])>
     None
 }
 
-// The fields of a line that has some.
-fn cut(alloc: Global, names: &Names, line: &[u8]) -> Result<Vec<Vec<u8>>, Wrong> {
-    let mut fields = Vec::new(alloc);
-    let mut left = Some(line);
-    for _ in 0..=line.len() {
-        let Some(text) = left else {
-            return Ok(fields);
-        };
-        let (field, behind) = match split_at(text, b" @ ") {
-            Some((field, behind)) => (field, Some(behind)),
-            None => (text, None),
-        };
-        fields.push(expanded(alloc, names, field)?)?;
-        left = behind;
+// Puts the fields of a line that has some behind others.
+fn cut(alloc: Global, names: &Names, line: &[u8], fields: &mut Vec<Vec<u8>>) -> Result<(), Wrong> {
+    let mut left = line;
+    for _ in 0..line.len() {
+        match split_at(left, b" @ ") {
+            Some((field, behind)) => {
+                put_field(alloc, names, field, fields)?;
+                left = behind;
+            }
+            None => return put_field(alloc, names, left, fields),
+        }
     }
-    Ok(fields)
+    Ok(())
+}
+
+fn put_field(
+    alloc: Global,
+    names: &Names,
+    text: &[u8],
+    fields: &mut Vec<Vec<u8>>,
+) -> Result<(), Wrong> {
+    let field = expanded(alloc, names, text)?;
+    fields.push(field)?;
+    Ok(())
 }
 
 // A text with what stands between backquotes written out.
@@ -127,14 +137,14 @@ fn expanded(alloc: Global, names: &Names, text: &[u8]) -> Result<Vec<u8>, Wrong>
 
 // Writes what a word between backquotes stands for; no word stands for nothing.
 fn put_word(names: &Names, word: &[u8], out: &mut Answer) {
-    match (byte_of(word), repetition(word)) {
-        (Some(byte), _) => out.put(&[byte]),
-        (None, Some((count, piece))) => put_copies(count, piece, out),
-        (None, None) => {
-            if !word.is_empty() {
-                names.put(word, out);
-            }
-        }
+    if let Some(byte) = byte_of(word) {
+        out.put(&[byte]);
+    } else if let Some((count, piece)) = split_at(word, b"*")
+        && let Some(count) = number_of(count)
+    {
+        put_copies(count, piece, out);
+    } else if !word.is_empty() {
+        names.put(word, out);
     }
 }
 
@@ -156,12 +166,6 @@ fn digit(byte: u8) -> Option<u8> {
         b'a'..=b'f' => Some((byte & 7) + 9),
         _ => None,
     }
-}
-
-// How often a text stands, and the text.
-fn repetition(word: &[u8]) -> Option<(u64, &[u8])> {
-    let (count, piece) = split_at(word, b"*")?;
-    Some((number_of(count)?, piece))
 }
 
 /// The number that a text is.
