@@ -11,20 +11,11 @@ use gp_rows::{Answer, number};
 use gp_values::{EdgeMark, NodeMark};
 use std::alloc::Global;
 
-// A node of a list's number, which is a root or not.
-#[derive(Clone, Copy, PartialEq, Eq)]
-struct NodeBeside {
-    list: u64,
-    is_root: bool,
-}
+// The number of a node's list, and whether it is a root.
+type NodeBeside = (u64, bool);
 
-// An edge with the number of its list.
-#[derive(Clone, Copy, PartialEq, Eq)]
-struct EdgeBeside {
-    source: u64,
-    target: u64,
-    list: u64,
-}
+// The source and the target of an edge, and the number of its list.
+type EdgeBeside = (u64, u64, u64);
 
 // A graph, and what should be there by its number.
 struct Beside {
@@ -119,7 +110,7 @@ impl Beside {
         let is_root = state % 3 == 0;
         let list = label(alloc, 1)?;
         let n = self.graph.add_node(list, NodeMark::None, is_root)?;
-        put_at(&mut self.nodes, n, Some(NodeBeside { list: 1, is_root }))
+        put_at(&mut self.nodes, n, Some((1, is_root)))
     }
 
     fn join(&mut self, alloc: Global, state: u64) -> Result<(), NoMemory> {
@@ -128,11 +119,7 @@ impl Beside {
         if has_node(&self.graph, source) && has_node(&self.graph, target) {
             let list = label(alloc, 2)?;
             let e = self.graph.add_edge(source, target, list, EdgeMark::None)?;
-            let edge = EdgeBeside {
-                source,
-                target,
-                list: 2,
-            };
+            let edge = (source, target, 2);
             return put_at(&mut self.edges, e, Some(edge));
         }
         Ok(())
@@ -158,7 +145,7 @@ impl Beside {
             let is_root = state % 2 == 0;
             let list = label(alloc, 3)?;
             self.graph.relabel(n, list, NodeMark::None, is_root);
-            put_at(&mut self.nodes, n, Some(NodeBeside { list: 3, is_root }))?;
+            put_at(&mut self.nodes, n, Some((3, is_root)))?;
         }
         Ok(())
     }
@@ -169,20 +156,17 @@ impl Beside {
             let is_root = state % 2 == 0;
             let list = label(alloc, 4)?;
             self.graph.put_node(n, list, NodeMark::None, is_root);
-            put_at(&mut self.nodes, n, Some(NodeBeside { list: 4, is_root }))?;
+            put_at(&mut self.nodes, n, Some((4, is_root)))?;
         }
-        self.put_loop(alloc, n, recent(self.edges.len(), drawn(state)))
+        let e = recent(self.edges.len(), drawn(state));
+        self.put_loop(alloc, n, e)
     }
 
     fn put_loop(&mut self, alloc: Global, n: u64, e: u64) -> Result<(), NoMemory> {
         if is_vacant_edge(&self.graph, e) && has_node(&self.graph, n) {
             let list = label(alloc, 5)?;
             self.graph.put_edge(e, n, n, list, EdgeMark::None);
-            let edge = EdgeBeside {
-                source: n,
-                target: n,
-                list: 5,
-            };
+            let edge = (n, n, 5);
             put_at(&mut self.edges, e, Some(edge))?;
         }
         Ok(())
@@ -199,14 +183,28 @@ impl Beside {
         }
     }
 
-    // Whether the graph has what the lists have at each number.
+    // Whether the graph has what the lists have.
     fn agrees(&self) -> bool {
         let (nodes, edges) = self.graph.next_numbers();
         nodes == self.nodes.len() as u64
             && edges == self.edges.len() as u64
             && self.are_counted()
-            && (0..nodes).all(|n| self.node_agrees(n))
-            && (0..edges).all(|e| self.edge_agrees(e))
+            && self.each_agrees(nodes, edges)
+    }
+
+    // Whether the graph has what the lists have at each number below these.
+    fn each_agrees(&self, nodes: u64, edges: u64) -> bool {
+        for n in 0..nodes {
+            if !self.node_agrees(n) {
+                return false;
+            }
+        }
+        for e in 0..edges {
+            if !self.edge_agrees(e) {
+                return false;
+            }
+        }
+        true
     }
 
     // Whether the graph counts as many nodes and roots as the lists have.
@@ -215,7 +213,7 @@ impl Beside {
         for entry in self.nodes.iter() {
             if let Some(node) = entry {
                 nodes = nodes.saturating_add(1);
-                roots = roots.saturating_add(u64::from(node.is_root));
+                roots = roots.saturating_add(u64::from(node.1));
             }
         }
         (self.graph.node_count(), self.graph.root_count()) == (nodes, roots)
@@ -226,7 +224,7 @@ impl Beside {
         match self.graph.node(n) {
             Some((list, _, is_root)) => {
                 let list = number_in(list).unwrap_or(0);
-                there == Some(NodeBeside { list, is_root })
+                there == Some((list, is_root))
             }
             None => there.is_none(),
         }
@@ -237,12 +235,7 @@ impl Beside {
         match self.graph.edge(e) {
             Some((source, target, list, _)) => {
                 let list = number_in(list).unwrap_or(0);
-                there
-                    == Some(EdgeBeside {
-                        source,
-                        target,
-                        list,
-                    })
+                there == Some((source, target, list))
             }
             None => there.is_none(),
         }
@@ -269,8 +262,8 @@ impl Beside {
         let mut given = numbers.iter();
         for (e, entry) in self.edges.iter().enumerate() {
             if let Some(edge) = entry {
-                if is_asked(source, edge.source)
-                    && is_asked(target, edge.target)
+                if is_asked(source, edge.0)
+                    && is_asked(target, edge.1)
                     && given.next().copied() != Some(e as u64)
                 {
                     return false;

@@ -110,40 +110,72 @@ pub(crate) fn make_edits(alloc: Global, text: &[u8], graph: &mut Graph, out: &mu
 }
 
 fn make_edit(alloc: Global, text: &[u8], graph: &mut Graph, out: &mut Answer) -> Result<(), Wrong> {
-    let words = words_of(alloc, text)?;
-    match field(&words, 0) {
-        b"reserve" => Ok(graph.reserve(number(&words, 1), number(&words, 2))?),
-        b"node" => add_node(alloc, graph, &words, out),
-        b"edge" => add_edge(alloc, graph, &words, out),
-        b"label" => relabel(alloc, graph, &words, out),
-        b"cut" => cut(alloc, graph, &words, out),
-        b"gone" => gone(alloc, graph, &words, out),
-        b"put-node" => put_node(alloc, graph, &words),
-        b"put-edge" => put_edge(alloc, graph, &words),
-        b"drop" => {
-            lower(graph);
-            Ok(())
-        }
-        _ => Err(Wrong::new("no edit")),
-    }
-}
-
-fn words_of(alloc: Global, text: &[u8]) -> Result<Vec<Vec<u8>>, Wrong> {
     let mut words = Vec::new(alloc);
     for word in text.split(|byte| *byte == b' ') {
         if !word.is_empty() {
-            words.push(Vec::from_slice(alloc, word)?)?;
+            put_word(alloc, word, &mut words)?;
         }
     }
-    Ok(words)
+    make(alloc, graph, &words, out)
+}
+
+fn put_word(alloc: Global, word: &[u8], words: &mut Vec<Vec<u8>>) -> Result<(), Wrong> {
+    let word = Vec::from_slice(alloc, word)?;
+    words.push(word)?;
+    Ok(())
+}
+
+// Makes the edit of these words.
+fn make(
+    alloc: Global,
+    graph: &mut Graph,
+    words: &[Vec<u8>],
+    out: &mut Answer,
+) -> Result<(), Wrong> {
+    let word = field(words, 0);
+    if word == b"node".as_slice() {
+        return add_node(alloc, graph, words, out);
+    }
+    if word == b"edge".as_slice() {
+        return add_edge(alloc, graph, words, out);
+    }
+    if word == b"label".as_slice() {
+        return relabel(alloc, graph, words, out);
+    }
+    if word == b"cut".as_slice() {
+        return cut(alloc, graph, words, out);
+    }
+    if word == b"gone".as_slice() {
+        return gone(alloc, graph, words, out);
+    }
+    make_other(alloc, graph, words)
+}
+
+// Makes the edit of these words, which gives nothing back.
+fn make_other(alloc: Global, graph: &mut Graph, words: &[Vec<u8>]) -> Result<(), Wrong> {
+    let word = field(words, 0);
+    if word == b"put-node".as_slice() {
+        return put_node(alloc, graph, words);
+    }
+    if word == b"put-edge".as_slice() {
+        return put_edge(alloc, graph, words);
+    }
+    if word == b"reserve".as_slice() {
+        return Ok(graph.reserve(number(words, 1), number(words, 2))?);
+    }
+    if word == b"drop".as_slice() {
+        lower(graph);
+        return Ok(());
+    }
+    Err(Wrong::new("no edit"))
 }
 
 fn node_mark(word: &[u8]) -> NodeMark {
-    match word.first() {
-        Some(b'R') => NodeMark::Red,
-        Some(b'B') => NodeMark::Blue,
-        Some(_) if word == b"Green".as_slice() => NodeMark::Green,
-        Some(b'G') => NodeMark::Grey,
+    match word {
+        [b'R', ..] => NodeMark::Red,
+        [b'B', ..] => NodeMark::Blue,
+        [b'G', _, _, b'e', _] => NodeMark::Green,
+        [b'G', ..] => NodeMark::Grey,
         _ => NodeMark::None,
     }
 }
