@@ -259,18 +259,19 @@ impl Beside {
 
     // Whether these are, in their order, the numbers of the edges with this source and this target, where they are asked for.
     fn are_edges(&self, numbers: &[u64], source: Option<u64>, target: Option<u64>) -> bool {
-        let mut given = numbers.iter();
+        let mut met: usize = 0;
         for (e, entry) in self.edges.iter().enumerate() {
-            if let Some(edge) = entry {
-                if is_asked(source, edge.0)
-                    && is_asked(target, edge.1)
-                    && given.next().copied() != Some(e as u64)
-                {
+            if let Some(edge) = entry
+                && is_asked(source, edge.0)
+                && is_asked(target, edge.1)
+            {
+                if numbers.get(met).copied() != Some(e as u64) {
                     return false;
                 }
+                met = met.saturating_add(1);
             }
         }
-        given.next().is_none()
+        met == numbers.len()
     }
 }
 
