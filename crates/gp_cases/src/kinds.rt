@@ -1,9 +1,9 @@
 //! The kinds of rows.
 
-use crate::answers::Answer;
 use crate::rules::{choices, lists, matches, searches, steps, unification, values, walks};
 use crate::texts::programs::cuts;
 use crate::texts::{cursors, hosts, limits, lines, parts, programs, rules, scopes, tokens, traces};
+use gp_rows::Answer;
 use std::alloc::Global;
 
 /// What the rows of a file are about.
@@ -53,7 +53,7 @@ pub(crate) enum Kind {
 }
 
 /// The files of rows, `NAME.rows`, and the kind of each.
-pub(crate) const FILES: [(&str, Kind); 60] = [
+pub(crate) const FILES: [(&'static str, Kind); 60] = [
     ("tokens", Kind::Tokens),
     ("token_lines", Kind::TokenLines),
     ("classes", Kind::Classes),

@@ -1,30 +1,44 @@
 //! The cases that are tried by running: rows of texts, each with the answer that is wanted.
 //!
 //! The program reads each of its files of rows (`data/NAME.rows`) from the folder that it is run in, gives each row to
-//! the function of its kind, and writes how many rows a file has, and each row whose answer is another one. `rows` says
+//! the function of its kind, and writes how many rows a file has, and each row whose answer is another one. `gp_rows` says
 //! how rows are written, `kinds` which kinds there are; `texts` has the kinds about texts, `rules` those about rules,
 //! matches, steps and searches.
 #![tactic(auto)]
 
-mod answers;
-mod fields;
 mod kinds;
-mod report;
-mod rows;
 mod rules;
 mod samples;
 mod texts;
-mod wrong;
 
-use kinds::{FILES, Kind};
-use report::report_of;
+use gp_rows::{Answer, Report, Wrong};
+use kinds::{FILES, Kind, answer};
+use std::alloc::Global;
 use std::fs;
 use std::io::Write;
 use std::process::ExitCode;
-use wrong::Wrong;
+
+// The report of a file of rows of this kind.
+fn report_of(
+    alloc: Global,
+    name: &'static str,
+    kind: Kind,
+    bytes: &[u8],
+) -> Result<Vec<u8>, Wrong> {
+    let mut report = Report::new(alloc, name);
+    for line in bytes.split(|byte| *byte == b'\n') {
+        let fields = report.read(line);
+        if let Some((wanted, inputs)) = fields.split_last() {
+            let mut given = Answer::new(alloc);
+            answer(kind, alloc, inputs, &mut given);
+            report.judge(wanted, &given);
+        }
+    }
+    report.text()
+}
 
 // Tries the rows of a file, and prints its report.
-fn try_file(rt: &HostRuntime, name: &str, kind: Kind) -> Result<(), Wrong> {
+fn try_file(rt: &HostRuntime, name: &'static str, kind: Kind) -> Result<(), Wrong> {
     let mut path = String::from_str(rt.alloc(), name)?;
     path.push_str(".rows")?;
     let bytes = fs::read(rt, path)?;

@@ -1,11 +1,9 @@
 //! What rows about rules hold, a rule, a host and a match; and matches, labels and graphs as answers tell them.
 
-use crate::answers::Answer;
-use crate::fields::field;
 use crate::samples::{host_of, rules_of};
-use crate::wrong::Wrong;
 use gp_graph::Graph;
 use gp_hostfile::write_graph;
+use gp_rows::{Answer, Wrong, field};
 use gp_syntax::{Found, Item, Rule};
 use gp_trace::read_trace;
 use gp_values::List;

@@ -1,14 +1,12 @@
 //! Strings, lists and rounds of numbers.
 
-use crate::answers::Answer;
-use crate::fields::{field, number};
 use crate::rules::cases::put_label;
 use crate::rules::searches::share_at;
 use crate::samples::host_of;
-use crate::wrong::Wrong;
 use gp_graph::Graph;
 use gp_memory::NoMemory;
 use gp_round::numbers_of_share;
+use gp_rows::{Answer, Wrong, field, number};
 use gp_values::{Chars, List};
 use std::alloc::Global;
 use std::cmp::Ordering;

@@ -1,8 +1,8 @@
 //! Images of left nodes and left edges, and the verdict on them.
 
-use crate::answers::Answer;
 use crate::rules::cases::case_at;
 use gp_match::check_match;
+use gp_rows::Answer;
 use std::alloc::Global;
 
 /// The verdict on a match: what the row shows, a rule, a host, and the images.

@@ -3,12 +3,11 @@
 ghost use Rattle.std.specs.Prelude.{IfOk};
 ghost use Rattle.gp_step.specs.Undo.{Fits, Undoes};
 
-use crate::answers::Answer;
 use crate::rules::cases::{Case, case_at, is_same, put_graph, rule_of};
-use crate::wrong::Wrong;
 use gp_graph::Graph;
 use gp_match::{Verdict, check_match};
 use gp_memory::NoMemory;
+use gp_rows::{Answer, Wrong};
 use gp_step::{Undo, apply, undo};
 use gp_syntax::{Found, Rule};
 use std::alloc::Global;

@@ -7,10 +7,9 @@ ghost use Rattle.gp_syntax.specs.Typing.{type_in};
 ghost use Rattle.gp_syntax.specs.WellFormed.{IsWellFormed};
 ghost use Rattle.gp_unify.specs.Extension.{AreKnown};
 
-use crate::answers::Answer;
 use crate::rules::cases::{pair_at, put_label};
-use crate::wrong::Wrong;
 use gp_graph::Graph;
+use gp_rows::{Answer, Wrong};
 use gp_syntax::{Assignment, LeftNode, RuleParts, SimpleLabel};
 use gp_unify::{Unified, unify};
 use gp_values::List;

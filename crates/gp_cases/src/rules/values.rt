@@ -7,10 +7,10 @@ ghost use Rattle.gp_syntax.specs.Tree.{condition_or_true, expression_of, pattern
 ghost use Rattle.gp_syntax.specs.WellFormed.{IsConditionWithin, IsWithin, IsWellFormed};
 ghost use Rattle.gp_eval.specs.Answer.{AreNodes};
 
-use crate::answers::Answer;
 use crate::rules::cases::{case_at, put_label};
 use gp_eval::{Valued, holds, value};
 use gp_graph::Graph;
+use gp_rows::Answer;
 use gp_syntax::{Assignment, Cond, Found, MarkPattern, RightNode, RuleParts};
 use gp_unify::assignment_by;
 use gp_values::EdgeMark;

@@ -3,15 +3,13 @@
 ghost use Rattle.std.specs.Prelude.{◌≡◌, IfOk, OnOk};
 ghost use Rattle.gp_step.specs.Undo.{Fits, Undoes, undone_by};
 
-use crate::answers::Answer;
-use crate::fields::{field, number};
 use crate::rules::cases::is_same;
 use crate::rules::steps::make_step;
 use crate::samples::{host_of, rules_of};
-use crate::wrong::Wrong;
 use gp_graph::Graph;
 use gp_match::{Verdict, check_match};
 use gp_memory::NoMemory;
+use gp_rows::{Answer, Wrong, field, number};
 use gp_step::{Undo, undo};
 use gp_syntax::{EdgeImage, Found, Rule};
 use rand_core::SeedableRng;

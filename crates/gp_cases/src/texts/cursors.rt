@@ -1,9 +1,7 @@
 //! Cursors over tokens, what they may want next, and integers of numerals.
 
-use crate::answers::Answer;
-use crate::fields::field;
-use crate::wrong::Wrong;
 use gp_grammar::{Numeral, ReadError, Tokens, Want, repeated_by, separated_by, stands_before};
+use gp_rows::{Answer, Wrong, field};
 use gp_tokens::{Keyword, Kind, lex};
 use std::alloc::Global;
 

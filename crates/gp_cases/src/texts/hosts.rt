@@ -1,11 +1,9 @@
 //! Hosts that are read and written, and the first faults of other texts.
 
-use crate::answers::Answer;
-use crate::fields::field;
 use crate::samples::host_of;
-use crate::wrong::Wrong;
 use gp_graph::Graph;
 use gp_hostfile::{laws, write_graph};
+use gp_rows::{Answer, Wrong, field};
 use std::alloc::Global;
 
 /// The text of the graph of a host, which is read back; or the fault.

@@ -1,10 +1,9 @@
 //! How deep brackets and runs of signs may be, and where a numeral of a list is out of range.
 
-use crate::answers::Answer;
-use crate::fields::field;
 use gp_expressions::read_list;
 use gp_grammar::Tokens;
 use gp_program::first_too_deep;
+use gp_rows::{Answer, field};
 use gp_tokens::lex;
 use std::alloc::Global;
 

@@ -1,9 +1,7 @@
 //! The lines that name the faults of programs.
 
-use crate::answers::Answer;
-use crate::fields::field;
-use crate::wrong::Wrong;
 use gp_reader::{ProgramFault, read_program};
+use gp_rows::{Answer, Wrong, field};
 use std::alloc::Global;
 
 /// The line that names the fault of a text, behind a text that may be given; no line for a program.

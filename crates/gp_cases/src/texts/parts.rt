@@ -1,8 +1,6 @@
 //! What runs are made of: names, matches and assignments.
 
-use crate::answers::Answer;
-use crate::fields::{field, number};
-use crate::wrong::Wrong;
+use gp_rows::{Answer, Wrong, field, number};
 use gp_syntax::{Assignment, EdgeImage, Found, Item, Name, VariableType};
 use gp_values::{Atom, List};
 use std::alloc::Global;

@@ -7,9 +7,8 @@ mod pieces;
 mod terms;
 mod tree;
 
-use crate::answers::Answer;
-use crate::fields::field;
 use gp_program::parse_program;
+use gp_rows::{Answer, field};
 use gp_tokens::lex;
 use std::alloc::Global;
 use tree::put_tree;

@@ -1,11 +1,10 @@
 //! Rules: which are accepted, and which static clause the others break first, with the name that it tells.
 
 use super::lines::agree;
-use crate::answers::Answer;
-use crate::fields::field;
 use crate::samples::rules_of;
 use gp_check::check_rule;
 use gp_program::parse_program;
+use gp_rows::{Answer, field};
 use gp_syntax::{Ast, Decl};
 use gp_tokens::lex;
 use std::alloc::Global;

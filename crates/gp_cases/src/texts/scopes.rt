@@ -1,12 +1,10 @@
 //! Names and calls of programs: which are accepted, and which fault of scope the others have, with its name.
 
 use super::lines::agree;
-use crate::answers::Answer;
-use crate::fields::field;
-use crate::wrong::Wrong;
 use gp_program::parse_program;
 use gp_reader::read_program;
 use gp_resolve::{ScopeFault, resolve};
+use gp_rows::{Answer, Wrong, field};
 use gp_syntax::{Ast, Command, Items, Name, Program};
 use gp_tokens::lex;
 use std::alloc::Global;

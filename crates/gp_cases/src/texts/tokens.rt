@@ -1,8 +1,6 @@
 //! Texts with their tokens or their first fault; lines of tokens; classes of words.
 
-use crate::answers::Answer;
-use crate::fields::{field, number};
-use crate::wrong::Wrong;
+use gp_rows::{Answer, Wrong, field, number};
 use gp_tokens::{Keyword, Kind, Token, is_reserved, lex, line_of_token};
 use std::alloc::Global;
 

@@ -1,8 +1,6 @@
 //! Traces that are read and written back, and texts that are none.
 
-use crate::answers::Answer;
-use crate::fields::field;
-use crate::wrong::Wrong;
+use gp_rows::{Answer, Wrong, field};
 use gp_syntax::Item;
 use gp_trace::{read_trace, write_trace};
 use std::alloc::Global;

@@ -1,9 +1,8 @@
 //! Programs that are cut short, and programs with a stray sign: reading stops at the cut or at the sign.
 
 use super::put_fault;
-use crate::answers::Answer;
-use crate::fields::field;
 use gp_program::{ParseFault, parse_program};
+use gp_rows::{Answer, field};
 use gp_tokens::lex;
 use std::alloc::Global;
 

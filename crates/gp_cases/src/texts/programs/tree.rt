@@ -1,8 +1,7 @@
 //! Trees of program texts as bracketed texts, which is how the rows give them: a word and its parts in parentheses.
 
 use super::{pieces, terms};
-use crate::answers::Answer;
-use crate::wrong::Wrong;
+use gp_rows::{Answer, Wrong};
 use gp_syntax::{
     Ast, CommandTree, Cond, Decl, EdgeDecl, Expr, GraphDecl, Name, NodeDecl, ProductSign, RuleDecl,
     Signed, SumSign, VariableGroup, VariableType,

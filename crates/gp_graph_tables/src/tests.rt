@@ -1,3 +1,0 @@
-//! The tables, one file for what they are about.
-
-mod graphs;

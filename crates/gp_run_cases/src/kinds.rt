@@ -1,0 +1,59 @@
+//! The kinds of rows.
+
+use crate::graphs::{beside, edits, hub};
+use crate::runs::{commands, crews, journals, random};
+use gp_rows::Answer;
+use std::alloc::Global;
+use std::sync::Wait;
+use std::thread::Threads;
+
+/// What the rows of a file are about.
+#[derive(Clone, Copy)]
+pub(crate) enum Kind {
+    Edits,
+    Leads,
+    Walks,
+    Hubs,
+    Met,
+    Journals,
+    Replays,
+    Parts,
+    Commands,
+    Crews,
+}
+
+/// The files of rows, `NAME.rows`, and the kind of each.
+pub(crate) const FILES: [(&'static str, Kind); 10] = [
+    ("edits", Kind::Edits),
+    ("leads", Kind::Leads),
+    ("walks", Kind::Walks),
+    ("hubs", Kind::Hubs),
+    ("met", Kind::Met),
+    ("journals", Kind::Journals),
+    ("replays", Kind::Replays),
+    ("parts", Kind::Parts),
+    ("commands", Kind::Commands),
+    ("crews", Kind::Crews),
+];
+
+/// Answers a row of this kind, from all its fields but the last one.
+pub(crate) fn answer<R: Threads + Wait + Sync>(
+    rt: &R,
+    kind: Kind,
+    alloc: Global,
+    fields: &[Vec<u8>],
+    out: &mut Answer,
+) {
+    match kind {
+        Kind::Edits => edits::answer(alloc, fields, out),
+        Kind::Leads => edits::leads(alloc, fields, out),
+        Kind::Walks => beside::answer(alloc, fields, out),
+        Kind::Hubs => hub::answer(alloc, fields, out),
+        Kind::Met => hub::order(alloc, fields, out),
+        Kind::Journals => journals::answer(alloc, fields, out),
+        Kind::Replays => random::replays(alloc, fields, out),
+        Kind::Parts => random::parts(alloc, fields, out),
+        Kind::Commands => commands::answer(rt, alloc, fields, out),
+        Kind::Crews => crews::answer(rt, alloc, fields, out),
+    }
+}

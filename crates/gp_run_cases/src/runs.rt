@@ -1,0 +1,8 @@
+//! Kinds of rows that are about journals, commands and crews.
+
+mod bits;
+pub(crate) mod commands;
+pub(crate) mod crews;
+pub(crate) mod journals;
+pub(crate) mod random;
+mod replay;
