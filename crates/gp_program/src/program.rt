@@ -15,10 +15,7 @@ use gp_syntax::{Ast, Decl, Items};
 use gp_tokens::Kind;
 use std::alloc::Global;
 
-fn read_rule_declaration(
-    tokens: &mut Tokens<'_, '_>,
-    room: u64,
-) -> Result<Ranged<Decl>, ReadError>
+fn read_rule_declaration(tokens: &mut Tokens<'_, '_>, room: u64) -> Result<Ranged<Decl>, ReadError>
     ensures { Reads (reader_of (Made spec.rule_decl (rule room)) tokens.old) result tokens.new }
 {
     let rule = read_rule(tokens, room)?;
