@@ -29,7 +29,7 @@ pub(crate) fn words_of(alloc: Global, lines: (&str, &str)) -> Result<Vec<String>
 }
 
 /// A call: the texts of the files p and h, of which the read of a number may fail, the words of two lines, or that memory
-/// was refused for them, and after how many bytes the first write on out and the one on err may fail.
+/// was refused for them, and after how many bytes a write on out, which one, and the first on err may fail.
 #[derive(Clone, Copy)]
 pub(crate) struct Call<'a> {
     pub(crate) program: &'a str,
@@ -37,6 +37,7 @@ pub(crate) struct Call<'a> {
     pub(crate) words: Option<(&'a str, &'a str)>,
     pub(crate) read: Option<u64>,
     pub(crate) out: Option<u64>,
+    pub(crate) write: u64,
     pub(crate) err: Option<u64>,
 }
 
@@ -49,6 +50,7 @@ impl<'a> Call<'a> {
             words: Some(words),
             read: None,
             out: None,
+            write: 0,
             err: None,
         }
     }
@@ -115,7 +117,7 @@ pub(crate) fn told_of<R: AllocGlobal + Threads + Wait + Sync>(
         Some(lines) => words_of(alloc, lines),
         None => Err(NoMemory),
     };
-    if let Ok(mut out) = sink(alloc, 4096, 0, call.out) {
+    if let Ok(mut out) = sink(alloc, 4096, call.write, call.out) {
         if let Ok(mut err) = sink(alloc, 4096, 0, call.err) {
             let status = gp2_main(rt, words, &mut files, &mut out, &mut err, pace);
             put_shown(status, out.bytes(), err.bytes(), &mut told);

@@ -3,7 +3,7 @@
 use crate::tests::answers::{Answer, expect};
 use crate::tests::calls::{Call, check_rows, told_of};
 use opt_worker::{Held, Pacing};
-use std::alloc::AllocGlobal;
+use std::alloc::{AllocGlobal, Global};
 use std::sync::Wait;
 use std::test::Fail;
 use std::thread::Threads;
@@ -194,9 +194,10 @@ link(a,b,x,y,z:list) [ (n0, x) (n1, y) (n2, z) | (e0, n0, n1, a) (e1, n1, n2, b)
 % 5 err
 bound 0";
 
-const CREWS: [&str; 4] = [
+const CREWS: [&str; 5] = [
     "",
     "--workers 2",
+    "--workers 2 --fan 1",
     "--workers 3 --fan 1",
     "--workers 4 --fan 1",
 ];
@@ -207,6 +208,73 @@ fn every_crew_shows_the_same(rt: HostRuntime) -> Result<(), Fail> {
         check_rows(&rt, CREWED, crew)?;
     }
     Ok(())
+}
+
+const TRIED: &str =
+    "Main = try (del!; fail); del! del(x:list) [ (n0, x) | ] => [ | ] interface = {}";
+
+// A loop that deletes both nodes, the first or the second of them first.
+const LOOPS: [&str; 2] = [
+    "turn
+step 0 nodes 0 edges
+turn
+step 0 nodes 1 edges
+turn
+back 0
+",
+    "turn
+step 0 nodes 1 edges
+turn
+step 0 nodes 0 edges
+turn
+back 0
+",
+];
+
+// The journal of two such loops, of which the first is taken back, and the empty graph.
+fn put_tried(first: &str, second: &str, wanted: &mut Answer) {
+    for piece in &[
+        "0 out
+gp2-trace 1
+",
+        first,
+        "back 2
+",
+        second,
+        "end
+[
+|
+]
+",
+    ] {
+        wanted.put(piece.as_bytes());
+    }
+}
+
+// Whether this is the journal of two such loops, in one of their orders.
+fn is_tried(alloc: Global, told: &Answer) -> bool {
+    let mut is_one = false;
+    for first in &LOOPS {
+        for second in &LOOPS {
+            let mut wanted = Answer::new(alloc);
+            put_tried(first, second, &mut wanted);
+            is_one = is_one || wanted.text() == told.text();
+        }
+    }
+    is_one
+}
+
+#[test]
+fn a_crew_goes_on_from_what_a_try_takes_back(rt: HostRuntime) -> Result<(), Fail> {
+    let host = "[ (a, 1) (b, 2) | ]";
+    for bound in &["", "--bound 10"] {
+        let words = ("run p h --workers 2 --fan 1 --journal", *bound);
+        let told = told_of(&rt, &Call::new(TRIED, host, words), &Pacing::Free);
+        expect(is_tried(rt.alloc(), &told), bound)?;
+    }
+    let words = ("run p h --workers 2 --fan 1 --journal", "--bound 9");
+    let told = told_of(&rt, &Call::new(TRIED, host, words), &Pacing::Free);
+    expect(told.is("5 err\nbound 9"), "a bound of one less")
 }
 
 const DELETE: &str = "Main = del! del(x:list) [ (n0, x) | ] => [ | ] interface = {}";

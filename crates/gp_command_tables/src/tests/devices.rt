@@ -57,6 +57,7 @@ fn failing<'a>(
         words,
         read,
         out,
+        write: 0,
         err,
     }
 }
@@ -91,6 +92,32 @@ fn a_graph_is_cut_at_any_byte(rt: HostRuntime) -> Result<(), Fail> {
         expect(told.text() == wanted.text(), "a cut")?;
     }
     Ok(())
+}
+
+const CLOSURE: &str = "Main = link!
+link(a,b,x,y,z:list) [ (n0, x) (n1, y) (n2, z) | (e0, n0, n1, a) (e1, n1, n2, b) ] => [ (n0, x) (n1, y) (n2, z) | (e0, n0, n1, a) (e1, n1, n2, b) (e2, n0, n2, empty) ] interface = {n0, n1, n2} where not edge(n0, n2)";
+
+const PATH: &str = "[ (a, empty) (b, empty) (c, empty) | (e0, a, b, empty) (e1, b, c, empty) ]";
+
+const ITS_JOURNAL: &str = "9 out
+gp2-trace 1
+turn
+step 0 nodes 0 1 2 edges 0 1
+turn
+back 0
+end";
+
+#[test]
+fn the_journal_stands_whole_where_the_graph_behind_it_is_not_written(
+    rt: HostRuntime,
+) -> Result<(), Fail> {
+    let mut call = Call::new(CLOSURE, PATH, ("run p h --journal", ""));
+    call.write = 1;
+    call.out = Some(0);
+    expect(
+        told_of(&rt, &call, &Pacing::Free).is_line(ITS_JOURNAL),
+        "the second write",
+    )
 }
 
 #[test]
