@@ -27,7 +27,7 @@ fn read_rule_declaration(tokens: &mut Tokens<'_, '_>, room: u64) -> Result<Range
 
 // {RuleDecl}
 #[tactic(auto, unfolding(crate::specs::Programs::rules))]
-fn read_rules(tokens: &mut Tokens<'_, '_>, room: u64) -> Result<Ranged<Items<Decl>>, ReadError>
+pub(crate) fn read_rules(tokens: &mut Tokens<'_, '_>, room: u64) -> Result<Ranged<Items<Decl>>, ReadError>
     ensures { Reads (reader_of (spec.rules room) tokens.old) result tokens.new }
 {
     let rules = repeated_by(tokens, Want::RuleName, room, read_rule_declaration)?;
@@ -35,7 +35,7 @@ fn read_rules(tokens: &mut Tokens<'_, '_>, room: u64) -> Result<Ranged<Items<Dec
     Ok(rules)
 }
 
-fn procedure_first(
+pub(crate) fn procedure_first(
     alloc: Global,
     procedure: Ranged<Decl>,
     rules: Ranged<Items<Decl>>,
