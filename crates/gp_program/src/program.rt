@@ -27,7 +27,10 @@ fn read_rule_declaration(tokens: &mut Tokens<'_, '_>, room: u64) -> Result<Range
 
 // {RuleDecl}
 #[tactic(auto, unfolding(crate::specs::Programs::rules))]
-pub(crate) fn read_rules(tokens: &mut Tokens<'_, '_>, room: u64) -> Result<Ranged<Items<Decl>>, ReadError>
+pub(crate) fn read_rules(
+    tokens: &mut Tokens<'_, '_>,
+    room: u64,
+) -> Result<Ranged<Items<Decl>>, ReadError>
     ensures { Reads (reader_of (spec.rules room) tokens.old) result tokens.new }
 {
     let rules = repeated_by(tokens, Want::RuleName, room, read_rule_declaration)?;
