@@ -5,72 +5,142 @@ use gp_graph::Graph;
 use gp_hostfile::read_host;
 use gp_journal::{Journal, Trail};
 use gp_memory::NoMemory;
-use gp_rows::{Answer, Wrong, field, number, text_at};
-use gp_syntax::{EdgeImage, Found, Item, LeftEdge, Rule};
+use gp_rows::{Answer, Wrong, field, number};
+use gp_syntax::{EdgeImage, Found, Item, Items, LeftEdge, Rule};
 use rand_core::SeedableRng;
 use rand_core::utils::NextWord;
 use rand_pcg::Lcg64Xsh32;
 use std::alloc::Global;
 
+// Some rules, a host, and a journal on it.
+struct Noted {
+    rules: Items<Rule>,
+    host: Graph,
+    journal: Journal,
+}
+
+impl Drop for Noted {
+    fn drop(self) {
+        let Noted {
+            rules,
+            host,
+            journal,
+        } = self;
+        drop(rules);
+        drop(host);
+        drop(journal);
+    }
+}
+
+// The rules and the host of a row, and a journal without items.
+fn started(alloc: Global, fields: &[Vec<u8>]) -> Result<Noted, Wrong> {
+    let host = read_host(alloc, field(fields, 1))?;
+    let rules = rules_of(alloc, field(fields, 0))?;
+    let journal = Journal::new(alloc, host.copy(alloc)?);
+    Ok(Noted {
+        rules,
+        host,
+        journal,
+    })
+}
+
 /// How many items a journal has, whose graph and depth a replay from the start gives after each: some rules, a host, a seed,
 /// how many items are noted, and more than how many steps have to be live, and items that take others back.
 pub(crate) fn replays(alloc: Global, fields: &[Vec<u8>], out: &mut Answer) {
-    match replayed(alloc, fields) {
-        Ok(journal) => {
-            let few = number(fields, 4);
-            out.number(journal.items().len() as u64);
-            out.word(b"replayed");
-            out.word_if(journal.depth() <= few, b"but few live");
-            out.word_if(backs_in(journal.items()) <= few, b"but few taken back");
+    match started(alloc, fields) {
+        Ok(mut noted) => {
+            let rules = noted.rules.as_slice();
+            match note_all(alloc, rules, &mut noted.journal, Some(&noted.host), fields) {
+                Ok(()) => put_journal(&noted.journal, number(fields, 4), out),
+                Err(wrong) => out.wrong(wrong),
+            }
         }
         Err(wrong) => out.wrong(wrong),
     }
 }
 
-fn replayed(alloc: Global, fields: &[Vec<u8>]) -> Result<Journal, Wrong> {
-    let host = read_host(alloc, field(fields, 1))?;
-    let rules = rules_of(alloc, field(fields, 0))?;
-    let mut random = Lcg64Xsh32::seed_from_u64(number(fields, 2));
-    let mut journal = Journal::new(alloc, host.copy(alloc)?);
-    for _ in 0..number(fields, 3) {
-        note(alloc, rules.as_slice(), &mut journal, &mut random)?;
-        replay(alloc, rules.as_slice(), &host, &journal)?;
-    }
-    Ok(journal)
+fn put_journal(journal: &Journal, few: u64, out: &mut Answer) {
+    out.number(journal.items().len() as u64);
+    out.word(b"replayed");
+    out.word_if(journal.depth() <= few, b"but few live");
+    out.word_if(backs_in(journal.items()) <= few, b"but few taken back");
 }
 
 /// How many items a trail caught up with in each part of a journal of items by chance, which lead to the journal's graph
 /// and depth: some rules, a host, a seed, how many items are noted, and where each part ends.
 pub(crate) fn parts(alloc: Global, fields: &[Vec<u8>], out: &mut Answer) {
-    if let Err(wrong) = caught(alloc, fields, out) {
-        out.wrong(wrong);
+    match started(alloc, fields) {
+        Ok(mut noted) => {
+            let rules = noted.rules.as_slice();
+            match note_all(alloc, rules, &mut noted.journal, None, fields) {
+                Ok(()) => put_parts(alloc, rules, &noted.host, &noted.journal, fields, out),
+                Err(wrong) => out.wrong(wrong),
+            }
+        }
+        Err(wrong) => out.wrong(wrong),
     }
 }
 
-fn caught(alloc: Global, fields: &[Vec<u8>], out: &mut Answer) -> Result<(), Wrong> {
-    let host = read_host(alloc, field(fields, 1))?;
-    let rules = rules_of(alloc, field(fields, 0))?;
-    let mut random = Lcg64Xsh32::seed_from_u64(number(fields, 2));
-    let mut journal = Journal::new(alloc, host.copy(alloc)?);
-    for _ in 0..number(fields, 3) {
-        note(alloc, rules.as_slice(), &mut journal, &mut random)?;
+fn put_parts(
+    alloc: Global,
+    rules: &[Rule],
+    host: &Graph,
+    journal: &Journal,
+    fields: &[Vec<u8>],
+    out: &mut Answer,
+) {
+    match host.copy(alloc) {
+        Ok(graph) => {
+            let mut trail = Trail::new(alloc, graph);
+            let ends = field(fields, 4);
+            if let Err(wrong) = catch_parts(alloc, rules, journal, &mut trail, ends, out) {
+                out.wrong(wrong);
+            }
+        }
+        Err(error) => out.debug(&error),
     }
-    let mut trail = Trail::new(alloc, host);
+}
+
+// Catches up with a journal part by part.
+fn catch_parts(
+    alloc: Global,
+    rules: &[Rule],
+    journal: &Journal,
+    trail: &mut Trail,
+    ends: &[u8],
+    out: &mut Answer,
+) -> Result<(), Wrong> {
     let mut from: usize = 0;
-    for word in text_at(fields, 4)?.split(' ') {
+    for word in str::from_utf8(ends)?.split(' ') {
         let to = word.parse::<usize>()?;
         let items = journal.items().get(from..to).unwrap_or(&[]);
-        out.word_if(
-            !catch_up(alloc, rules.as_slice(), items, &mut trail)?,
-            b"not",
-        );
+        let is_made = catch_up(alloc, rules, items, trail)?;
+        out.word_if(!is_made, b"not");
         out.number(trail.caught());
         from = to;
     }
-    stands_at(alloc, &trail, &journal)
+    stands_at(alloc, trail, journal)
 }
 
 // ---- items by chance
+
+// As many items as a row says, from its seed; where there is a host, the items so far are replayed on it after each.
+fn note_all(
+    alloc: Global,
+    rules: &[Rule],
+    journal: &mut Journal,
+    host: Option<&Graph>,
+    fields: &[Vec<u8>],
+) -> Result<(), Wrong> {
+    let mut random = Lcg64Xsh32::seed_from_u64(number(fields, 2));
+    for _ in 0..number(fields, 3) {
+        note(alloc, rules, journal, &mut random)?;
+        if let Some(host) = host {
+            replay(alloc, rules, host, journal)?;
+        }
+    }
+    Ok(())
+}
 
 // One more item.
 fn note(
