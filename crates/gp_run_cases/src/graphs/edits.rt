@@ -8,7 +8,7 @@ use crate::graphs::there::{
     ends_with_no_edge, ends_with_no_node, has_edge, has_node, is_free, is_vacant_edge,
     is_vacant_node, label,
 };
-use crate::graphs::told::{put_carried, put_ends, put_graph, put_label};
+use crate::graphs::told::{edge_word, put_carried, put_ends, put_graph, put_label};
 use gp_graph::Graph;
 use gp_rows::{Answer, Wrong, field, number};
 use gp_values::{EdgeMark, NodeMark};
@@ -247,7 +247,7 @@ fn cut(alloc: Global, graph: &mut Graph, words: &[Vec<u8>], out: &mut Answer) ->
     let (source, target, list, mark) = graph.remove_edge(e);
     put_ends(source, target, out);
     put_label(alloc, &list, out);
-    out.debug(&mark);
+    out.word(edge_word(mark).as_bytes());
     Ok(())
 }
 

@@ -4,7 +4,7 @@ use crate::graphs::there::has_node;
 use gp_graph::{Graph, Walk};
 use gp_memory::NoMemory;
 use gp_rows::Answer;
-use gp_values::{List, NodeMark};
+use gp_values::{EdgeMark, List, NodeMark};
 use std::alloc::Global;
 
 /// Writes numbers, each behind a space.
@@ -46,6 +46,27 @@ pub(crate) fn put_label(alloc: Global, list: &List, out: &mut Answer) {
     }
 }
 
+fn node_word(mark: NodeMark) -> &'static str {
+    match mark {
+        NodeMark::None => "None",
+        NodeMark::Red => "Red",
+        NodeMark::Green => "Green",
+        NodeMark::Blue => "Blue",
+        NodeMark::Grey => "Grey",
+    }
+}
+
+/// The name of a mark of an edge, as the rows have it.
+pub(crate) fn edge_word(mark: EdgeMark) -> &'static str {
+    match mark {
+        EdgeMark::None => "None",
+        EdgeMark::Red => "Red",
+        EdgeMark::Green => "Green",
+        EdgeMark::Blue => "Blue",
+        EdgeMark::Dashed => "Dashed",
+    }
+}
+
 /// Writes what a node carries.
 pub(crate) fn put_carried(
     alloc: Global,
@@ -55,7 +76,7 @@ pub(crate) fn put_carried(
     out: &mut Answer,
 ) {
     put_label(alloc, list, out);
-    out.debug(&mark);
+    out.word(node_word(mark).as_bytes());
     out.word(if is_root { b"root" } else { b"-" });
 }
 
@@ -92,7 +113,7 @@ fn put_edge(alloc: Global, graph: &Graph, e: u64, out: &mut Answer) {
         out.word(b"is");
         put_ends(source, target, out);
         put_label(alloc, list, out);
-        out.debug(&mark);
+        out.word(edge_word(mark).as_bytes());
         out.put(b";");
     }
 }
