@@ -4,16 +4,15 @@ ghost use Rattle.std.specs.Prelude.{◌≡◌, IfOk};
 ghost use Rattle.gp_values.specs.Names.{same_name};
 
 use gp_memory::NoMemory;
-use smallvec::SmallVec;
 use std::alloc::Global;
 use std::fmt;
 use std::marker::Model;
 
-/// The name of a rule, a procedure, a variable, a node or an edge, or the word of a mark. Up to sixteen of its bytes
-/// stand in the value itself. Contracts see their list.
-#[derive(Debug)]
+/// The name of a rule, a procedure, a variable, a node or an edge, or the word of a mark. Contracts see the list of its
+/// bytes.
+#[derive(Drop, Debug)]
 pub struct Name {
-    bytes: SmallVec<u8, 16>,
+    bytes: Vec<u8>,
 }
 
 impl Model for Name {
@@ -32,7 +31,7 @@ impl Name {
     pub fn from_slice(alloc: Global, bytes: &[u8]) -> Result<Name, NoMemory>
         ensures { IfOk result (λ n. n ≡ bytes.now) }
     {
-        let bytes = SmallVec::from_slice(alloc, bytes)?;
+        let bytes = Vec::from_slice(alloc, bytes)?;
         Ok(Name { bytes })
     }
 
@@ -40,7 +39,7 @@ impl Name {
     pub fn as_bytes(&self) -> &[u8]
         ensures { result.now ≡ self.now }
     {
-        self.bytes.as_slice()
+        &self.bytes
     }
 
     /// A copy with memory of its own.
@@ -65,13 +64,5 @@ impl fmt::Display for Name {
             f.write_char(*byte as char)?;
         }
         Ok(())
-    }
-}
-
-// Written, so that a function that lets a name go calls it.
-impl Drop for Name {
-    fn drop(self) {
-        let Name { bytes } = self;
-        drop(bytes);
     }
 }

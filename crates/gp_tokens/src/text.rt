@@ -5,22 +5,14 @@ ghost use Rattle.std.specs.Cmp.{on_equiv, on_per, partial_equiv_from_equiv};
 ghost use Rattle.std.specs.Cmp.Lexicographic.{nat_list_eq_equiv};
 ghost use Rattle.std.specs.Str.{bytes_eq};
 
-use smallvec::SmallVec;
 use std::alloc::{AllocError, Global};
 use std::fmt;
 use std::marker::Model;
 
-/// A text of its own memory. Up to sixteen bytes stand in the value itself. Contracts see their list.
-#[derive(Debug)]
+/// A text of its own memory. Contracts see the list of its bytes.
+#[derive(Drop, Debug)]
 pub struct Text {
-    bytes: SmallVec<u8, 16>,
-}
-
-impl Drop for Text {
-    fn drop(self) {
-        let Text { bytes } = self;
-        drop(bytes);
-    }
+    bytes: Vec<u8>,
 }
 
 impl Model for Text {
@@ -36,7 +28,7 @@ impl Text {
     pub fn from_slice(alloc: Global, bytes: &[u8]) -> Result<Text, AllocError>
         ensures { IfOk result (λ t. t ≡ bytes.now) }
     {
-        let bytes = SmallVec::from_slice(alloc, bytes)?;
+        let bytes = Vec::from_slice(alloc, bytes)?;
         Ok(Text { bytes })
     }
 
@@ -44,7 +36,7 @@ impl Text {
     pub fn as_bytes(&self) -> &[u8]
         ensures { result.now ≡ self.now }
     {
-        self.bytes.as_slice()
+        &self.bytes
     }
 
     /// A copy with memory of its own.
