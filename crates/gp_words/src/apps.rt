@@ -1,65 +1,67 @@
 //! The command line, as `clap` takes it.
 
-ghost use Rattle.std.specs.Prelude.{◌≡◌, false, IfOk};
-ghost use Rattle.clap.specs.Words.{app_of, rule_of};
+ghost use Rattle.std.specs.Prelude.{◌≡◌, false, map, IfOk};
+ghost use Rattle.clap.specs.Words.{app_of, rule_of, new_app};
 ghost use Rattle.gp_words.specs.CommandLine as spec;
+ghost use Rattle.gp_words.specs.inside.Words.{AddsLevel, rule_at, with_words};
 
 use clap::{Arg, ArgAction, Command};
 use std::alloc::{AllocError, Global};
 
-// A word in its place, which has to be there.
-fn place<'a>(alloc: Global, id: &'a str) -> Arg<'a>
-    ensures rule { rule_of result ≡ spec.place id.entry.now }
+/// How a word stands on the command line.
+#[derive(Clone, Copy)]
+enum Form {
+    /// In its place, where it has to be.
+    Place,
+    /// `--NAME VALUE`.
+    Option,
+    /// `--NAME`.
+    Flag,
+}
+
+const RUN: [(Form, &'static str); 7] = [
+    (Form::Place, "program"),
+    (Form::Place, "host"),
+    (Form::Option, "bound"),
+    (Form::Option, "seed"),
+    (Form::Flag, "journal"),
+    (Form::Option, "workers"),
+    (Form::Option, "fan"),
+];
+
+const DEMO: [(Form, &'static str); 5] = [
+    (Form::Place, "kind"),
+    (Form::Place, "size"),
+    (Form::Place, "seed"),
+    (Form::Option, "workers"),
+    (Form::Option, "fan"),
+];
+
+fn argument<'a>(alloc: Global, form: Form, id: &'a str) -> Arg<'a>
+    ensures rule { rule_of result ≡ rule_at form id.entry.now }
     ensures own { result.global ≡ false }
 {
-    Arg::new(alloc, id).required(true).action(ArgAction::Set)
+    let argument = Arg::new(alloc, id);
+    match form {
+        Form::Place => argument.required(true).action(ArgAction::Set),
+        Form::Option => argument.long(id).action(ArgAction::Set),
+        Form::Flag => argument.long(id).action(ArgAction::SetTrue),
+    }
 }
 
-// `--NAME VALUE`.
-fn option<'a>(alloc: Global, id: &'a str) -> Arg<'a>
-    ensures rule { rule_of result ≡ spec.option id.entry.now }
-    ensures own { result.global ≡ false }
+// The command of this name that takes these words.
+fn command_with<'a>(
+    alloc: Global,
+    name: &'a str,
+    words: &[(Form, &'a str)],
+) -> Result<Command<'a>, AllocError>
+    ensures { IfOk result (λ c. app_of c ≡ with_words (new_app name.entry.now) (map (λ w. (w.0, w.1.now)) words.now)) }
 {
-    Arg::new(alloc, id).long(id).action(ArgAction::Set)
-}
-
-// `--NAME`.
-fn flag<'a>(alloc: Global, id: &'a str) -> Arg<'a>
-    ensures rule { rule_of result ≡ spec.flag id.entry.now }
-    ensures own { result.global ≡ false }
-{
-    Arg::new(alloc, id).long(id).action(ArgAction::SetTrue)
-}
-
-// With the options of both commands.
-fn with_crew<'a>(alloc: Global, command: Command<'a>) -> Result<Command<'a>, AllocError>
-    ensures { IfOk result (λ c. app_of c ≡ spec.with_crew (app_of command.entry)) }
-{
-    command
-        .arg(option(alloc, "workers"))?
-        .arg(option(alloc, "fan"))
-}
-
-fn run_command<'a>(alloc: Global) -> Result<Command<'a>, AllocError>
-    ensures { IfOk result (λ c. app_of c ≡ spec.run_app) }
-{
-    let command = Command::new(alloc, "run")
-        .arg(place(alloc, "program"))?
-        .arg(place(alloc, "host"))?
-        .arg(option(alloc, "bound"))?
-        .arg(option(alloc, "seed"))?
-        .arg(flag(alloc, "journal"))?;
-    with_crew(alloc, command)
-}
-
-fn demo_command<'a>(alloc: Global) -> Result<Command<'a>, AllocError>
-    ensures { IfOk result (λ c. app_of c ≡ spec.demo_app) }
-{
-    let command = Command::new(alloc, "demo")
-        .arg(place(alloc, "kind"))?
-        .arg(place(alloc, "size"))?
-        .arg(place(alloc, "seed"))?;
-    with_crew(alloc, command)
+    let mut command = Command::new(alloc, name);
+    for (form, id) in words {
+        command = command.arg(argument(alloc, *form, id))?;
+    }
+    Ok(command)
 }
 
 // The level above both, without them.
@@ -71,10 +73,21 @@ fn plain_top<'a>(alloc: Global) -> Command<'a>
         .subcommand_required(true)
 }
 
+// With one command more below it.
+fn above<'a>(
+    alloc: Global,
+    top: Command<'a>,
+    name: &'a str,
+    words: &[(Form, &'a str)],
+) -> Result<Command<'a>, AllocError>
+    ensures { IfOk result (λ c. AddsLevel (app_of top.entry) (with_words (new_app name.entry.now) (map (λ w. (w.0, w.1.now)) words.now)) (app_of c)) }
+{
+    top.subcommand(command_with(alloc, name, words)?)
+}
+
 pub(crate) fn top_command<'a>(alloc: Global) -> Result<Command<'a>, AllocError>
     ensures { IfOk result (λ c. app_of c ≡ spec.gp2) }
 {
-    let run = run_command(alloc)?;
-    let demo = demo_command(alloc)?;
-    plain_top(alloc).subcommand(run)?.subcommand(demo)
+    let above_run = above(alloc, plain_top(alloc), "run", &RUN)?;
+    above(alloc, above_run, "demo", &DEMO)
 }
