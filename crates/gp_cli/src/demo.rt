@@ -1,11 +1,8 @@
 //! What a demo comes to.
 
-ghost use Rattle.std.specs.Prelude.{◌≡◌};
 ghost use Rattle.gp_gen.specs.Host.{IsSize};
 ghost use Rattle.gp_words.specs.Told.{demo_now};
-ghost use Rattle.gp_cli.specs.Answer.{of_demo_run};
 ghost use Rattle.gp_cli.specs.inside.Parts.{RunsDemo};
-ghost use Rattle.gp_cli.specs.inside.Told.{said_of};
 
 use crate::parsed::{host_of, program_of};
 use crate::run::run;
@@ -23,16 +20,6 @@ const BOUND: u64 = 1 << 40;
 
 /// With what the choices of its run begin.
 const CHOICES: u64 = 0;
-
-// In place of a graph a demo answers what it has done.
-fn of_demo_run<'a>(command: DemoCommand, said: Said<'a>) -> Said<'a>
-    ensures { said_of result ≡ of_demo_run (demo_now command) (said_of said.entry) }
-{
-    match said {
-        Said::Graph(journal) => Said::Demo(command.kind, command.size, journal),
-        other => other,
-    }
-}
 
 /// What a demo comes to: its program's text and its host's are made, read and run.
 pub(crate) fn demo<'a, R: Threads + Wait + Sync>(
@@ -53,5 +40,5 @@ pub(crate) fn demo<'a, R: Threads + Wait + Sync>(
         bound: BOUND,
     };
     let said = run(rt, alloc, &program, graph, crew, CHOICES, pace)?;
-    Ok(of_demo_run(command, said))
+    Ok(said.into_demo(command))
 }

@@ -1,6 +1,8 @@
 //! What is answered, before it has a text.
 
-ghost use Rattle.std.specs.Prelude.{IfOk};
+ghost use Rattle.std.specs.Prelude.{◌≡◌, IfOk};
+ghost use Rattle.gp_words.specs.Told.{demo_now};
+ghost use Rattle.gp_cli.specs.Answer.{of_demo_run};
 ghost use Rattle.gp_cli.specs.inside.Told.{said_of, IsAnswer};
 
 use gp_gen::Kind;
@@ -9,9 +11,9 @@ use gp_journal::Journal;
 use gp_memory::NoMemory;
 use gp_reader::ProgramFault;
 use gp_syntax::{Name, NumberKind};
+use gp_words::DemoCommand;
 
 /// An answer: what the program comes to on the host, or why it does not run.
-#[derive(Drop)]
 pub(crate) enum Said<'a> {
     /// The graph of this journal.
     Graph(Journal),
@@ -30,6 +32,35 @@ pub(crate) enum Said<'a> {
     Number(Name, NumberKind),
     /// The name of the file that cannot be read.
     Unread(&'a str),
+}
+
+// Written, so that a function that lets an answer go calls it.
+impl Drop for Said<'_> {
+    fn drop(self) {
+        match self {
+            Said::Graph(journal) | Said::Fail(journal) | Said::Demo(_, _, journal) => drop(journal),
+            Said::BadProgram(fault) => drop(fault),
+            Said::BadHost(bytes, fault) => {
+                drop(bytes);
+                drop(fault);
+            }
+            Said::Number(name, _) => drop(name),
+            Said::Usage | Said::LongProgram | Said::LongHost | Said::Bound(_) | Said::Unread(_) =>
+                {}
+        }
+    }
+}
+
+impl<'a> Said<'a> {
+    /// In place of a graph a demo answers what it has done.
+    pub(crate) fn into_demo(self, command: DemoCommand) -> Said<'a>
+        ensures { said_of result ≡ of_demo_run (demo_now command) (said_of self.entry) }
+    {
+        match self {
+            Said::Graph(journal) => Said::Demo(command.kind, command.size, journal),
+            other => other,
+        }
+    }
 }
 
 /// Why a part of the call did not go on: the answer is known, or memory was refused.
