@@ -1,6 +1,10 @@
 -- What is collected of the right side, item by item.
-use Rattle.std.proofs.Common.{◌≡◌, ℕ, suc, ◌+◌, ◌<◌, Bool, true, false, if◌then◌else◌, List, [], ◌∷◌, ◌++◌, length, get_or, drop, drop-cons, append_assoc, add-one, Some, slice_get, refl, sym, ap, subst, ◌∙◌, arith}
-use Rattle.gp_step.specs.inside.Edits.{gone}
+use Rattle.std.proofs.Common.{◌≡◌, ℕ, suc, ◌+◌, ◌<◌, Bool, true, false, if◌then◌else◌, List, [], ◌∷◌, ◌++◌, length, get_or, drop, drop-cons, append_assoc, add-one, Option, Some, None, slice_get, refl, sym, ap, subst, ◌∙◌, arith}
+use Rattle.std.proofs.lemmas.List.{at_drop_more}
+use Rattle.gp_values.specs.Graph.{Node}
+use Rattle.gp_syntax.specs.Rule.{Found}
+use Rattle.gp_step.specs.inside.Edits.{gone, image_of}
+use Rattle.gp_step.specs.inside.Made.{kept_first, new_first}
 use Rattle.gp_step.proofs.Labels.{same_element}
 
 one_more : {X : Type 0} (so new rest : List X) (x : X) → new ≡ so ++ x ∷ [] → new ++ rest ≡ so ++ x ∷ rest
@@ -44,3 +48,17 @@ item_at xs ys k q e l is =
     let h : q ≡ get_or xs k q = is ∙ ap (λ zs. get_or zs k q) e in
     let b : k < length xs = subst (λ zs. k < length zs) e l in
     same_element xs k q b ∙ ap (λ z. Some z) (sym h)
+
+-- what is said of the items from this place on
+pub from_item : {X : Type 0} {Y : Type 0} (F : List X → Y) (xs ys : List X) (k : ℕ) (q : X) → ys ≡ xs → k < length ys → q ≡ get_or ys k q → F (drop k xs) ≡ F (q ∷ drop (k + 1) xs)
+from_item F xs ys k q e l is =
+    let h : q ≡ get_or xs k q = is ∙ ap (λ zs. get_or zs k q) e in
+    at_drop_more F xs k q (subst (λ zs. k < length zs) e l) ∙ ap (λ z. F (z ∷ drop (k + 1) xs)) (sym h)
+
+pub kept_more : (m : Found) (o : Option ℕ) (x : Node) (ps rest : List (ℕ × Node)) → (ps ++ kept_first m o x []) ++ rest ≡ ps ++ kept_first m o x rest
+kept_more m (Some i) x ps rest = append_assoc ps ((image_of m (Some i) 0, x) ∷ []) rest
+kept_more m None x ps rest = append_assoc ps [] rest
+
+pub new_more : (o : Option ℕ) (x : Node) (xs rest : List Node) → (xs ++ new_first o x []) ++ rest ≡ xs ++ new_first o x rest
+new_more (Some i) x xs rest = append_assoc xs [] rest
+new_more None x xs rest = append_assoc xs (x ∷ []) rest
