@@ -3,3 +3,4 @@ pub mod Stages
 pub mod RuleParts
 pub mod Calls
 pub mod EdgeParts
+pub mod Groups

@@ -3,7 +3,6 @@
 ghost use Rattle.std.specs.Prelude.{◌≡◌};
 ghost use Rattle.gp_grammar.specs.inside.Cursor.{Reads};
 ghost use Rattle.gp_grammar.specs.inside.Reading.{reader_of};
-ghost use Rattle.gp_grammar.specs.declared.want.Want.TheVariants as wants;
 ghost use Rattle.gp_grammar.specs.Signs.{comma};
 ghost use Rattle.gp_expressions.specs.Conditions.{condition};
 ghost use Rattle.gp_expressions.specs.Expressions.{behind, name as name_of, list};
@@ -37,6 +36,13 @@ fn read_type(tokens: &mut Tokens<'_, '_>) -> Result<VariableType, ReadError>
     }
     tokens.expect(Want::Keyword(Keyword::List))?;
     Ok(VariableType::List)
+}
+
+/// The name that comes next, for lists of names: a function of this crate, as what is passed by its name has to be.
+pub(crate) fn read_listed(tokens: &mut Tokens<'_, '_>, want: Want) -> Result<Name, ReadError>
+    ensures { Reads (reader_of (name_of want) tokens.old) result tokens.new }
+{
+    read_name(tokens, want)
 }
 
 // "," and a name of this class.
@@ -75,19 +81,13 @@ fn read_variables(tokens: &mut Tokens<'_, '_>) -> Result<Items<VariableGroup>, R
     Ok(Items::new(tokens.alloc()))
 }
 
-fn read_item(tokens: &mut Tokens<'_, '_>, _nothing: ()) -> Result<Name, ReadError>
-    ensures { Reads (reader_of (name_of wants.Item) tokens.old) result tokens.new }
-{
-    read_name(tokens, Want::Item)
-}
-
 // [Item {"," Item}]
 #[tactic(auto, unfolding(crate::specs::Rules::interface))]
 fn read_interface(tokens: &mut Tokens<'_, '_>) -> Result<Items<Name>, ReadError>
     ensures { Reads (reader_of spec.interface tokens.old) result tokens.new }
 {
     if tokens.begins(Want::Item) {
-        let names = separated_by(tokens, COMMA, (), read_item)?;
+        let names = separated_by(tokens, COMMA, Want::Item, read_listed)?;
         return Ok(Items::from_vec(names));
     }
     Ok(Items::new(tokens.alloc()))
