@@ -7,15 +7,21 @@ ghost use Rattle.gp_grammar.specs.inside.Reading.{made, separated};
 ghost use Rattle.gp_expressions.specs.inside.Rows.{IsMaking};
 
 use gp_grammar::{ReadError, Tokens, Want, separated_by};
-use std::alloc::Global;
+use std::alloc::{AllocError, Global};
 
 /// The rows: the sign between their parts, how a part is read inside what is given, and what is made of a row.
-#[derive(Clone, Copy)]
+#[derive(Copy)]
 pub(crate) struct Row<C, F, G> {
     pub(crate) sign: Want,
     pub(crate) inside: C,
     pub(crate) read: F,
     pub(crate) make: G,
+}
+
+impl<C: Copy, F: Copy, G: Copy> Clone for Row<C, F, G> {
+    fn clone(&self) -> Result<Row<C, F, G>, AllocError> {
+        Ok(*self)
+    }
 }
 
 fn read_row<
