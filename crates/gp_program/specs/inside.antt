@@ -4,3 +4,4 @@ pub mod RuleParts
 pub mod Calls
 pub mod EdgeParts
 pub mod Groups
+pub mod Names

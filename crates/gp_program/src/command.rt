@@ -9,7 +9,7 @@ ghost use Rattle.gp_program.specs.Commands as spec;
 ghost use Rattle.gp_program.specs.inside.Calls.{call};
 ghost use Rattle.gp_program.specs.inside.Groups.{group_of, branches_of};
 
-use crate::rule::read_listed;
+use crate::rule::read_names;
 use gp_expressions::read_name;
 use gp_grammar::{ReadError, Tokens, Want, separated_by};
 use gp_syntax::{Boxed, CommandTree, Items, Name};
@@ -19,8 +19,6 @@ use std::alloc::Global;
 const OPEN: Want = Want::Kind(Kind::OpenParenthesis);
 
 const CLOSE: Want = Want::Kind(Kind::CloseParenthesis);
-
-const COMMA: Want = Want::Kind(Kind::Comma);
 
 const SEMICOLON: Want = Want::Kind(Kind::Semicolon);
 
@@ -87,18 +85,6 @@ fn branches(
     Ok(CommandTree::If(condition, met, unmet))
 }
 
-// [RuleName {"," RuleName}]
-#[tactic(auto, unfolding(crate::specs::Commands::rule_names))]
-fn read_rule_names(tokens: &mut Tokens<'_, '_>) -> Result<Items<Name>, ReadError>
-    ensures { Reads (reader_of spec.rule_names tokens.old) result tokens.new }
-{
-    if tokens.begins(Want::RuleName) {
-        let names = separated_by(tokens, COMMA, Want::RuleName, read_listed)?;
-        return Ok(Items::from_vec(names));
-    }
-    Ok(Items::new(tokens.alloc()))
-}
-
 // ["!"]
 #[tactic(auto, unfolding(crate::specs::Commands::bang))]
 fn read_bang(tokens: &mut Tokens<'_, '_>) -> Result<bool, ReadError>
@@ -117,11 +103,12 @@ fn looped(alloc: Global, body: CommandTree, looped: bool) -> Result<CommandTree,
 }
 
 // RuleName | "{" [RuleName {"," RuleName}] "}" | ProcName
+#[tactic(auto, unfolding(crate::specs::Commands::rule_names))]
 fn read_call(tokens: &mut Tokens<'_, '_>) -> Result<CommandTree, ReadError>
     ensures { Reads (reader_of call tokens.old) result tokens.new }
 {
     if tokens.eat(Want::Kind(Kind::OpenBrace)) {
-        let names = read_rule_names(tokens)?;
+        let names = read_names(tokens, Want::RuleName)?;
         tokens.expect(Want::Kind(Kind::CloseBrace))?;
         return Ok(CommandTree::Call(names));
     }
