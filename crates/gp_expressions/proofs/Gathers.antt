@@ -6,11 +6,11 @@ use Rattle.gp_expressions.specs.declared.ranged.Ranged.{Ranged}
 use Rattle.gp_expressions.specs.Ranges.{first_past, joined, all_joined, chained}
 use Rattle.gp_expressions.specs.inside.Chains.{linked, tree_of}
 
-none_last : {A : Type 0} (p : Option A) → option_or p None ≡ p
+pub none_last : {A : Type 0} (p : Option A) → option_or p None ≡ p
 none_last None = refl
 none_last (Some x) = refl
 
-regroup : {A : Type 0} (p q r : Option A) → option_or (option_or p q) r ≡ option_or p (option_or q r)
+pub regroup : {A : Type 0} (p q r : Option A) → option_or (option_or p q) r ≡ option_or p (option_or q r)
 regroup None q r = refl
 regroup (Some x) q r = refl
 
@@ -30,14 +30,8 @@ joined_more (xs ∷ xss) ys = rw (joined_more xss ys) (simp append_assoc)
 pub tree_more : {A B : Type 0} (f : A → B) (now : List B) (xs : List A) (x : A) → now ≡ map f xs → now ++ f x ∷ [] ≡ map f (xs ++ x ∷ [])
 tree_more f now xs x e = rw (e, map-append) refl
 
-pub tree_behind : {A B : Type 0} (f : A → B) (first : B) (now : List B) (xs : List A) (x : A) → now ≡ first ∷ map f xs → now ++ f x ∷ [] ≡ first ∷ map f (xs ++ x ∷ [])
-tree_behind f first now xs x e = rw (e, map-append) refl
-
 pub list_behind : {A B : Type 0} (f : A → List B) (first now : List B) (xs : List A) (x : A) → now ≡ first ++ joined (map f xs) → now ++ f x ≡ first ++ joined (map f (xs ++ x ∷ []))
 list_behind f first now xs x e = rw (e, map-append, joined_more (map f xs) (f x)) (simp append_assoc)
-
-pub lists_more : {A B : Type 0} (f : A → List B) (now : List B) (xs : List A) (x : A) → now ≡ joined (map f xs) → now ++ f x ≡ joined (map f (xs ++ x ∷ []))
-lists_more f now xs x e = rw (e, map-append, joined_more (map f xs) (f x)) refl
 
 -- lists one behind the other, of which there may be none
 pub all_joined_is : {A : Type 0} (rs : List (Ranged (List A))) → all_joined rs ≡ record { tree = joined (map (λ (r : Ranged (List A)). r.tree) rs); past = first_past rs }

@@ -1,4 +1,5 @@
 pub mod Readings
+pub mod RowLaws
 pub mod Gathers
 pub mod Operands
 pub mod ListLaws

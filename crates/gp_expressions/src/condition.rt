@@ -1,19 +1,21 @@
 //! Reads labels and conditions, one function for each line of the grammar.
 
-ghost use Rattle.std.specs.Prelude.{◌≡◌, ◌∷◌, MatchResult};
+ghost use Rattle.std.specs.Prelude.{◌≡◌, MatchResult};
 ghost use Rattle.gp_grammar.specs.inside.Cursor.{Reads};
 ghost use Rattle.gp_grammar.specs.inside.Reading.{reader_of};
 ghost use Rattle.gp_syntax.specs.declared.expression.Cond.TheVariants as c;
 ghost use Rattle.gp_grammar.specs.Signs.{comma};
 ghost use Rattle.gp_expressions.specs.Ranges.{with, chained};
 ghost use Rattle.gp_expressions.specs.Expressions.{list, behind};
-ghost use Rattle.gp_expressions.specs.Signs.{and_word, or_word};
+ghost use Rattle.gp_expressions.specs.inside.Chains.{tree_of};
 ghost use Rattle.gp_expressions.specs.inside.Joints.{joined};
 ghost use Rattle.gp_expressions.specs.Conditions as spec;
 
+use crate::chain::{Links, linked};
 use crate::expression::{read_list, read_name};
-use crate::ranged::{Ranged, gather, whole};
-use gp_grammar::{ReadError, Tokens, Want, repeated_by};
+use crate::ranged::{Ranged, whole};
+use crate::rows::{Row, read_rows};
+use gp_grammar::{ReadError, Tokens, Want};
 use gp_syntax::{Boxed, Comparison, Cond, Expr, Items, Name, VariableType};
 use gp_tokens::{Keyword, Kind, Token};
 use std::alloc::Global;
@@ -258,24 +260,41 @@ fn joined(joint: Joint, first: Boxed<CondTree>, rest: Items<CondTree>) -> CondTr
     }
 }
 
+// What stands for a chain of none, which there is not.
+fn no_condition(alloc: Global) -> Result<CondTree, ReadError>
+    ensures { MatchResult result (λ x. x ≡ spec.no_condition) (λ e. e ≡ ReadError.NoMemory) }
+{
+    let source = Name::from_slice(alloc, &[])?;
+    Ok(Cond::HasEdge(source, Name::from_slice(alloc, &[])?))
+}
+
+fn chain_tree(alloc: Global, joint: Joint, links: Links<CondTree>) -> Result<CondTree, ReadError>
+    ensures { MatchResult result (λ x. x ≡ tree_of spec.no_condition (joined joint) links) (λ e. e ≡ ReadError.NoMemory) }
+{
+    match links {
+        Links::Nothing => no_condition(alloc),
+        Links::One(tree) => Ok(tree),
+        Links::More(first, rest) => Ok(joined(joint, first, rest)),
+    }
+}
+
+#[tactic(auto, using(crate::proofs::Gathers::chain_is))]
 fn chain(
     alloc: Global,
     joint: Joint,
-    first: Ranged<CondTree>,
-    rest: Vec<Ranged<CondTree>>,
+    parts: Vec<Ranged<CondTree>>,
 ) -> Result<Ranged<CondTree>, ReadError>
-    ensures { MatchResult result (λ x. x ≡ chained spec.no_condition (joined joint) (first ∷ rest.items)) (λ e. e ≡ ReadError.NoMemory) }
+    ensures { MatchResult result (λ x. x ≡ chained spec.no_condition (joined joint) parts.items) (λ e. e ≡ ReadError.NoMemory) }
 {
-    if rest.is_empty() {
-        return Ok(first);
-    }
-    let Ranged { tree, past } = first;
-    let rest = gather(alloc, rest)?;
-    let tree = Boxed::new(alloc, tree)?;
-    Ok(Ranged {
-        tree: joined(joint, tree, rest.tree),
-        past: past.or(rest.past),
-    })
+    let Ranged { tree, past } = linked(alloc, parts)?;
+    let tree = chain_tree(alloc, joint, tree)?;
+    Ok(Ranged { tree, past })
+}
+
+fn conjunction(alloc: Global, parts: Vec<Ranged<CondTree>>) -> Result<Ranged<CondTree>, ReadError>
+    ensures { MatchResult result (λ x. x ≡ chained spec.no_condition c.And parts.items) (λ e. e ≡ ReadError.NoMemory) }
+{
+    chain(alloc, Joint::And, parts)
 }
 
 fn denied(alloc: Global, part: Ranged<CondTree>) -> Result<Ranged<CondTree>, ReadError>
@@ -288,40 +307,28 @@ fn denied(alloc: Global, part: Ranged<CondTree>) -> Result<Ranged<CondTree>, Rea
     })
 }
 
-#[cycle(condition)]
-#[tactic(auto, unfolding(crate::specs::Conditions::negation))]
-fn read_negation(
-    tokens: &mut Tokens<'_, '_>,
+/// How much room is left, for lists and for conditions.
+#[derive(Clone, Copy)]
+struct Rooms {
     lists: u64,
-    room: u64,
-) -> Result<Ranged<CondTree>, ReadError>
-    ensures { Reads (reader_of (spec.negation (list lists) room) tokens.old) result tokens.new }
-{
-    if room == 0 {
-        return Err(tokens.refusal());
-    }
-    read_negated(tokens, lists, room - 1)
+    conditions: u64,
 }
 
-// "(" Cond ")", inside so much room.
 #[cycle(condition)]
-#[tactic(auto, unfolding(crate::specs::Conditions::in_parentheses))]
-fn read_in_parentheses(
-    tokens: &mut Tokens<'_, '_>,
-    lists: u64,
-    room: u64,
-) -> Result<Ranged<CondTree>, ReadError>
-    ensures { Reads (reader_of (spec.in_parentheses (spec.negation (list lists) room)) tokens.old) result tokens.new }
+#[tactic(auto, unfolding(crate::specs::Conditions::negation))]
+fn read_negation(tokens: &mut Tokens<'_, '_>, rooms: Rooms) -> Result<Ranged<CondTree>, ReadError>
+    ensures { Reads (reader_of (spec.negation (list rooms.lists) rooms.conditions) tokens.old) result tokens.new }
 {
-    tokens.expect(OPEN)?;
-    let condition = read_condition(tokens, lists, room)?;
-    tokens.expect(CLOSE)?;
-    Ok(condition)
+    let Rooms { lists, conditions } = rooms;
+    if conditions == 0 {
+        return Err(tokens.refusal());
+    }
+    read_negated(tokens, lists, conditions - 1)
 }
 
 // Neg = "not" Neg | "(" Cond ")" | Test, inside so much room.
 #[cycle(condition)]
-#[tactic(auto, unfolding(crate::specs::Conditions::negated_in))]
+#[tactic(auto, unfolding(crate::specs::Conditions::negated_in, crate::specs::Conditions::in_parentheses))]
 fn read_negated(
     tokens: &mut Tokens<'_, '_>,
     lists: u64,
@@ -330,55 +337,23 @@ fn read_negated(
     ensures { Reads (reader_of (spec.negated_in (list lists) (spec.negation (list lists) room)) tokens.old) result tokens.new }
 {
     if tokens.eat(NOT) {
-        let part = read_negation(tokens, lists, room)?;
+        let rooms = Rooms {
+            lists,
+            conditions: room,
+        };
+        let part = read_negation(tokens, rooms)?;
         return denied(tokens.alloc(), part);
     }
     if condition_ahead(tokens.left()) {
-        return read_in_parentheses(tokens, lists, room);
+        tokens.expect(OPEN)?;
+        let condition = read_condition(tokens, lists, room)?;
+        tokens.expect(CLOSE)?;
+        return Ok(condition);
     }
     read_test(tokens, lists)
 }
 
-// "and" Neg
-#[cycle(condition)]
-fn read_further_negation(
-    tokens: &mut Tokens<'_, '_>,
-    inside: (u64, u64),
-) -> Result<Ranged<CondTree>, ReadError>
-    ensures { Reads (reader_of (behind and_word (spec.negation (list inside.0) inside.1)) tokens.old) result tokens.new }
-{
-    tokens.expect(AND)?;
-    read_negation(tokens, inside.0, inside.1)
-}
-
-// Conj = Neg {"and" Neg}
-#[cycle(condition)]
-#[tactic(auto, unfolding(crate::specs::Conditions::conjunction))]
-fn read_conjunction(
-    tokens: &mut Tokens<'_, '_>,
-    lists: u64,
-    room: u64,
-) -> Result<Ranged<CondTree>, ReadError>
-    ensures { Reads (reader_of (spec.conjunction (spec.negation (list lists) room)) tokens.old) result tokens.new }
-{
-    let first = read_negation(tokens, lists, room)?;
-    let rest = repeated_by(tokens, AND, (lists, room), read_further_negation)?;
-    chain(tokens.alloc(), Joint::And, first, rest)
-}
-
-// "or" Conj
-#[cycle(condition)]
-fn read_further_conjunction(
-    tokens: &mut Tokens<'_, '_>,
-    inside: (u64, u64),
-) -> Result<Ranged<CondTree>, ReadError>
-    ensures { Reads (reader_of (behind or_word (spec.conjunction (spec.negation (list inside.0) inside.1))) tokens.old) result tokens.new }
-{
-    tokens.expect(OR)?;
-    read_conjunction(tokens, inside.0, inside.1)
-}
-
-/// Cond = Conj {"or" Conj}
+/// Cond = Conj {"or" Conj}, Conj = Neg {"and" Neg}
 #[cycle(condition)]
 #[tactic(auto, unfolding(crate::specs::Conditions::disjunction))]
 pub fn read_condition(
@@ -388,7 +363,15 @@ pub fn read_condition(
 ) -> Result<Ranged<CondTree>, ReadError>
     ensures { Reads (reader_of (spec.condition lists room) tokens.old) result tokens.new }
 {
-    let first = read_conjunction(tokens, lists, room)?;
-    let rest = repeated_by(tokens, OR, (lists, room), read_further_conjunction)?;
-    chain(tokens.alloc(), Joint::Or, first, rest)
+    let row = Row {
+        sign: AND,
+        inside: Rooms {
+            lists,
+            conditions: room,
+        },
+        read: read_negation,
+        make: conjunction,
+    };
+    let rows = read_rows(tokens, OR, row)?;
+    chain(tokens.alloc(), Joint::Or, rows)
 }

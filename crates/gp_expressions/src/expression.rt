@@ -1,23 +1,21 @@
 //! Reads expressions, one function for each line of the grammar.
 
-ghost use Rattle.std.specs.Prelude.{◌≡◌, ◌∷◌, IfOk, MatchResult, List, Option, Some};
-ghost use Rattle.gp_tokens.specs.declared.token.Token.{Token};
-ghost use Rattle.gp_grammar.specs.inside.Cursor.{Reads, ReadsAs};
+ghost use Rattle.std.specs.Prelude.{◌≡◌, IfOk, MatchResult};
+ghost use Rattle.gp_grammar.specs.inside.Cursor.{Reads};
 ghost use Rattle.gp_grammar.specs.inside.Reading.{reader_of, made, number_at};
 ghost use Rattle.gp_grammar.specs.Numerals.{integer_of};
-ghost use Rattle.gp_grammar.specs.Grammar.{Made};
-ghost use Rattle.gp_grammar.specs.Signs.{minus, slash};
 ghost use Rattle.gp_syntax.specs.declared.expression.Expr.TheVariants as e;
 ghost use Rattle.gp_syntax.specs.declared.expression.SumSign.TheVariants as sums;
 ghost use Rattle.gp_syntax.specs.declared.expression.ProductSign.TheVariants as products;
 ghost use Rattle.gp_expressions.specs.Expressions as spec;
 ghost use Rattle.gp_expressions.specs.Ranges.{with, all_joined, chained};
 ghost use Rattle.gp_expressions.specs.inside.Chains.{tree_of};
-ghost use Rattle.gp_expressions.specs.declared.ranged.Ranged.{Ranged};
+ghost use Rattle.gp_expressions.specs.inside.Rows.{signed_row};
 
 use crate::chain::{Links, linked};
-use crate::ranged::{Ranged, gather_behind, join_all, whole};
-use gp_grammar::{Numeral, ReadError, Tokens, Want, repeated_by, separated_by};
+use crate::ranged::{Ranged, join, whole};
+use crate::rows::{Row, read_rows};
+use gp_grammar::{Numeral, ReadError, Tokens, Want};
 use gp_memory::NoMemory;
 use gp_syntax::{Boxed, Expr, Items, Name, ProductSign, Signed, SumSign};
 use gp_tokens::{Keyword, Kind};
@@ -55,23 +53,49 @@ fn numeral(numeral: Numeral, start: u64) -> Ranged<Expr<Name>>
     }
 }
 
-// What was read, behind this sign.
-fn signed<S: Drop>(
+// Operands with their signs: of the first, and of the others.
+fn signed<S: Copy>(
+    alloc: Global,
+    head: S,
     sign: S,
-    part: Result<Ranged<Expr<Name>>, ReadError>,
-) -> Result<Ranged<Signed<S, Expr<Name>>>, ReadError>
-    ensures { (read : Option (Ranged spec.Tree × List Token)) (left : List Token) → Reads read part left → Reads (made (spec.signed_by sign) (λ _. read) left) result left }
+    parts: Vec<Ranged<Expr<Name>>>,
+) -> Result<Ranged<Items<Signed<S, Expr<Name>>>>, ReadError>
+    ensures { MatchResult result (λ x. x ≡ signed_row head sign parts.items) (λ e. e ≡ ReadError.NoMemory) }
 {
-    match part {
-        Ok(part) => Ok(Ranged {
-            tree: Signed {
-                sign,
-                operand: part.tree,
-            },
-            past: part.past,
-        }),
-        Err(error) => Err(error),
+    let mut operands = Items::new(alloc);
+    let mut past = None;
+    let mut next = head;
+    for part in parts {
+        let Ranged { tree, past: more } = part;
+        operands.push(Signed {
+            sign: next,
+            operand: tree,
+        })?;
+        past = past.or(more);
+        next = sign;
     }
+    Ok(Ranged {
+        tree: operands,
+        past,
+    })
+}
+
+fn quotients(
+    alloc: Global,
+    parts: Vec<Ranged<Expr<Name>>>,
+) -> Result<Ranged<Items<Signed<ProductSign, Expr<Name>>>>, ReadError>
+    ensures { MatchResult result (λ x. x ≡ signed_row products.Times products.Over parts.items) (λ e. e ≡ ReadError.NoMemory) }
+{
+    signed(alloc, ProductSign::Times, ProductSign::Over, parts)
+}
+
+fn differences(
+    alloc: Global,
+    parts: Vec<Ranged<Expr<Name>>>,
+) -> Result<Ranged<Items<Signed<SumSign, Expr<Name>>>>, ReadError>
+    ensures { MatchResult result (λ x. x ≡ signed_row sums.Plus sums.Minus parts.items) (λ e. e ≡ ReadError.NoMemory) }
+{
+    signed(alloc, SumSign::Plus, SumSign::Minus, parts)
 }
 
 fn sum_tree(
@@ -106,24 +130,26 @@ fn product_tree(
     Ok(Expr::Product(Boxed::new(alloc, first)?, operands))
 }
 
+#[tactic(auto, using(crate::proofs::Gathers::all_joined_is))]
 fn product_of(
     alloc: Global,
     rows: Vec<Ranged<Items<Signed<ProductSign, Expr<Name>>>>>,
 ) -> Result<Ranged<Expr<Name>>, ReadError>
     ensures { MatchResult result (λ x. x ≡ with spec.product_tree (all_joined rows.items)) (λ e. e ≡ ReadError.NoMemory) }
 {
-    let Ranged { tree, past } = join_all(alloc, rows)?;
+    let Ranged { tree, past } = join(whole(Items::new(alloc)), rows)?;
     let tree = product_tree(alloc, tree)?;
     Ok(Ranged { tree, past })
 }
 
+#[tactic(auto, using(crate::proofs::Gathers::all_joined_is))]
 fn sum_of(
     alloc: Global,
     rows: Vec<Ranged<Items<Signed<SumSign, Expr<Name>>>>>,
 ) -> Result<Ranged<Expr<Name>>, ReadError>
     ensures { MatchResult result (λ x. x ≡ with spec.sum_tree (all_joined rows.items)) (λ e. e ≡ ReadError.NoMemory) }
 {
-    let Ranged { tree, past } = join_all(alloc, rows)?;
+    let Ranged { tree, past } = join(whole(Items::new(alloc)), rows)?;
     let tree = sum_tree(alloc, tree)?;
     Ok(Ranged { tree, past })
 }
@@ -278,94 +304,50 @@ fn read_unary(tokens: &mut Tokens<'_, '_>, room: u64) -> Result<Ranged<Expr<Name
     read_operand(tokens, room)
 }
 
-// "/" Unary
-#[cycle(expression)]
-fn read_divisor(
-    tokens: &mut Tokens<'_, '_>,
-    room: u64,
-) -> Result<Ranged<Signed<ProductSign, Expr<Name>>>, ReadError>
-    ensures { Reads (reader_of (spec.behind slash (Made (spec.signed_by products.Over) (spec.unary (spec.operand room)))) tokens.old) result tokens.new }
-{
-    tokens.expect(SLASH)?;
-    signed(ProductSign::Over, read_unary(tokens, room))
-}
-
-// Unary {"/" Unary}
-#[cycle(expression)]
-#[tactic(auto, unfolding(crate::specs::Expressions::quotients))]
-fn read_quotients(
-    tokens: &mut Tokens<'_, '_>,
-    room: u64,
-) -> Result<Ranged<Items<Signed<ProductSign, Expr<Name>>>>, ReadError>
-    ensures { Reads (reader_of (spec.quotients (spec.operand room)) tokens.old) result tokens.new }
-{
-    let first = signed(ProductSign::Times, read_unary(tokens, room))?;
-    let rest = repeated_by(tokens, SLASH, room, read_divisor)?;
-    gather_behind(tokens.alloc(), first, rest)
-}
-
-// Prod = Unary {("*" | "/") Unary}
+// Prod = Unary {("*" | "/") Unary}: rows of quotients
 #[cycle(expression)]
 #[tactic(auto, unfolding(crate::specs::Expressions::product))]
 fn read_product(tokens: &mut Tokens<'_, '_>, room: u64) -> Result<Ranged<Expr<Name>>, ReadError>
     ensures { Reads (reader_of (spec.product (spec.operand room)) tokens.old) result tokens.new }
 {
-    let rows = separated_by(tokens, STAR, room, read_quotients)?;
+    let row = Row {
+        sign: SLASH,
+        inside: room,
+        read: read_unary,
+        make: quotients,
+    };
+    let rows = read_rows(tokens, STAR, row)?;
     product_of(tokens.alloc(), rows)
 }
 
-// "-" Prod
-#[cycle(expression)]
-fn read_subtrahend(
-    tokens: &mut Tokens<'_, '_>,
-    room: u64,
-) -> Result<Ranged<Signed<SumSign, Expr<Name>>>, ReadError>
-    ensures { Reads (reader_of (spec.behind minus (Made (spec.signed_by sums.Minus) (spec.product (spec.operand room)))) tokens.old) result tokens.new }
-{
-    tokens.expect(MINUS)?;
-    signed(SumSign::Minus, read_product(tokens, room))
-}
-
-// Prod {"-" Prod}
-#[cycle(expression)]
-#[tactic(auto, unfolding(crate::specs::Expressions::differences))]
-fn read_differences(
-    tokens: &mut Tokens<'_, '_>,
-    room: u64,
-) -> Result<Ranged<Items<Signed<SumSign, Expr<Name>>>>, ReadError>
-    ensures { Reads (reader_of (spec.differences (spec.operand room)) tokens.old) result tokens.new }
-{
-    let first = signed(SumSign::Plus, read_product(tokens, room))?;
-    let rest = repeated_by(tokens, MINUS, room, read_subtrahend)?;
-    gather_behind(tokens.alloc(), first, rest)
-}
-
-// Sum = Prod {("+" | "-") Prod}
+// Sum = Prod {("+" | "-") Prod}: rows of differences
 #[cycle(expression)]
 #[tactic(auto, unfolding(crate::specs::Expressions::sum))]
 fn read_sum(tokens: &mut Tokens<'_, '_>, room: u64) -> Result<Ranged<Expr<Name>>, ReadError>
     ensures { Reads (reader_of (spec.sum (spec.operand room)) tokens.old) result tokens.new }
 {
-    let rows = separated_by(tokens, PLUS, room, read_differences)?;
+    let row = Row {
+        sign: MINUS,
+        inside: room,
+        read: read_product,
+        make: differences,
+    };
+    let rows = read_rows(tokens, PLUS, row)?;
     sum_of(tokens.alloc(), rows)
 }
 
-// Str = Sum {"." Sum}
-#[cycle(expression)]
-#[tactic(auto, unfolding(crate::specs::Expressions::dots))]
-fn read_dots(tokens: &mut Tokens<'_, '_>, room: u64) -> Result<Ranged<Expr<Name>>, ReadError>
-    ensures { Reads (reader_of (spec.dots (spec.operand room)) tokens.old) result tokens.new }
-{
-    let parts = separated_by(tokens, DOT, room, read_sum)?;
-    dotted(tokens.alloc(), parts)
-}
-
-// List = Str {":" Str}
+// List = Str {":" Str}, Str = Sum {"." Sum}
 #[cycle(expression)]
 #[tactic(auto, unfolding(crate::specs::Expressions::joins))]
 pub fn read_list(tokens: &mut Tokens<'_, '_>, room: u64) -> Result<Ranged<Expr<Name>>, ReadError>
     ensures { Reads (reader_of (spec.list room) tokens.old) result tokens.new }
 {
-    let parts = separated_by(tokens, COLON, room, read_dots)?;
+    let row = Row {
+        sign: DOT,
+        inside: room,
+        read: read_sum,
+        make: dotted,
+    };
+    let parts = read_rows(tokens, COLON, row)?;
     colon_joined(tokens.alloc(), parts)
 }

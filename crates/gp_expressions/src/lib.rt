@@ -12,6 +12,7 @@ mod condition;
 mod expression;
 pub mod laws;
 mod ranged;
+mod rows;
 
 pub use condition::{CondTree, LabelTree, read_condition, read_label};
 pub use expression::{read_list, read_name};

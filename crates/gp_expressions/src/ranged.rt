@@ -1,9 +1,8 @@
 //! Trees, with the first numeral that is out of range.
 
-ghost use Rattle.std.specs.Prelude.{◌≡◌, ◌∷◌, IfOk, MatchResult};
+ghost use Rattle.std.specs.Prelude.{◌≡◌, ◌∷◌, IfOk};
 ghost use Rattle.gp_expressions.specs.Ranges as spec;
 
-use gp_grammar::ReadError;
 use gp_memory::NoMemory;
 use gp_syntax::Items;
 use std::alloc::Global;
@@ -38,26 +37,6 @@ pub fn gather<T: Drop>(alloc: Global, parts: Vec<Ranged<T>>) -> Result<Ranged<It
     Ok(Ranged { tree: trees, past })
 }
 
-/// The list of the first and the further trees.
-#[tactic(auto, using(crate::proofs::Gathers::past_behind), unfolding(crate::specs::Ranges::first_past))]
-pub(crate) fn gather_behind<T: Drop>(
-    alloc: Global,
-    first: Ranged<T>,
-    rest: Vec<Ranged<T>>,
-) -> Result<Ranged<Items<T>>, ReadError>
-    ensures { MatchResult result (λ r. r ≡ spec.gathered (first ∷ rest.items)) (λ e. e ≡ ReadError.NoMemory) }
-{
-    let mut trees = Items::new(alloc);
-    let Ranged { tree, mut past } = first;
-    trees.push(tree)?;
-    for part in rest {
-        let Ranged { tree, past: more } = part;
-        trees.push(tree)?;
-        past = past.or(more);
-    }
-    Ok(Ranged { tree: trees, past })
-}
-
 /// The lists one behind the other.
 #[tactic(auto, using(crate::proofs::Gathers::past_behind, crate::proofs::Gathers::joined_more), unfolding(crate::specs::Ranges::first_past, crate::specs::Ranges::joined))]
 pub fn join<T: Drop>(
@@ -76,22 +55,4 @@ pub fn join<T: Drop>(
         past = past.or(next);
     }
     Ok(Ranged { tree, past })
-}
-
-/// All lists one behind the other.
-#[tactic(auto, using(crate::proofs::Gathers::all_joined_is, crate::proofs::Gathers::past_more), unfolding(crate::specs::Ranges::first_past, crate::specs::Ranges::joined))]
-pub(crate) fn join_all<T: Drop>(
-    alloc: Global,
-    parts: Vec<Ranged<Items<T>>>,
-) -> Result<Ranged<Items<T>>, ReadError>
-    ensures { MatchResult result (λ r. r ≡ spec.all_joined parts.items) (λ e. e ≡ ReadError.NoMemory) }
-{
-    let mut trees = Items::new(alloc);
-    let mut past = None;
-    for part in parts {
-        let Ranged { tree, past: more } = part;
-        trees.append(tree)?;
-        past = past.or(more);
-    }
-    Ok(Ranged { tree: trees, past })
 }

@@ -3,3 +3,5 @@ pub mod Stages
 pub mod RuleParts
 pub mod Calls
 pub mod EdgeParts
+pub mod Groups
+pub mod Names

@@ -3,13 +3,13 @@
 ghost use Rattle.std.specs.Prelude.{◌≡◌, MatchResult};
 ghost use Rattle.gp_grammar.specs.inside.Cursor.{Reads};
 ghost use Rattle.gp_grammar.specs.inside.Reading.{reader_of};
-ghost use Rattle.gp_grammar.specs.declared.want.Want.TheVariants as wants;
-ghost use Rattle.gp_syntax.specs.declared.tree.CommandTree.TheVariants as commands;
-ghost use Rattle.gp_expressions.specs.Expressions.{behind, name};
+ghost use Rattle.gp_expressions.specs.Expressions.{behind};
 ghost use Rattle.gp_expressions.specs.Signs.{then_word};
 ghost use Rattle.gp_program.specs.Commands as spec;
 ghost use Rattle.gp_program.specs.inside.Calls.{call};
+ghost use Rattle.gp_program.specs.inside.Groups.{group_of, branches_of};
 
+use crate::rule::read_names;
 use gp_expressions::read_name;
 use gp_grammar::{ReadError, Tokens, Want, separated_by};
 use gp_syntax::{Boxed, CommandTree, Items, Name};
@@ -20,8 +20,6 @@ const OPEN: Want = Want::Kind(Kind::OpenParenthesis);
 
 const CLOSE: Want = Want::Kind(Kind::CloseParenthesis);
 
-const COMMA: Want = Want::Kind(Kind::Comma);
-
 const SEMICOLON: Want = Want::Kind(Kind::Semicolon);
 
 const OR: Want = Want::Keyword(Keyword::Or);
@@ -30,22 +28,24 @@ const THEN: Want = Want::Keyword(Keyword::Then);
 
 const ELSE: Want = Want::Keyword(Keyword::Else);
 
-fn choice(alloc: Global, parts: Vec<CommandTree>) -> Result<CommandTree, ReadError>
-    ensures { MatchResult result (λ p. p ≡ spec.grouped commands.Or parts.items) (λ e. e ≡ ReadError.NoMemory) }
-{
-    let mut rest = Items::from_vec(parts);
-    if rest.is_empty() {
-        return Ok(CommandTree::Skip);
-    }
-    let first = rest.remove(0);
-    if rest.is_empty() {
-        return Ok(first);
-    }
-    Ok(CommandTree::Or(Boxed::new(alloc, first)?, rest))
+// How commands are grouped: by `or`, or one behind the other.
+#[derive(Clone, Copy)]
+enum Group {
+    Or,
+    Sequence,
 }
 
-fn sequence(alloc: Global, parts: Vec<CommandTree>) -> Result<CommandTree, ReadError>
-    ensures { MatchResult result (λ p. p ≡ spec.grouped commands.Seq parts.items) (λ e. e ≡ ReadError.NoMemory) }
+fn group_of(group: Group, first: Boxed<CommandTree>, rest: Items<CommandTree>) -> CommandTree
+    ensures { result ≡ group_of group first rest }
+{
+    match group {
+        Group::Or => CommandTree::Or(first, rest),
+        Group::Sequence => CommandTree::Seq(first, rest),
+    }
+}
+
+fn grouped(alloc: Global, group: Group, parts: Vec<CommandTree>) -> Result<CommandTree, ReadError>
+    ensures { MatchResult result (λ p. p ≡ spec.grouped (group_of group) parts.items) (λ e. e ≡ ReadError.NoMemory) }
 {
     let mut rest = Items::from_vec(parts);
     if rest.is_empty() {
@@ -55,7 +55,7 @@ fn sequence(alloc: Global, parts: Vec<CommandTree>) -> Result<CommandTree, ReadE
     if rest.is_empty() {
         return Ok(first);
     }
-    Ok(CommandTree::Seq(Boxed::new(alloc, first)?, rest))
+    Ok(group_of(group, Boxed::new(alloc, first)?, rest))
 }
 
 fn call_of_one(alloc: Global, name: Name) -> Result<CommandTree, ReadError>
@@ -66,48 +66,23 @@ fn call_of_one(alloc: Global, name: Name) -> Result<CommandTree, ReadError>
     Ok(CommandTree::Call(names))
 }
 
-fn if_of(
+// The branches of a condition that is tried, or only met.
+fn branches(
     alloc: Global,
+    tried: bool,
     condition: CommandTree,
     met: CommandTree,
     unmet: CommandTree,
 ) -> Result<CommandTree, ReadError>
-    ensures { MatchResult result (λ p. p ≡ commands.If condition met unmet) (λ e. e ≡ ReadError.NoMemory) }
+    ensures { MatchResult result (λ p. p ≡ branches_of tried condition met unmet) (λ e. e ≡ ReadError.NoMemory) }
 {
     let condition = Boxed::new(alloc, condition)?;
     let met = Boxed::new(alloc, met)?;
-    Ok(CommandTree::If(condition, met, Boxed::new(alloc, unmet)?))
-}
-
-fn try_of(
-    alloc: Global,
-    condition: CommandTree,
-    met: CommandTree,
-    unmet: CommandTree,
-) -> Result<CommandTree, ReadError>
-    ensures { MatchResult result (λ p. p ≡ commands.Try condition met unmet) (λ e. e ≡ ReadError.NoMemory) }
-{
-    let condition = Boxed::new(alloc, condition)?;
-    let met = Boxed::new(alloc, met)?;
-    Ok(CommandTree::Try(condition, met, Boxed::new(alloc, unmet)?))
-}
-
-fn read_rule_name(tokens: &mut Tokens<'_, '_>, _nothing: ()) -> Result<Name, ReadError>
-    ensures { Reads (reader_of (name wants.RuleName) tokens.old) result tokens.new }
-{
-    read_name(tokens, Want::RuleName)
-}
-
-// [RuleName {"," RuleName}]
-#[tactic(auto, unfolding(crate::specs::Commands::rule_names))]
-fn read_rule_names(tokens: &mut Tokens<'_, '_>) -> Result<Items<Name>, ReadError>
-    ensures { Reads (reader_of spec.rule_names tokens.old) result tokens.new }
-{
-    if tokens.begins(Want::RuleName) {
-        let names = separated_by(tokens, COMMA, (), read_rule_name)?;
-        return Ok(Items::from_vec(names));
+    let unmet = Boxed::new(alloc, unmet)?;
+    if tried {
+        return Ok(CommandTree::Try(condition, met, unmet));
     }
-    Ok(Items::new(tokens.alloc()))
+    Ok(CommandTree::If(condition, met, unmet))
 }
 
 // ["!"]
@@ -128,11 +103,12 @@ fn looped(alloc: Global, body: CommandTree, looped: bool) -> Result<CommandTree,
 }
 
 // RuleName | "{" [RuleName {"," RuleName}] "}" | ProcName
+#[tactic(auto, unfolding(crate::specs::Commands::rule_names))]
 fn read_call(tokens: &mut Tokens<'_, '_>) -> Result<CommandTree, ReadError>
     ensures { Reads (reader_of call tokens.old) result tokens.new }
 {
     if tokens.eat(Want::Kind(Kind::OpenBrace)) {
-        let names = read_rule_names(tokens)?;
+        let names = read_names(tokens, Want::RuleName)?;
         tokens.expect(Want::Kind(Kind::CloseBrace))?;
         return Ok(CommandTree::Call(names));
     }
@@ -196,7 +172,7 @@ fn read_block(tokens: &mut Tokens<'_, '_>, room: u64) -> Result<CommandTree, Rea
     ensures { Reads (reader_of (spec.block (spec.simple room)) tokens.old) result tokens.new }
 {
     let parts = separated_by(tokens, OR, room, read_simple)?;
-    choice(tokens.alloc(), parts)
+    grouped(tokens.alloc(), Group::Or, parts)
 }
 
 // "then" Block
@@ -214,8 +190,7 @@ fn read_then(tokens: &mut Tokens<'_, '_>, room: u64) -> Result<CommandTree, Read
 fn read_part(tokens: &mut Tokens<'_, '_>, room: u64, word: Want) -> Result<CommandTree, ReadError>
     ensures { Reads (reader_of (spec.part (spec.simple room) word) tokens.old) result tokens.new }
 {
-    if tokens.begins(word) {
-        tokens.expect(word)?;
+    if tokens.eat(word) {
         return read_block(tokens, room);
     }
     let missing = CommandTree::Skip;
@@ -232,13 +207,13 @@ fn read_command(tokens: &mut Tokens<'_, '_>, room: u64) -> Result<CommandTree, R
         let condition = read_block(tokens, room)?;
         let yes = read_then(tokens, room)?;
         let no = read_part(tokens, room, ELSE)?;
-        return if_of(tokens.alloc(), condition, yes, no);
+        return branches(tokens.alloc(), false, condition, yes, no);
     }
     if tokens.eat(Want::Keyword(Keyword::Try)) {
         let condition = read_block(tokens, room)?;
         let yes = read_part(tokens, room, THEN)?;
         let no = read_part(tokens, room, ELSE)?;
-        return try_of(tokens.alloc(), condition, yes, no);
+        return branches(tokens.alloc(), true, condition, yes, no);
     }
     read_block(tokens, room)
 }
@@ -253,5 +228,5 @@ pub(crate) fn read_commands(
     ensures { Reads (reader_of (spec.commands_of room) tokens.old) result tokens.new }
 {
     let parts = separated_by(tokens, SEMICOLON, room, read_command)?;
-    sequence(tokens.alloc(), parts)
+    grouped(tokens.alloc(), Group::Sequence, parts)
 }

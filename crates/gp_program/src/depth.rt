@@ -13,7 +13,7 @@ use std::alloc::Global;
 pub const DEEPEST: usize = 64;
 
 /// What a token is to the depth.
-#[derive(Clone, Copy, PartialEq, Eq)]
+#[derive(Clone, Copy)]
 pub enum Role {
     Opening,
     Closing,
@@ -23,7 +23,7 @@ pub enum Role {
 }
 
 /// A run of equal tokens that ends here.
-#[derive(Clone, Copy, PartialEq, Eq)]
+#[derive(Clone, Copy)]
 pub struct Run {
     pub role: Role,
     pub len: usize,

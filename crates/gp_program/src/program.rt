@@ -54,59 +54,46 @@ pub(crate) fn procedure_first(
     })
 }
 
+/// How much room is left, for rules and commands, and for local declarations.
+#[derive(Clone, Copy)]
+struct Rooms {
+    rules: u64,
+    locals: u64,
+}
+
 // ["[" {Decl} "]"], inside so much room.
 #[cycle(declaration)]
 #[tactic(auto, unfolding(crate::specs::Programs::locals))]
-fn read_locals(
-    tokens: &mut Tokens<'_, '_>,
-    room: u64,
-    inside: u64,
-) -> Result<Ranged<Items<Decl>>, ReadError>
-    ensures { Reads (reader_of (spec.locals (spec.declarations room inside)) tokens.old) result tokens.new }
+fn read_locals(tokens: &mut Tokens<'_, '_>, rooms: Rooms) -> Result<Ranged<Items<Decl>>, ReadError>
+    ensures { Reads (reader_of (spec.locals (spec.declarations rooms.rules rooms.locals)) tokens.old) result tokens.new }
 {
     if tokens.eat(Want::Kind(Kind::OpenBracket)) {
-        let locals = read_declarations(tokens, room, inside)?;
+        let locals = read_declarations(tokens, rooms)?;
         tokens.expect(Want::Kind(Kind::CloseBracket))?;
         return Ok(locals);
     }
     Ok(whole(Items::new(tokens.alloc())))
 }
 
-// ProcName "=" ["[" {Decl} "]"] ComSeq, inside so much room.
+// ProcName "=" ["[" {Decl} "]"] ComSeq, and the rules between it and the next procedure.
 #[cycle(declaration)]
-#[tactic(auto, unfolding(crate::specs::Programs::procedure))]
-fn read_procedure(
-    tokens: &mut Tokens<'_, '_>,
-    room: u64,
-    inside: u64,
-) -> Result<Ranged<Decl>, ReadError>
-    ensures { Reads (reader_of (spec.procedure room (spec.declarations room inside)) tokens.old) result tokens.new }
+#[tactic(auto, unfolding(crate::specs::Programs::procedure, crate::specs::Programs::procedure_group))]
+fn read_group(tokens: &mut Tokens<'_, '_>, rooms: Rooms) -> Result<Ranged<Items<Decl>>, ReadError>
+    ensures { Reads (reader_of (spec.procedure_group rooms.rules (spec.declarations rooms.rules rooms.locals)) tokens.old) result tokens.new }
 {
     let name = read_name(tokens, Want::ProcedureName)?;
     tokens.expect(Want::Kind(Kind::Equal))?;
-    let locals = read_locals(tokens, room, inside)?;
-    let body = read_commands(tokens, room)?;
-    Ok(Ranged {
+    let locals = read_locals(tokens, rooms)?;
+    let body = read_commands(tokens, rooms.rules)?;
+    let rules = read_rules(tokens, rooms.rules)?;
+    let procedure = Ranged {
         tree: Decl::Procedure {
             name,
             declarations: locals.tree,
             body,
         },
         past: locals.past,
-    })
-}
-
-// A procedure, and the rules between it and the next.
-#[cycle(declaration)]
-#[tactic(auto, unfolding(crate::specs::Programs::procedure_group))]
-fn read_group(
-    tokens: &mut Tokens<'_, '_>,
-    depths: (u64, u64),
-) -> Result<Ranged<Items<Decl>>, ReadError>
-    ensures { Reads (reader_of (spec.procedure_group depths.0 (spec.declarations depths.0 depths.1)) tokens.old) result tokens.new }
-{
-    let procedure = read_procedure(tokens, depths.0, depths.1)?;
-    let rules = read_rules(tokens, depths.0)?;
+    };
     procedure_first(tokens.alloc(), procedure, rules)
 }
 
@@ -115,13 +102,12 @@ fn read_group(
 #[tactic(auto, unfolding(crate::specs::Programs::declarations_in))]
 fn read_declarations_in(
     tokens: &mut Tokens<'_, '_>,
-    room: u64,
-    inside: u64,
+    rooms: Rooms,
 ) -> Result<Ranged<Items<Decl>>, ReadError>
-    ensures { Reads (reader_of (spec.declarations_in room (spec.declarations room inside)) tokens.old) result tokens.new }
+    ensures { Reads (reader_of (spec.declarations_in rooms.rules (spec.declarations rooms.rules rooms.locals)) tokens.old) result tokens.new }
 {
-    let rules = read_rules(tokens, room)?;
-    let groups = repeated_by(tokens, Want::ProcedureName, (room, inside), read_group)?;
+    let rules = read_rules(tokens, rooms.rules)?;
+    let groups = repeated_by(tokens, Want::ProcedureName, rooms, read_group)?;
     let all = join(rules, groups)?;
     Ok(all)
 }
@@ -130,15 +116,19 @@ fn read_declarations_in(
 #[tactic(auto, unfolding(crate::specs::Programs::declarations))]
 fn read_declarations(
     tokens: &mut Tokens<'_, '_>,
-    room: u64,
-    inside: u64,
+    rooms: Rooms,
 ) -> Result<Ranged<Items<Decl>>, ReadError>
-    ensures { Reads (reader_of (spec.declarations room inside) tokens.old) result tokens.new }
+    ensures { Reads (reader_of (spec.declarations rooms.rules rooms.locals) tokens.old) result tokens.new }
 {
-    if inside == 0 {
+    let Rooms { rules, locals } = rooms;
+    if locals == 0 {
         return Err(tokens.refusal());
     }
-    read_declarations_in(tokens, room, inside - 1)
+    let inside = Rooms {
+        rules,
+        locals: locals - 1,
+    };
+    read_declarations_in(tokens, inside)
 }
 
 /// Program = {Decl}
@@ -146,7 +136,11 @@ fn read_declarations(
 pub(crate) fn read_ast(tokens: &mut Tokens<'_, '_>, room: u64) -> Result<Ranged<Ast>, ReadError>
     ensures { Reads (reader_of (spec.program room) tokens.old) result tokens.new }
 {
-    let declarations = read_declarations_in(tokens, room, room)?;
+    let rooms = Rooms {
+        rules: room,
+        locals: room,
+    };
+    let declarations = read_declarations_in(tokens, rooms)?;
     Ok(Ranged {
         tree: Ast {
             declarations: declarations.tree,

@@ -3,11 +3,11 @@
 ghost use Rattle.std.specs.Prelude.{◌≡◌};
 ghost use Rattle.gp_grammar.specs.inside.Cursor.{Reads};
 ghost use Rattle.gp_grammar.specs.inside.Reading.{reader_of};
-ghost use Rattle.gp_grammar.specs.declared.want.Want.TheVariants as wants;
 ghost use Rattle.gp_grammar.specs.Signs.{comma};
 ghost use Rattle.gp_expressions.specs.Conditions.{condition};
 ghost use Rattle.gp_expressions.specs.Expressions.{behind, name as name_of, list};
 ghost use Rattle.gp_program.specs.Rules as spec;
+ghost use Rattle.gp_program.specs.inside.Names.{names};
 ghost use Rattle.gp_program.specs.inside.RuleParts.{whole_rule, rule_end, rule_sides};
 
 use crate::graph::read_graph;
@@ -17,6 +17,24 @@ use gp_syntax::{GraphDecl, Items, Name, RuleDecl, VariableGroup, VariableType};
 use gp_tokens::{Keyword, Kind};
 
 const COMMA: Want = Want::Kind(Kind::Comma);
+
+// The name that comes next: a function of this crate, as what is passed by its name has to be.
+fn read_listed(tokens: &mut Tokens<'_, '_>, want: Want) -> Result<Name, ReadError>
+    ensures { Reads (reader_of (name_of want) tokens.old) result tokens.new }
+{
+    read_name(tokens, want)
+}
+
+/// [Name {"," Name}], of this class.
+pub(crate) fn read_names(tokens: &mut Tokens<'_, '_>, want: Want) -> Result<Items<Name>, ReadError>
+    ensures { Reads (reader_of (names want) tokens.old) result tokens.new }
+{
+    if tokens.begins(want) {
+        let names = separated_by(tokens, COMMA, want, read_listed)?;
+        return Ok(Items::from_vec(names));
+    }
+    Ok(Items::new(tokens.alloc()))
+}
 
 // Type = "int" | "char" | "string" | "atom" | "list"
 #[tactic(auto, unfolding(crate::specs::Rules::variable_type))]
@@ -71,24 +89,6 @@ fn read_variables(tokens: &mut Tokens<'_, '_>) -> Result<Items<VariableGroup>, R
     if tokens.begins(Want::Variable) {
         let groups = separated_by(tokens, Want::Kind(Kind::Semicolon), (), read_group)?;
         return Ok(Items::from_vec(groups));
-    }
-    Ok(Items::new(tokens.alloc()))
-}
-
-fn read_item(tokens: &mut Tokens<'_, '_>, _nothing: ()) -> Result<Name, ReadError>
-    ensures { Reads (reader_of (name_of wants.Item) tokens.old) result tokens.new }
-{
-    read_name(tokens, Want::Item)
-}
-
-// [Item {"," Item}]
-#[tactic(auto, unfolding(crate::specs::Rules::interface))]
-fn read_interface(tokens: &mut Tokens<'_, '_>) -> Result<Items<Name>, ReadError>
-    ensures { Reads (reader_of spec.interface tokens.old) result tokens.new }
-{
-    if tokens.begins(Want::Item) {
-        let names = separated_by(tokens, COMMA, (), read_item)?;
-        return Ok(Items::from_vec(names));
     }
     Ok(Items::new(tokens.alloc()))
 }
@@ -160,7 +160,7 @@ impl Sides {
 }
 
 // "interface" "=" "{" [Item {"," Item}] "}" ["where" Cond], behind the sides
-#[tactic(auto, unfolding(crate::specs::inside::RuleParts::rule_end))]
+#[tactic(auto, unfolding(crate::specs::inside::RuleParts::rule_end, crate::specs::Rules::interface))]
 fn read_end(
     tokens: &mut Tokens<'_, '_>,
     room: u64,
@@ -171,7 +171,7 @@ fn read_end(
     tokens.expect(Want::Keyword(Keyword::Interface))?;
     tokens.expect(Want::Kind(Kind::Equal))?;
     tokens.expect(Want::Kind(Kind::OpenBrace))?;
-    let interface = read_interface(tokens)?;
+    let interface = read_names(tokens, Want::Item)?;
     tokens.expect(Want::Kind(Kind::CloseBrace))?;
     let condition = read_where(tokens, room)?;
     Ok(sides.into_rule(interface, condition))
