@@ -14,7 +14,7 @@ use Rattle.gp_reader.specs.Program.{IsProgramText, IsFaultyText}
 use Rattle.gp_reader.specs.Laws.{TextsHaveNoFault}
 use Rattle.gp_words.specs.CommandLine.{RunCommand, DemoCommand, run, demo, command_of}
 use Rattle.gp_cli.specs.Texts.{Said, Shows, graph_shown, fail_shown, demo_shown, usage_shown, long_program_shown, bad_program_shown, long_host_shown, bad_host_shown, bound_shown, number_shown, unread_shown}
-use Rattle.gp_cli.specs.Answer.{HasProgram, HasHost, HasLongFile, HasBytes, HasFaultyProgram, has_long_program, has_bad_program, HasFaultyHost, has_long_host, has_bad_host, CannotRead, risen, lacking, StopsAtProgram, program_is_long, program_is_bad, program_is_unread, StopsAtHost, host_is_long, host_is_bad, host_is_unread, Comes, gives, fails, is_spent, is_faulty, RunAnswers, at_program, at_host, at_run, of_demo_run, demo_program, demo_host, DemoAnswers, demo_program_is_bad, demo_host_is_bad, demo_runs, IsTrue, of_words, of_run, of_demo, Replies, Answered, replied, no_memory, out_fault, err_fault, IsOneOf, Stays, RunCompletes, DemoCompletes, RefusesWords, RefusesProgram, RefusesHost, RefusesDemoProgram, RefusesDemoHost, TellsFaults, Completes}
+use Rattle.gp_cli.specs.Answer.{HasProgram, HasHost, HasLongFile, HasBytes, HasFaultyProgram, has_long_program, has_bad_program, HasFaultyHost, has_long_host, has_bad_host, CannotRead, risen, lacking, StopsAtProgram, program_is_long, program_is_bad, program_is_unread, StopsAtHost, host_is_long, host_is_bad, host_is_unread, Comes, gives, fails, is_spent, is_faulty, RunAnswers, at_program, at_host, at_run, of_demo_run, demo_program, demo_host, DemoAnswers, demo_program_is_bad, demo_host_is_bad, demo_runs, IsTrue, of_words, of_run, of_demo, Replies, Answered, replied, no_memory, out_fault, err_fault, IsOneOf, Stays, NoSinkFails, NothingFails, Refuses, RunCompletes, DemoCompletes, RefusesWords, RefusesProgram, RefusesHost, RefusesDemoProgram, RefusesDemoHost, TellsFaults, Completes}
 use Rattle.gp_cli.specs.Written.{TakesAll}
 
 same_bytes : (held : Content) (name : Name) (a b : List ℕ) → map.get held name ≡ Some a → map.get held name ≡ Some b → a ≡ b
@@ -45,6 +45,15 @@ sound_program held name p names faultless h (has_bad_program {bytes} {f} b x) = 
 sound_host : (held : Content) (name : Name) (g : Graph) → HasHost (Some held) name g → HasFaultyHost (Some held) name → ⊥
 sound_host held name g h (has_long_host f) = too_long held name h.bytes h.has f
 sound_host held name g h (has_bad_host {bytes} {f} b x) = no_fault bytes g f (rw (sym (same_bytes held name h.bytes bytes h.has.file b.file)) h.text) x
+
+-- a faulty file is there
+reads_program : (held : Content) (faults : ℕ) (new : KnownFiles) (name : Name) → Stays faults new.faults → HasFaultyProgram (Some held) name → CannotRead (Holding held faults) new name → ⊥
+reads_program held faults new name n (has_long_program f) u = can_read held faults new name f.bytes n f.file u
+reads_program held faults new name n (has_bad_program {bytes} b x) u = can_read held faults new name bytes n b.file u
+
+reads_host : (held : Content) (faults : ℕ) (new : KnownFiles) (name : Name) → Stays faults new.faults → HasFaultyHost (Some held) name → CannotRead (Holding held faults) new name → ⊥
+reads_host held faults new name n (has_long_host f) u = can_read held faults new name f.bytes n f.file u
+reads_host held faults new name n (has_bad_host {bytes} b x) u = can_read held faults new name bytes n b.file u
 
 module _ {held : Content} {faults : ℕ} {new : KnownFiles} {name : Name} where
   loads_program : {p : Program} {names : List Name} {said : Said} → TextsHaveNoFault → HasProgram (Some held) name p names → Stays faults new.faults →
@@ -130,6 +139,23 @@ module _ {asked : Bool} where
   refused_host faultless h f (at_host _ x) shown = stops_at_host x shown
   refused_host {held} {k = k} faultless h f (at_run {g = g} _ hh x) shown = absurd (sound_host held k.host g hh f)
 
+  -- where the files do not fail, with its own status
+  surely_program : {held : Content} {faults : ℕ} {new : KnownFiles} {k : RunCommand} {said : Said} {s : ℕ} {journal result text : List ℕ} → TextsHaveNoFault → Stays faults new.faults →
+      HasFaultyProgram (Some held) k.program → RunAnswers (Holding held faults) new k said → Shows asked said s journal result text → s ≡ 3
+  surely_program faultless n f (at_program (program_is_long _)) long_program_shown = refl
+  surely_program faultless n f (at_program (program_is_bad _ _)) bad_program_shown = refl
+  surely_program {held} {faults} {new} {k} faultless n f (at_program (program_is_unread u)) shown = absurd (reads_program held faults new k.program n f u)
+  surely_program {held} {k = k} faultless n f (at_host h x) shown = absurd (sound_program held k.program _ _ faultless h f)
+  surely_program {held} {k = k} faultless n f (at_run h _ x) shown = absurd (sound_program held k.program _ _ faultless h f)
+
+  surely_host : {held : Content} {faults : ℕ} {new : KnownFiles} {k : RunCommand} {p : Program} {names : List Name} {said : Said} {s : ℕ} {journal result text : List ℕ} → TextsHaveNoFault → Stays faults new.faults →
+      HasProgram (Some held) k.program p names → HasFaultyHost (Some held) k.host → RunAnswers (Holding held faults) new k said → Shows asked said s journal result text → s ≡ 4
+  surely_host faultless n h f (at_program x) shown = absurd (loads_program faultless h n x)
+  surely_host faultless n h f (at_host _ (host_is_long _)) long_host_shown = refl
+  surely_host faultless n h f (at_host _ (host_is_bad _ _)) (bad_host_shown _) = refl
+  surely_host {held} {faults} {new} {k} faultless n h f (at_host _ (host_is_unread u)) shown = absurd (reads_host held faults new k.host n f u)
+  surely_host {held} {k = k} faultless n h f (at_run {g = g} _ hh x) shown = absurd (sound_host held k.host g hh f)
+
   refused_demo_program : {k : DemoCommand} {f : ProgramFault} {said : Said} {s : ℕ} {journal result text : List ℕ} → TextsHaveNoFault → IsFaultyText (demo_program k) f → DemoAnswers k said → Shows asked said s journal result text → s ≡ 3
   refused_demo_program faultless f (demo_program_is_bad _) bad_program_shown = refl
   refused_demo_program {k} faultless f (demo_host_is_bad {p = p} t _) shown = absurd (faultless (demo_program k) p _ t.text f)
@@ -163,12 +189,13 @@ stayed : {before now : KnownSink} {pieces : List (List ℕ)} → TakesAll before
 stayed t h = let e = t.faultless in omega arith
 
 module _ {words : List Name} {old new : KnownFiles} {out_old out_new err_old err_new : KnownSink} where
-  by_answer : {s : ℕ} → (Good : ℕ → Type 0) → Good 7 → Good 9 → ((t : ℕ) (journal result text : List ℕ) → Replies words old new t journal result text → Good t) →
-      Answered words old new out_old out_new err_old err_new s → Good s
-  by_answer {s} Good seven nine good (replied r _ _) = good s _ _ _ r
-  by_answer Good seven nine good (no_memory _ _) = seven
-  by_answer Good seven nine good (out_fault _ _ _) = nine
-  by_answer Good seven nine good (err_fault _ _ _) = nine
+  refuses : {s : ℕ} (code : ℕ) (of_devices : List ℕ) (NoneFails : Type 0) → IsOneOf (code ∷ 7 ∷ of_devices) 9 → (NoneFails → NoSinkFails out_old out_new err_old err_new) →
+      ((t : ℕ) (journal result text : List ℕ) → Replies words old new t journal result text → IsOneOf (code ∷ 7 ∷ of_devices) t × (NoneFails → t ≡ code)) →
+      Answered words old new out_old out_new err_old err_new s → Refuses code of_devices NoneFails s
+  refuses {s} code of_devices NoneFails nine sinks good (replied r _ _) = let g = good s _ _ _ r in (g.0, λ n. inl (g.1 n))
+  refuses code of_devices NoneFails nine sinks good (no_memory _ _) = (inr (inl refl), λ n. inr (inl refl))
+  refuses code of_devices NoneFails nine sinks good (out_fault _ c _) = (nine, λ n. absurd ((sinks n).out c.rose))
+  refuses code of_devices NoneFails nine sinks good (err_fault _ _ c) = (nine, λ n. absurd ((sinks n).err c.rose))
 
   answers_well : {s : ℕ} → (Good : ℕ → Type 0) → Good 7 → ((t : ℕ) (journal result text : List ℕ) → Replies words old new t journal result text → Good t) →
       Stays out_old.faults out_new.faults → Stays err_old.faults err_new.faults → Answered words old new out_old out_new err_old err_new s → Good s
@@ -190,31 +217,39 @@ module _ {words : List Name} {old new : KnownFiles} {out_old out_new err_old err
   demos_complete a k w not_out not_err =
       answers_well OfDemo (inr (inr (inr (inr (inr (inr (inl refl))))))) (λ t journal result text r. demo_well (demo_of_words k w r.is_true) r.shows) not_out not_err a
 
-  words_refuse : {s : ℕ} → Answered words old new out_old out_new err_old err_new s → RefusesWords words s
-  words_refuse a w = by_answer (IsOneOf (2 ∷ 7 ∷ 9 ∷ [])) (inr (inl refl)) (inr (inr (inl refl))) (λ t journal result text r. inl (refused_words w r.is_true r.shows)) a
+  words_refuse : {s : ℕ} → Answered words old new out_old out_new err_old err_new s → RefusesWords words out_old out_new err_old err_new s
+  words_refuse a w =
+      refuses 2 (9 ∷ []) (NoSinkFails out_old out_new err_old err_new) (inr (inr (inl refl))) (λ n. n)
+      (λ t journal result text r. let two = refused_words w r.is_true r.shows in (inl two, λ n. two)) a
 
-  programs_refuse : {s : ℕ} → TextsHaveNoFault → Answered words old new out_old out_new err_old err_new s → RefusesProgram words old s
+  programs_refuse : {s : ℕ} → TextsHaveNoFault → Answered words old new out_old out_new err_old err_new s → RefusesProgram words old new out_old out_new err_old err_new s
   programs_refuse faultless a held k content_is w f =
-      let F : Option Content → Type 0 = λ t. HasFaultyProgram t k.program in
+      let faulty = subst (λ (t : Option Content). HasFaultyProgram t k.program) content_is f in
       let T : Said → Option Content → Type 0 = λ said t. IsTrue words (record { content = t; faults = old.faults }) new said in
-      by_answer AtProgram (inr (inl refl)) (inr (inr (inr (inl refl))))
-      (λ t journal result text r. refused_program faultless (subst F content_is f) (run_of_words k w (subst (T r.said) content_is r.is_true)) r.shows) a
+      refuses 3 (8 ∷ 9 ∷ []) (NothingFails old new out_old out_new err_old err_new) (inr (inr (inr (inl refl)))) (λ n. n.sinks)
+      (λ t journal result text r.
+      let x = run_of_words k w (subst (T r.said) content_is r.is_true) in
+      (refused_program faultless faulty x r.shows, λ n. surely_program faultless n.files faulty x r.shows)) a
 
-  hosts_refuse : {s : ℕ} → TextsHaveNoFault → Answered words old new out_old out_new err_old err_new s → RefusesHost words old s
+  hosts_refuse : {s : ℕ} → TextsHaveNoFault → Answered words old new out_old out_new err_old err_new s → RefusesHost words old new out_old out_new err_old err_new s
   hosts_refuse faultless a held k p names content_is w hp f =
-      let P : Option Content → Type 0 = λ t. HasProgram t k.program p names in
-      let F : Option Content → Type 0 = λ t. HasFaultyHost t k.host in
+      let has = subst (λ (t : Option Content). HasProgram t k.program p names) content_is hp in
+      let faulty = subst (λ (t : Option Content). HasFaultyHost t k.host) content_is f in
       let T : Said → Option Content → Type 0 = λ said t. IsTrue words (record { content = t; faults = old.faults }) new said in
-      by_answer AtHost (inr (inl refl)) (inr (inr (inr (inl refl))))
-      (λ t journal result text r. refused_host faultless (subst P content_is hp) (subst F content_is f) (run_of_words k w (subst (T r.said) content_is r.is_true)) r.shows) a
+      refuses 4 (8 ∷ 9 ∷ []) (NothingFails old new out_old out_new err_old err_new) (inr (inr (inr (inl refl)))) (λ n. n.sinks)
+      (λ t journal result text r.
+      let x = run_of_words k w (subst (T r.said) content_is r.is_true) in
+      (refused_host faultless has faulty x r.shows, λ n. surely_host faultless n.files has faulty x r.shows)) a
 
-  demo_programs_refuse : {s : ℕ} → TextsHaveNoFault → Answered words old new out_old out_new err_old err_new s → RefusesDemoProgram words s
+  demo_programs_refuse : {s : ℕ} → TextsHaveNoFault → Answered words old new out_old out_new err_old err_new s → RefusesDemoProgram words out_old out_new err_old err_new s
   demo_programs_refuse faultless a k f w x =
-      by_answer (IsOneOf (3 ∷ 7 ∷ 9 ∷ [])) (inr (inl refl)) (inr (inr (inl refl))) (λ t journal result text r. inl (refused_demo_program faultless x (demo_of_words k w r.is_true) r.shows)) a
+      refuses 3 (9 ∷ []) (NoSinkFails out_old out_new err_old err_new) (inr (inr (inl refl))) (λ n. n)
+      (λ t journal result text r. let three = refused_demo_program faultless x (demo_of_words k w r.is_true) r.shows in (inl three, λ n. three)) a
 
-  demo_hosts_refuse : {s : ℕ} → TextsHaveNoFault → Answered words old new out_old out_new err_old err_new s → RefusesDemoHost words s
+  demo_hosts_refuse : {s : ℕ} → TextsHaveNoFault → Answered words old new out_old out_new err_old err_new s → RefusesDemoHost words out_old out_new err_old err_new s
   demo_hosts_refuse faultless a k p f w t x =
-      by_answer (IsOneOf (4 ∷ 7 ∷ 9 ∷ [])) (inr (inl refl)) (inr (inr (inl refl))) (λ u journal result text r. inl (refused_demo_host faultless t x (demo_of_words k w r.is_true) r.shows)) a
+      refuses 4 (9 ∷ []) (NoSinkFails out_old out_new err_old err_new) (inr (inr (inl refl))) (λ n. n)
+      (λ u journal result text r. let four = refused_demo_host faultless t x (demo_of_words k w r.is_true) r.shows in (inl four, λ n. four)) a
 
   out_tells : {s : ℕ} → Answered words old new out_old out_new err_old err_new s → TellsFaults out_old out_new s
   out_tells (replied _ o _) h = absurd (stayed o h)

@@ -216,31 +216,46 @@ DemoCompletes words out_old out_new err_old err_new status =
     (k : DemoCommand) → command_of words ≡ Some (demo k) →
     Stays out_old.faults out_new.faults → Stays err_old.faults err_new.faults → IsOneOf (0 ∷ 1 ∷ 3 ∷ 4 ∷ 5 ∷ 6 ∷ 7 ∷ []) status
 
--- Words that are no command are refused, unless memory is, or a write fails.
-abbrev pub RefusesWords : List Name → ℕ → Type 0
-RefusesWords words status = command_of words ≡ None → IsOneOf (2 ∷ 7 ∷ 9 ∷ []) status
+-- no count of faults rose
+pub record NoSinkFails (out_old out_new err_old err_new : KnownSink) : Type 0 where
+  pub out : Stays out_old.faults out_new.faults
+  pub err : Stays err_old.faults err_new.faults
 
--- Where the files' content is known, a faulty program of `run` is refused, unless memory is, or a file is not read, or a write
--- fails.
-abbrev pub RefusesProgram : List Name → KnownFiles → ℕ → Type 0
-RefusesProgram words old status =
+pub record NothingFails (old new : KnownFiles) (out_old out_new err_old err_new : KnownSink) : Type 0 where
+  pub files : Stays old.faults new.faults
+  pub sinks : NoSinkFails out_old out_new err_old err_new
+
+-- this status, unless memory is refused; or, where a device fails, one of these
+abbrev pub Refuses : ℕ → List ℕ → Type 0 → ℕ → Type 0
+Refuses code of_devices NoneFails status = IsOneOf (code ∷ 7 ∷ of_devices) status × (NoneFails → IsOneOf (code ∷ 7 ∷ []) status)
+
+-- Words that are no command are refused.
+abbrev pub RefusesWords : List Name → KnownSink → KnownSink → KnownSink → KnownSink → ℕ → Type 0
+RefusesWords words out_old out_new err_old err_new status = command_of words ≡ None → Refuses 2 (9 ∷ []) (NoSinkFails out_old out_new err_old err_new) status
+
+-- Where the files' content is known, a faulty program of `run` is refused.
+abbrev pub RefusesProgram : List Name → KnownFiles → KnownFiles → KnownSink → KnownSink → KnownSink → KnownSink → ℕ → Type 0
+RefusesProgram words old new out_old out_new err_old err_new status =
     (held : Content) (k : RunCommand) → old.content ≡ Some held → command_of words ≡ Some (run k) → HasFaultyProgram old.content k.program →
-    IsOneOf (3 ∷ 7 ∷ 8 ∷ 9 ∷ []) status
+    Refuses 3 (8 ∷ 9 ∷ []) (NothingFails old new out_old out_new err_old err_new) status
 
 -- A faulty host of `run` likewise, where its program is one.
-abbrev pub RefusesHost : List Name → KnownFiles → ℕ → Type 0
-RefusesHost words old status =
+abbrev pub RefusesHost : List Name → KnownFiles → KnownFiles → KnownSink → KnownSink → KnownSink → KnownSink → ℕ → Type 0
+RefusesHost words old new out_old out_new err_old err_new status =
     (held : Content) (k : RunCommand) (p : Program) (rule_names : List Name) → old.content ≡ Some held → command_of words ≡ Some (run k) →
-    HasProgram old.content k.program p rule_names → HasFaultyHost old.content k.host → IsOneOf (4 ∷ 7 ∷ 8 ∷ 9 ∷ []) status
+    HasProgram old.content k.program p rule_names → HasFaultyHost old.content k.host →
+    Refuses 4 (8 ∷ 9 ∷ []) (NothingFails old new out_old out_new err_old err_new) status
 
--- A faulty text of `demo` is refused, unless memory is, or a write fails.
-abbrev pub RefusesDemoProgram : List Name → ℕ → Type 0
-RefusesDemoProgram words status = (k : DemoCommand) (f : ProgramFault) → command_of words ≡ Some (demo k) → IsFaultyText (demo_program k) f → IsOneOf (3 ∷ 7 ∷ 9 ∷ []) status
+-- A faulty text of `demo` is refused.
+abbrev pub RefusesDemoProgram : List Name → KnownSink → KnownSink → KnownSink → KnownSink → ℕ → Type 0
+RefusesDemoProgram words out_old out_new err_old err_new status =
+    (k : DemoCommand) (f : ProgramFault) → command_of words ≡ Some (demo k) → IsFaultyText (demo_program k) f →
+    Refuses 3 (9 ∷ []) (NoSinkFails out_old out_new err_old err_new) status
 
-abbrev pub RefusesDemoHost : List Name → ℕ → Type 0
-RefusesDemoHost words status =
+abbrev pub RefusesDemoHost : List Name → KnownSink → KnownSink → KnownSink → KnownSink → ℕ → Type 0
+RefusesDemoHost words out_old out_new err_old err_new status =
     (k : DemoCommand) (p : Program) (f : HostFault) → command_of words ≡ Some (demo k) → IsProgramText (demo_program k) p → IsHostFault (demo_host k) f →
-    IsOneOf (4 ∷ 7 ∷ 9 ∷ []) status
+    Refuses 4 (9 ∷ []) (NoSinkFails out_old out_new err_old err_new) status
 
 -- A sink whose count of faults rose is told of.
 abbrev pub TellsFaults : KnownSink → KnownSink → ℕ → Type 0
@@ -249,10 +264,10 @@ TellsFaults old new status = old.faults < new.faults → status ≡ 9
 pub record Completes (words : List Name) (old new : KnownFiles) (out_old out_new err_old err_new : KnownSink) (status : ℕ) : Type 0 where
   pub runs : RunCompletes words old new out_old out_new err_old err_new status
   pub demos : DemoCompletes words out_old out_new err_old err_new status
-  pub words_refused : RefusesWords words status
-  pub program_refused : RefusesProgram words old status
-  pub host_refused : RefusesHost words old status
-  pub demo_program_refused : RefusesDemoProgram words status
-  pub demo_host_refused : RefusesDemoHost words status
+  pub words_refused : RefusesWords words out_old out_new err_old err_new status
+  pub program_refused : RefusesProgram words old new out_old out_new err_old err_new status
+  pub host_refused : RefusesHost words old new out_old out_new err_old err_new status
+  pub demo_program_refused : RefusesDemoProgram words out_old out_new err_old err_new status
+  pub demo_host_refused : RefusesDemoHost words out_old out_new err_old err_new status
   pub out_faults : TellsFaults out_old out_new status
   pub err_faults : TellsFaults err_old err_new status
