@@ -1,8 +1,9 @@
 -- Where the trails of a crew are.
-use Rattle.std.proofs.Common.{◌≡◌, inl, inr, ℕ, zero, suc, ◌+◌, ◌-◌, ◌^◌, ◌<◌, ◌≤◌, List, [], ◌∷◌, ◌++◌, map, length, take, drop, All, Option, Some, refl, sym, ap, subst, ◌∙◌, arith}
-use Rattle.std.proofs.Math.Seq.{get_or-append_seam}
-use Rattle.std.proofs.lemmas.List.{length-append, length-drop, get_or_append_left}
-use Rattle.std.proofs.lemmas.List.Elements.{All-push, All-weaker}
+use Rattle.std.proofs.Common.{◌≡◌, inl, inr, ℕ, zero, suc, ◌+◌, ◌-◌, ◌^◌, ◌<◌, ◌≤◌, List, [], ◌∷◌, ◌++◌, map, length, set, get_or, take, drop, All, Option, Some, refl, sym, ap, subst, ◌∙◌, arith}
+use Rattle.std.proofs.lemmas.Bool.{cases_eq}
+use Rattle.std.proofs.lemmas.Grind.{get_or-set_at}
+use Rattle.std.proofs.lemmas.List.{length-drop, length-set, get_or-set_other}
+use Rattle.std.proofs.lemmas.List.Elements.{All-weaker}
 use Rattle.gp_values.specs.Graph.{Graph}
 use Rattle.gp_syntax.specs.declared.found.Item.{Item}
 use Rattle.gp_syntax.specs.declared.command.ProgramParts.{ProgramParts}
@@ -14,7 +15,7 @@ use Rattle.gp_syntax.specs.Run.{Stepped, Turned, Back}
 use Rattle.gp_syntax.specs.Tree.{rule_of_tree, item_of}
 use Rattle.gp_syntax.specs.WellFormed.{IsWellFormed}
 use Rattle.gp_unify.proofs.Candidates.{one_step}
-use Rattle.opt_system.specs.Meaning.{Meaning, applies}
+use Rattle.opt_system.specs.Meaning.{Meaning}
 use Rattle.gp_step.specs.Laws.{IsNumbered}
 use Rattle.opt_system.specs.declared.answers.Mode.{Mode}
 use Rattle.opt_system.specs.declared.answers.Mode.TheVariants.{Once, Saturate}
@@ -124,23 +125,23 @@ module _ {State Found Goal Reason : Type 0} (m : Meaning State Found Goal Reason
 
 -- ---- each of them
 
--- before the last one was taken off
-pub all_popped : {X : Type 0} (P : X → Type 0) (xs ys : List X) (x : X) → xs ≡ ys ++ x ∷ [] → All P xs → All P ys
-all_popped P xs ys x e h k d l =
-    let long = length-append ys (x ∷ []) in
-    let low : k < length (ys ++ x ∷ []) = omega arith in
-    let a : All P (ys ++ x ∷ []) = subst (All P) e h in
-    subst P (get_or_append_left ys (x ∷ []) d k l) (a k d low)
+-- those behind a place that was written, and those up to it
+pub rest_set : {X : Type 0} (P : X → Type 0) (xs : List X) (i : ℕ) (y : X) → ((k : ℕ) (d : X) → i ≤ k → k < length xs → P (get_or xs k d)) → (k : ℕ) (d : X) → i + 1 ≤ k → k < length (set xs i y) → P (get_or (set xs i y) k d)
+rest_set P xs i y h k d b l = subst P (sym (get_or-set_other xs i k y d (λ e. absurd (omega arith)))) (h k d (omega arith) (let n = length-set xs i y in omega arith))
 
-pub last_popped : {X : Type 0} (P : X → Type 0) (xs ys : List X) (x : X) → xs ≡ ys ++ x ∷ [] → All P xs → P x
-last_popped P xs ys x e h =
-    let long = length-append ys (x ∷ []) in
-    let low : length ys < length (ys ++ x ∷ []) = omega arith in
-    let a : All P (ys ++ x ∷ []) = subst (All P) e h in
-    subst P (get_or-append_seam ys x [] x) (a (length ys) x low)
+pub first_set : {X : Type 0} (P : X → Type 0) (xs : List X) (i : ℕ) (y : X) → i < length xs → P y → ((k : ℕ) (d : X) → k < i → P (get_or xs k d)) → (k : ℕ) (d : X) → k < i + 1 → P (get_or (set xs i y) k d)
+first_set P xs i y b p h k d l = elim (cases_eq k i) [
+  | inl e ↦ subst P (sym (get_or-set_at xs i k y d e b)) p
+  | inr n ↦ subst P (sym (get_or-set_other xs i k y d n)) (h k d (omega arith))
+]
 
-pub all_pushed : {X : Type 0} (P : X → Type 0) (xs ys : List X) (x : X) → ys ≡ xs ++ x ∷ [] → All P xs → P x → All P ys
-all_pushed P xs ys x e h p = subst (All P) (sym e) (All-push P xs x h p)
+take_front : {X : Type 0} (xs zs : List X) → take (length xs) (xs ++ zs) ≡ xs
+take_front [] zs = refl
+take_front (x ∷ xs) zs = ap (λ (l : List _). x ∷ l) (take_front xs zs)
+
+-- a list that was written whole
+pub all_written : {X : Type 0} (P : X → Type 0) (n : ℕ) (xs zs : List X) → n ≡ length xs → All P xs → All P (take n (xs ++ zs))
+all_written P n xs zs e h = subst (λ l. All P l) (sym (ap (λ (k : ℕ). take k (xs ++ zs)) e ∙ take_front xs zs)) h
 
 take_long : {X : Type 0} (n : ℕ) (xs : List X) → length xs ≤ n → take n xs ≡ xs
 take_long zero [] l = refl

@@ -1,5 +1,5 @@
 -- What a goal that a crew pursued came to, as what an engine answers.
-use Rattle.std.proofs.Common.{◌≡◌, ◌⊎◌, inl, inr, ℕ, zero, suc, ◌+◌, ◌-◌, ◌*◌, ◌<◌, Bool, true, false, List, [], ◌∷◌, ◌++◌, map, length, take, slice_get, Contains, All, Option, Some, None, refl, sym, ap, subst, ◌∙◌, arith, append_assoc, append-nil}
+use Rattle.std.proofs.Common.{◌≡◌, inl, inr, ℕ, zero, suc, ◌+◌, ◌-◌, ◌*◌, ◌<◌, Bool, true, false, List, [], ◌∷◌, ◌++◌, map, length, take, slice_get, Contains, All, Option, Some, None, refl, sym, ap, subst, ◌∙◌, arith, append_assoc}
 use Rattle.std.specs.Prelude.{if◌then◌else◌}
 use Rattle.gp_values.specs.Graph.{Graph}
 use Rattle.gp_syntax.specs.declared.found.Item.{Item}
@@ -7,7 +7,7 @@ use Rattle.gp_syntax.specs.declared.found.Item.TheVariants as items
 use Rattle.gp_syntax.specs.declared.command.ProgramParts.{ProgramParts}
 use Rattle.gp_syntax.specs.declared.kinds.NumberKind.{NumberKind}
 use Rattle.gp_syntax.specs.Rule.{Rule, Found}
-use Rattle.gp_syntax.specs.Step.{Applies, IsFaulty, HasApplying, Blocked}
+use Rattle.gp_syntax.specs.Step.{IsFaulty, HasApplying, Blocked}
 use Rattle.gp_syntax.specs.Run as meant
 use Rattle.gp_syntax.specs.Run.{Program, Call, Stepped, Turned, Gives, Fails, At, counted, Run, call_fails, call_stands}
 use Rattle.gp_syntax.specs.Tree.{rule_of_tree, program_of_tree, item_of}
@@ -18,16 +18,14 @@ use Rattle.gp_match.specs.Judge.{judged}
 use Rattle.gp_match.specs.Judge as matches
 use Rattle.gp_match.specs.Laws.{IsJudged}
 use Rattle.gp_match.proofs.Judges.{judged_match}
-use Rattle.gp_step.specs.Laws.{IsNumbered}
 use Rattle.opt_system.specs.Meaning.{Judged, applies, faulty, neither}
 use Rattle.opt_system.specs.declared.answers.Mode.TheVariants.{Once, Saturate}
 use Rattle.opt_core.specs.declared.event.Ending.{Ending}
 use Rattle.opt_core.specs.declared.event.Ending.TheVariants as ending
-use Rattle.opt_core.specs.Core.{reached, AllApply, IsLegal, IsUsed}
+use Rattle.opt_core.specs.Core.{reached, AllApply, IsLegal}
 use Rattle.gp_journal.specs.Trail.{Trail, root_of, advanced}
 use Rattle.gp_journal.specs.Journal.{items_of, noted}
 use Rattle.gp_run.specs.Engine.{View, Adds, MakesCall, IsSpent, HasFaulty, HasCalled, HasRepeated, HasTurned, TurnMade}
-use Rattle.gp_run.specs.declared.engine.Called.TheVariants as called
 use Rattle.gp_run.specs.declared.engine.Turned.TheVariants as turned
 use Rattle.gp_run.specs.declared.engine.Repeated.{Repeated}
 use Rattle.gp_run.specs.declared.engine.Repeated.TheVariants as repeated
@@ -38,10 +36,10 @@ use Rattle.gp_system.specs.declared.goal.CallGoal.{CallGoal}
 use Rattle.gp_system.specs.declared.goal.Fault.{Fault}
 use Rattle.gp_system.specs.Gp.{RuleSystem, rules_of, has, with_rule, judged_by, judged_in, gp_means}
 use Rattle.gp_system.specs.inside.Viewed.{Shown, view_of, Grows}
-use Rattle.gp_system.specs.inside.Pursued.{IsPursued, HasUsed, HasPursued, turns_first, system_of, called_of}
+use Rattle.gp_system.specs.inside.Pursued.{HasPursued, turns_first, system_of, called_of}
 use Rattle.gp_system.proofs.Searches.{renumbered_applies, renumbered_faulty}
-use Rattle.gp_system.proofs.Systems.{contains_has, judged_applies, judged_faulty, well_formed_at, by_set, there}
-use Rattle.gp_system.proofs.Pursuits.{turned_over, but_taken, all_taken, once_taken, reached_root, called_once, so_far_on, has_applying}
+use Rattle.gp_system.proofs.Systems.{contains_has, judged_applies, judged_faulty, well_formed_at, there}
+use Rattle.gp_system.proofs.Pursuits.{turned_over, but_taken, all_taken, reached_root, called_once, so_far_on, has_applying}
 
 -- ---- what the ending says of the graph
 

@@ -1,35 +1,29 @@
 -- What a crew made of a goal, as items of a trail and as a run.
-use Rattle.std.proofs.Common.{◌≡◌, ◌≢◌, ◌⊎◌, inl, inr, ℕ, zero, suc, ◌+◌, ◌*◌, ◌%◌, ◌<◌, ◌≤◌, Bool, true, false, List, [], ◌∷◌, ◌++◌, map, length, take, slice_get, Contains, All, Option, Some, None, refl, sym, ap, subst, ◌∙◌, arith, append_assoc, append-nil}
-use Rattle.std.specs.Prelude.{if◌then◌else◌, Result, Ok, Err, OnOk}
+use Rattle.std.proofs.Common.{◌≡◌, inl, inr, ℕ, zero, suc, ◌+◌, ◌*◌, ◌%◌, List, [], ◌∷◌, ◌++◌, length, take, slice_get, Contains, All, Option, Some, None, refl, sym, ap, subst, ◌∙◌, arith, append_assoc, append-nil}
+use Rattle.std.specs.Prelude.{Result, Ok, Err, OnOk}
 use Rattle.gp_values.specs.Graph.{Graph}
 use Rattle.gp_syntax.specs.declared.found.Item.{Item}
 use Rattle.gp_syntax.specs.declared.found.Item.TheVariants as items
-use Rattle.gp_syntax.specs.declared.kinds.NumberKind.{NumberKind}
 use Rattle.gp_syntax.specs.Rule.{Rule, Found}
-use Rattle.gp_syntax.specs.Step.{Applies, IsFaulty, Step, CallsTo, HasApplying, Blocked}
+use Rattle.gp_syntax.specs.Step.{Step, CallsTo, HasApplying}
 use Rattle.gp_syntax.specs.Run as meant
 use Rattle.gp_syntax.specs.Run.{Program, Call, Stepped, Turned, counted}
 use Rattle.gp_syntax.specs.WellFormed.{IsWellFormed}
 use Rattle.gp_syntax.proofs.Loops.{SoFar, one_step}
-use Rattle.gp_match.specs.Judge.{judged}
-use Rattle.gp_match.specs.Judge as matches
 use Rattle.gp_match.proofs.Judges.{judged_match}
 use Rattle.gp_step.specs.Laws.{IsNumbered}
-use Rattle.gp_step.specs.After.{after}
 use Rattle.gp_step.proofs.Afters.{leads_on}
 use Rattle.gp_step.proofs.Wholes.{numbered_after}
-use Rattle.opt_system.specs.Meaning.{Judged, applies, faulty, neither}
+use Rattle.opt_system.specs.Meaning.{applies}
 use Rattle.opt_system.specs.declared.answers.Mode.{Mode}
 use Rattle.opt_system.specs.declared.answers.Mode.TheVariants.{Once, Saturate}
 use Rattle.opt_core.specs.Core.{reached, AllApply}
 use Rattle.gp_journal.specs.Trail.{Trail, root_of, led_by, advanced}
-use Rattle.gp_journal.specs.Leads.{AppliesBy, StepsBy, Goes, Leads}
+use Rattle.gp_journal.specs.Leads.{AppliesBy, Goes, Leads}
 use Rattle.gp_journal.specs.Journal.{items_of, noted}
 use Rattle.gp_system.specs.declared.goal.CallGoal.{CallGoal}
-use Rattle.gp_system.specs.declared.goal.Fault.{Fault}
-use Rattle.gp_system.specs.Gp.{RuleSystem, rules_of, has, with_rule, judged_by, judged_in, gp_means}
+use Rattle.gp_system.specs.Gp.{RuleSystem, rules_of, has, judged_by, judged_in, gp_means}
 use Rattle.gp_system.specs.inside.Pursued.{HasUsed, turns_first, noted_but_last_turn}
-use Rattle.gp_system.proofs.Searches.{renumbered_applies, renumbered_faulty}
 use Rattle.gp_system.proofs.Systems.{contains_has, step_of, by_set, well_formed_at}
 
 -- ---- one entry

@@ -9,9 +9,11 @@ use Rattle.gp_journal.specs.Journal.{Journal, IsJournalOf, items_of}
 use Rattle.gp_run.specs.Engine.{StandsSpent}
 use Rattle.gp_run.specs.Finished as finished
 use Rattle.gp_run.specs.Finished.{HasFinished}
+use Rattle.gp_run.specs.declared.interpreter.Finish.{Finish}
 use Rattle.gp_run.specs.declared.interpreter.Finish.TheVariants as finish
 use Rattle.gp_system.specs.declared.outcome.Outcome.TheVariants as outcome
 use Rattle.gp_system.specs.Ended.{HasApplyingCall, HasFaultyCall, MayGoOn, HasRun, HasEnded}
+use Rattle.gp_system.specs.inside.Finishing.{outcome_of}
 use Rattle.gp_system.specs.inside.Viewed.{Shown, view_of, begun}
 
 may_go_on : (p : ProgramParts) (n : Shown) (x : Ending) → program_of_tree n.program ≡ program_of_tree p → StandsSpent (view_of n) x → MayGoOn (program_of_tree p) n.journal.trail.graph x × (n.left ≡ 0)
@@ -40,7 +42,7 @@ module _ {S : Type 0} (answer : S → Bool) (next : S → S) (p : ProgramParts) 
       let m = may_go_on p n a.0 a.1.makes.adds.program a.2 in
       (a.0, has_run n a.0 a.1 w, m.0, spent_whole n a.0 a.1 m.1)
 
-  pub ends_at_bound : (b n : Shown) (j : Journal) → b ≡ begun p host bound → j ≡ n.journal → IsJournalOf (map rule_of_tree n.program.rules) j → HasFinished answer next finish.Bound (view_of b).program.main (view_of b) (view_of n) s u → HasEnded answer next (program_of_tree p) host bound s u (outcome.Bound j)
+  ends_at_bound : (b n : Shown) (j : Journal) → b ≡ begun p host bound → j ≡ n.journal → IsJournalOf (map rule_of_tree n.program.rules) j → HasFinished answer next finish.Bound (view_of b).program.main (view_of b) (view_of n) s u → HasEnded answer next (program_of_tree p) host bound s u (outcome.Bound j)
   ends_at_bound b n j e f w a =
       rw f (at_bound n (subst (IsJournalOf (map rule_of_tree n.program.rules)) f w) (subst (λ (y : Shown). HasFinished answer next finish.Bound (view_of y).program.main (view_of y) (view_of n) s u) e a))
 
@@ -52,7 +54,15 @@ module _ {S : Type 0} (answer : S → Bool) (next : S → S) (p : ProgramParts) 
         (record { set = a.2.set; is_set = a.2.is_set; in_set = a.2.in_set; the_rule = a.2.the_rule; is_rule = a.2.is_rule; found = a.2.found; faulty = a.2.faulty }),
   )
 
-  pub ends_at_fault : (b n : Shown) (j : Journal) (rule : ℕ) (kind : NumberKind) → b ≡ begun p host bound → j ≡ n.journal → IsJournalOf (map rule_of_tree n.program.rules) j → HasFinished answer next (finish.Fault rule kind) (view_of b).program.main (view_of b) (view_of n) s u
+  ends_at_fault : (b n : Shown) (j : Journal) (rule : ℕ) (kind : NumberKind) → b ≡ begun p host bound → j ≡ n.journal → IsJournalOf (map rule_of_tree n.program.rules) j → HasFinished answer next (finish.Fault rule kind) (view_of b).program.main (view_of b) (view_of n) s u
       → HasEnded answer next (program_of_tree p) host bound s u (outcome.Fault j rule kind)
   ends_at_fault b n j rule kind e f w a =
       rw f (at_fault n rule kind (subst (IsJournalOf (map rule_of_tree n.program.rules)) f w) (subst (λ (y : Shown). HasFinished answer next (finish.Fault rule kind) (view_of y).program.main (view_of y) (view_of n) s u) e a))
+
+  pub ends_so : (x : Finish) (b n : Shown) (j : Journal) → b ≡ begun p host bound → j ≡ n.journal → IsJournalOf (map rule_of_tree n.program.rules) j → HasFinished answer next x (view_of b).program.main (view_of b) (view_of n) s u
+      → HasEnded answer next (program_of_tree p) host bound s u (outcome_of x j)
+  ends_so finish.Graph b n j e f w a = rw f (has_run n _ (subst (λ (y : Shown). HasFinished answer next finish.Graph (view_of y).program.main (view_of y) (view_of n) s u) e a) (subst (IsJournalOf (map rule_of_tree n.program.rules)) f w))
+  ends_so finish.Fail b n j e f w a = rw f (has_run n _ (subst (λ (y : Shown). HasFinished answer next finish.Fail (view_of y).program.main (view_of y) (view_of n) s u) e a) (subst (IsJournalOf (map rule_of_tree n.program.rules)) f w))
+  ends_so finish.Bound b n j e f w a = ends_at_bound b n j e f w a
+  ends_so (finish.Fault rule kind) b n j e f w a = ends_at_fault b n j rule kind e f w a
+  ends_so finish.NoMemory b n j e f w a = a

@@ -4,3 +4,4 @@ pub mod Viewed
 pub mod Planned
 pub mod Laws
 pub mod Pursued
+pub mod Finishing

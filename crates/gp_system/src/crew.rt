@@ -1,7 +1,7 @@
 //! How many workers search for the matches of calls, and which calls they are given.
 
 /// The workers of a run, and its bound. Workers and fan are hints: no result depends on them.
-#[derive(Clone, Copy, PartialEq, Eq)]
+#[derive(Clone, Copy)]
 pub struct Crew {
     /// How many workers there are. With none or one, each call is searched where the run stands, and nothing waits.
     pub workers: u32,

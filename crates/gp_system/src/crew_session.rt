@@ -92,9 +92,10 @@ impl<'a> CrewSession<'a> {
         ensures { IfOk result (λ s. s ≡ begun program.now host.graph crew.bound) }
     {
         let _sound = host.next_numbers();
+        let system = Gp::new(alloc, program, shares_for(crew.workers))?;
         Ok(CrewSession {
             session: Session::new(alloc, program, host, crew.bound)?,
-            system: Gp::new(alloc, program, shares_for(crew.workers))?,
+            system,
             crew,
             pace,
             replicas: Vec::new(alloc),
@@ -154,9 +155,7 @@ impl<'a> CrewSession<'a> {
             Ok(Ending::Blocked) => self.session.end(),
             Ok(Ending::Bound) => Repeated::Bound,
             Ok(Ending::Fault(fault)) => Repeated::Fault(fault.rule, fault.kind),
-            Ok(Ending::Committed) => Repeated::NoMemory,
-            Ok(Ending::Stopped) => Repeated::NoMemory,
-            Err(NoMemory) => Repeated::NoMemory,
+            Ok(Ending::Committed | Ending::Stopped) | Err(NoMemory) => Repeated::NoMemory,
         }
     }
 

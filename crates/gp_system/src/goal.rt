@@ -4,14 +4,14 @@ use gp_journal::Mode;
 use gp_syntax::NumberKind;
 
 /// The call of a rule set, by its number, and how often its matches are taken.
-#[derive(Clone, Copy, PartialEq, Eq)]
+#[derive(Clone, Copy)]
 pub struct CallGoal {
     pub call: u32,
     pub mode: Mode,
 }
 
 /// The rule of a faulty match, and the kind of its fault.
-#[derive(Clone, Copy, PartialEq, Eq)]
+#[derive(Clone, Copy)]
 pub struct Fault {
     pub rule: u32,
     pub kind: NumberKind,

@@ -58,21 +58,18 @@ fn bring_all(
     rules: &[Rule],
     missing: &[Item],
     trail: &Trail,
-    replicas: Vec<Trail>,
-) -> Result<Vec<Trail>, NoMemory>
+    replicas: &mut [Trail],
+) -> Result<(), NoMemory>
     requires well_formed { All IsWellFormed (map rule_of_tree rules.now) }
-    requires way { All (λ t. Leads (map rule_of_tree rules.now) (items_of missing.now) t trail.now) replicas.items }
+    requires way { All (λ t. Leads (map rule_of_tree rules.now) (items_of missing.now) t trail.now) replicas.old }
     requires settled { trail.now.caught ≡ 0 }
-    ensures all { IfOk result (λ v. All (λ t. t ≡ trail.now) v.items) }
-    ensures len { IfOk result (λ v. vec_len v ≡ vec_len replicas) }
+    ensures all { OnOk result (All (λ t. t ≡ trail.now) replicas.new) }
+    ensures len { length replicas.new ≡ length replicas.old }
 {
-    let mut left = replicas;
-    let mut brought = Vec::with_capacity(*left.allocator(), left.len())?;
-    while let Some(mut replica) = left.pop() {
-        bring(rules, missing, &mut replica)?;
-        brought.push(replica)?;
+    for replica in replicas.iter_mut() {
+        bring(rules, missing, replica)?;
     }
-    Ok(brought)
+    Ok(())
 }
 
 /// Trails of the workers that are where the run is: made, or brought there by the items that they have not had.
@@ -95,7 +92,9 @@ pub(crate) fn brought(
     if replicas.is_empty() {
         return copies(*replicas.allocator(), trail, workers);
     }
-    bring_all(rules, missing, trail, replicas)
+    let mut brought = replicas;
+    bring_all(rules, missing, trail, &mut brought)?;
+    Ok(brought)
 }
 
 // Makes the steps on each replica that it has not made yet, so that it is where the trail is.
@@ -103,20 +102,17 @@ fn level(
     system: &Gp<'_>,
     entries: &[Found],
     trail: &Trail,
-    replicas: Vec<Trail>,
-) -> Result<Vec<Trail>, NoMemory>
-    requires { All (IsBehind system.now entries.now trail.now) replicas.items }
-    ensures all { IfOk result (λ v. All (λ t. t ≡ trail.now) v.items) }
-    ensures len { IfOk result (λ v. vec_len v ≡ vec_len replicas) }
+    replicas: &mut [Trail],
+) -> Result<(), NoMemory>
+    requires { All (IsBehind system.now entries.now trail.now) replicas.old }
+    ensures all { OnOk result (All (λ t. t ≡ trail.now) replicas.new) }
+    ensures len { length replicas.new ≡ length replicas.old }
 {
-    let mut left = replicas;
-    let mut level = Vec::with_capacity(*left.allocator(), left.len())?;
-    while let Some(mut replica) = left.pop() {
+    for replica in replicas.iter_mut() {
         let lacking = (trail.depth() - replica.depth()) as usize;
-        follow(system, &mut replica, &entries[entries.len() - lacking..])?;
-        level.push(replica)?;
+        follow(system, replica, &entries[entries.len() - lacking..])?;
     }
-    Ok(level)
+    Ok(())
 }
 
 /// Pursues a goal from the trail, with a worker for each replica. So many counted items are left for it.
@@ -139,9 +135,9 @@ pub(crate) fn pursue_goal<P: Pace + Sync, R: Threads + Wait + Sync>(
     let Ok(core) = Core::start(*replicas.allocator(), system, trail, goal, left) else {
         return Err(NoMemory);
     };
-    let (core, replicas) = pursue(rt, system, core, replicas, pace);
+    let (core, mut replicas) = pursue(rt, system, core, replicas, pace);
     let (trail, entries, left, ending) = core.into_parts();
-    let replicas = level(system, &entries, &trail, replicas)?;
+    level(system, &entries, &trail, &mut replicas)?;
     match ending {
         None => Err(NoMemory),
         Some(ending) => Ok(Pursued {

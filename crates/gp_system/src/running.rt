@@ -1,19 +1,35 @@
 //! A run of a program on a host graph.
 
+ghost use Rattle.std.specs.Prelude.{◌≡◌};
 ghost use Rattle.gp_syntax.specs.Tree.{program_of_tree};
 ghost use Rattle.gp_system.specs.Ended.{HasEnded};
+ghost use Rattle.gp_system.specs.inside.Finishing.{outcome_of};
 
 use crate::crew::Crew;
 use crate::crew_session::CrewSession;
 use crate::outcome::Outcome;
 use crate::session::Session;
 use gp_graph::Graph;
+use gp_journal::Journal;
 use gp_run::{Chooser, Finish, run};
 use gp_syntax::Program;
 use opt_worker::Pacing;
 use std::alloc::Global;
 use std::sync::Wait;
 use std::thread::Threads;
+
+// How a run ended, with the journal of what was made.
+fn outcome(finish: Finish, journal: Journal) -> Outcome
+    ensures { result ≡ outcome_of finish journal }
+{
+    match finish {
+        Finish::Graph => Outcome::Graph(journal),
+        Finish::Fail => Outcome::Fail(journal),
+        Finish::Bound => Outcome::Bound(journal),
+        Finish::Fault(rule, kind) => Outcome::Fault(journal, rule, kind),
+        Finish::NoMemory => Outcome::NoMemory,
+    }
+}
 
 // A run by one worker, which waits for nobody.
 fn execute_alone<C: Chooser>(
@@ -29,13 +45,8 @@ fn execute_alone<C: Chooser>(
         Ok(session) => session,
         Err(_) => return Outcome::NoMemory,
     };
-    match run(&(), program, &mut session, chooser) {
-        Finish::Graph => Outcome::Graph(session.into_journal()),
-        Finish::Fail => Outcome::Fail(session.into_journal()),
-        Finish::Bound => Outcome::Bound(session.into_journal()),
-        Finish::Fault(rule, kind) => Outcome::Fault(session.into_journal(), rule, kind),
-        Finish::NoMemory => Outcome::NoMemory,
-    }
+    let finish = run(&(), program, &mut session, chooser);
+    outcome(finish, session.into_journal())
 }
 
 /// Runs the program on the host graph, with at most so many steps and turns as the crew's bound. The answers of `or` are
@@ -58,11 +69,6 @@ pub fn execute<C: Chooser, R: Threads + Wait + Sync>(
         Ok(crewed) => crewed,
         Err(_) => return Outcome::NoMemory,
     };
-    match run(rt, program, &mut crewed, chooser) {
-        Finish::Graph => Outcome::Graph(crewed.into_journal()),
-        Finish::Fail => Outcome::Fail(crewed.into_journal()),
-        Finish::Bound => Outcome::Bound(crewed.into_journal()),
-        Finish::Fault(rule, kind) => Outcome::Fault(crewed.into_journal(), rule, kind),
-        Finish::NoMemory => Outcome::NoMemory,
-    }
+    let finish = run(rt, program, &mut crewed, chooser);
+    outcome(finish, crewed.into_journal())
 }

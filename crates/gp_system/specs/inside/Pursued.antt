@@ -1,16 +1,15 @@
 -- What a goal that a crew pursued came to, and what a run with a crew keeps.
 use Rattle.std.specs.Prelude.{◌≡◌, ◌⊎◌, ℕ, ◌+◌, ◌-◌, ◌*◌, ◌^◌, ◌<◌, ◌≤◌, Bool, List, [], ◌∷◌, ◌++◌, All, map, length, take, drop, Some}
-use Rattle.gp_values.specs.Graph.{Graph}
 use Rattle.gp_syntax.specs.declared.found.Item.{Item}
 use Rattle.gp_syntax.specs.declared.found.Item.TheVariants as items
 use Rattle.gp_syntax.specs.declared.command.ProgramParts.{ProgramParts}
-use Rattle.gp_syntax.specs.Rule.{Rule, Found}
+use Rattle.gp_syntax.specs.Rule.{Found}
 use Rattle.gp_syntax.specs.Tree.{rule_of_tree}
 use Rattle.gp_syntax.specs.WellFormed.{IsWellFormed}
 use Rattle.gp_step.specs.Laws.{IsNumbered}
 use Rattle.gp_journal.specs.Trail.{Trail, root_of, fresh}
 use Rattle.gp_journal.specs.Leads.{Leads}
-use Rattle.gp_journal.specs.Journal.{items_of, noted, IsJournalOf}
+use Rattle.gp_journal.specs.Journal.{items_of, noted}
 use Rattle.gp_run.specs.declared.engine.Called.{Called}
 use Rattle.gp_run.specs.declared.engine.Called.TheVariants as called
 use Rattle.opt_system.specs.declared.answers.Mode.{Mode}
@@ -21,7 +20,7 @@ use Rattle.opt_core.specs.Core.{IsLegal, AllApply, reached}
 use Rattle.gp_system.specs.declared.goal.CallGoal.{CallGoal}
 use Rattle.gp_system.specs.declared.goal.Fault.{Fault}
 use Rattle.gp_system.specs.Gp.{RuleSystem, gp_means}
-use Rattle.gp_system.specs.inside.Viewed.{Shown, view_of}
+use Rattle.gp_system.specs.inside.Viewed.{Shown}
 
 -- The entries led from the base to the trail, each a step of the goal; so many of the items given are left, and the ending
 -- is true there: a legal core has them.

@@ -1,7 +1,3 @@
-use Rattle.std.proofs.Common.{◌∙◌, sym, subst, ap}
-use Rattle.gp_syntax.specs.Rule.{Found}
-use Rattle.opt_system.specs.declared.answers.Mode.{Mode}
-use Rattle.gp_system.specs.inside.Pursued.{HasUsed}
 use Rattle.gp_system.proofs.Pursuits.{on_used_but, on_used_all, on_used_once}
 use Rattle.gp_system.proofs.pursuit.note_used.Goals as goal
 

@@ -1,7 +1,12 @@
-use Rattle.gp_system.proofs.Runs.{ends_at_bound}
+use Rattle.std.proofs.Common.{sym, subst}
+use Rattle.gp_syntax.specs.Tree.{program_of_tree}
+use Rattle.gp_system.specs.declared.outcome.Outcome.{Outcome}
+use Rattle.gp_system.specs.Ended.{HasEnded}
+use Rattle.gp_system.proofs.Runs.{ends_so}
 use Rattle.gp_system.proofs.running.execute_alone.Goals as goal
 
-pub returns-in-Bound : goal.returns-in-Bound
-returns-in-Bound g c =
-    ends_at_bound g.C.Chooser.answer g.C.Chooser.next c.args.program.now c.args.host.graph c.args.bound (g.C.Chooser.state c.args.chooser.now) (g.C.Chooser.state c.run.new.chooser) c.in-Ok.session c.run.new.engine c.into_journal-in-Bound.result c.in-Ok.ensures
-    c.into_journal-in-Bound.ensures.journal c.into_journal-in-Bound.ensures.of_rules c.in-Bound.ensures
+pub returns : goal.returns
+returns g c =
+    subst (λ (o : Outcome). HasEnded g.C.Chooser.answer g.C.Chooser.next (program_of_tree c.args.program.now) c.args.host.graph c.args.bound (g.C.Chooser.state c.args.chooser.now) (g.C.Chooser.state c.run-finish.new.chooser) o) (sym c.outcome.ensures)
+    (ends_so g.C.Chooser.answer g.C.Chooser.next c.args.program.now c.args.host.graph c.args.bound (g.C.Chooser.state c.args.chooser.now) (g.C.Chooser.state c.run-finish.new.chooser) c.run-finish.result c.in-Ok.session c.run-finish.new.engine c.into_journal.result c.in-Ok.ensures
+    c.into_journal.ensures.journal c.into_journal.ensures.of_rules c.run-finish.ensures)

@@ -1,12 +1,3 @@
-use Rattle.std.proofs.Common.{◌<◌, ◌∙◌, length, ap, sym, subst}
-use Rattle.gp_syntax.specs.declared.command.ProgramParts.{ProgramParts}
-use Rattle.opt_core.specs.declared.event.Ending.{Ending}
-use Rattle.gp_run.specs.Engine.{HasRepeated, HasTurned, StandsSpent}
-use Rattle.gp_run.specs.inside.Ended.{HasEnded}
-use Rattle.gp_run.specs.declared.engine.Repeated.TheVariants as repeated
-use Rattle.gp_run.specs.declared.engine.Turned.TheVariants as turned
-use Rattle.gp_system.specs.inside.Viewed.{Shown, view_of}
-use Rattle.gp_system.specs.inside.Pursued.{HasPursued}
 use Rattle.gp_system.proofs.Endings.{bound_first, blocked_here, bound_here, faulty_here}
 use Rattle.gp_system.proofs.crew_session.CrewSession.pursue_all.Goals as goal
 

@@ -1,4 +1,4 @@
-use Rattle.std.proofs.Common.{◌≡◌, ◌∙◌, ◌<◌, ◌^◌, ◌++◌, ◌-◌, take, List, map, length, refl, ap, sym, subst, arith}
+use Rattle.std.proofs.Common.{◌∙◌, ◌++◌, ◌-◌, take, List, map, length, refl, ap, sym, subst, arith}
 use Rattle.gp_syntax.specs.declared.command.ProgramParts.{ProgramParts}
 use Rattle.gp_syntax.specs.declared.found.Item.{Item}
 use Rattle.gp_syntax.specs.Tree.{rule_of_tree}
@@ -6,13 +6,19 @@ use Rattle.gp_journal.specs.Trail.{rooted}
 use Rattle.gp_journal.specs.Leads.{Leads}
 use Rattle.gp_journal.specs.Journal.{items_of, noted, Kept}
 use Rattle.gp_system.specs.inside.Viewed.{Shown}
-use Rattle.gp_system.proofs.Crews.{way_all, led_on, settled_on, crewed_put}
+use Rattle.gp_system.proofs.Crews.{way_all, led_on, settled_on, crewed_put, used_now}
 use Rattle.gp_system.proofs.crew_session.CrewSession.pursue_call.Goals as goal
 
 pub brought-requires-clause-way : goal.brought-requires-clause-way
 brought-requires-clause-way g c =
     way_all c.self.inside.session c.self.inside.system c.self.inside.crew.workers c.self.inside.had c.replace-had.result c.self.inside.replicas.items c.replace-replicas.result.items c.rules-rules.result.now c.as_slice.result.now c.take_apart-trail.result.0 c.self.invariant
     c.rules-rules.ensures (c.as_slice.ensures ∙ ap (λ (k : Kept). k.items) c.take_apart-trail.ensures.items) c.take_apart-trail.ensures.trail (ap (λ v. v.items) c.replace-replicas.ensures.value) c.replace-had.ensures.value c.take_apart-trail.ensures.of_rules c.take_apart-trail.ensures.well_formed
+
+pub overflow_sub-used : goal.overflow_sub-used
+overflow_sub-used g c = (let i = c.in_ok-pursued.ensures.pursued.legal.items in let e = i.1 in omega arith)
+
+pub note_used-requires : goal.note_used-requires
+note_used-requires g c = used_now _ _ _ _ _ _ _ _ c.in_ok-pursued.ensures.pursued
 
 pub put_together-requires : goal.put_together-requires
 put_together-requires g c =
