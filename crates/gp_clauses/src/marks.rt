@@ -153,10 +153,7 @@ fn condition_has_marks(c: &Cond<Name, Option<Name>>) -> bool
     ensures { result ≡ list_all is_edge_mark (marks_in_condition (named_condition c.now)) }
 {
     match condition_shape_of(c) {
-        ConditionShape::HasType(_, _) => true,
-        ConditionShape::HasEdge(_, _) => true,
         ConditionShape::HasEdgeWith(_, _, _, mark) => is_edge_mark(mark),
-        ConditionShape::Compared(_, _, _) => true,
         ConditionShape::Not(part) => condition_has_marks(part),
         ConditionShape::Chain(_, first, rest) => {
             if !condition_has_marks(first) {
@@ -169,6 +166,7 @@ fn condition_has_marks(c: &Cond<Name, Option<Name>>) -> bool
             }
             true
         }
+        _ => true,
     }
 }
 

@@ -19,14 +19,14 @@ unknown_in-requires-in-operands t c =
 
 pub operands-preserved : goal.operands-preserved
 operands-preserved t c =
-    untold (unknown_at c.args.known) (operands c.in-Chain.links) c.operands.at _ c.get.ensures (sym c.in_default-unknown_in.ensures) ∙ c.operands.invariant
+    untold (unknown_at c.args.known) (operands c.in-Chain.links) c.operands.at _ c.get.ensures (sym c.in_default-unknown_in-2.ensures) ∙ c.operands.invariant
 
 pub returns-in-Some-unknown_in : goal.returns-in-Some-unknown_in
 returns-in-Some-unknown_in t c =
-    rw (c.in-Chain.ensures.whole, unknown_chain c.args.known (expression_of c.in-Chain.first.now) (operands c.in-Chain.links), ← c.in_default.ensures)
+    rw (c.in-Chain.ensures.whole, unknown_chain c.args.known (expression_of c.in-Chain.first.now) (operands c.in-Chain.links), ← c.in_default-unknown_in.ensures)
     (sym (told_here (unknown_at c.args.known) (operands c.in-Chain.links) c.operands.at _ _ c.get.ensures (sym c.in-Some-unknown_in.ensures)) ∙ c.operands.invariant)
 
 pub returns-after-operands : goal.returns-after-operands
 returns-after-operands t c =
-    rw (c.in-Chain.ensures.whole, unknown_chain c.args.known (expression_of c.in-Chain.first.now) (operands c.in-Chain.links), ← c.in_default.ensures)
+    rw (c.in-Chain.ensures.whole, unknown_chain c.args.known (expression_of c.in-Chain.first.now) (operands c.in-Chain.links), ← c.in_default-unknown_in.ensures)
     (sym (told_ended (unknown_at c.args.known) (operands c.in-Chain.links) c.operands.at (omega arith)) ∙ c.operands.invariant)
