@@ -3,6 +3,7 @@ use Rattle.std.proofs.Common.{◌≡◌, ℕ, zero, suc, ◌+◌, ◌<◌, ◌�
 use Rattle.std.specs.Option.{option_or}
 use Rattle.std.proofs.Math.ListN.{drop_of_length-le}
 use Rattle.std.specs.List.{list_all}
+use Rattle.std.proofs.lemmas.List.{length-map}
 use Rattle.std.proofs.lemmas.Option.{slice_get_read}
 use Rattle.gp_syntax.specs.Fault.{first_told}
 
@@ -52,3 +53,6 @@ pub mapped_at : {A B : Type 0} (f : A → B) (xs : List A) (k : ℕ) (x : A) →
 mapped_at f [] k x l e = absurd (omega (arith, l))
 mapped_at f (y ∷ xs) zero x l e = ap (λ z. Some (f z)) (sym e)
 mapped_at f (y ∷ xs) (suc k) x l e = mapped_at f xs k x (omega (arith, l)) e
+
+pub mapped_below : {A B : Type 0} (f : A → B) (xs : List A) (k : ℕ) → k < length (map f xs) → k < length xs
+mapped_below f xs k l = rw (length-map xs f) at l
