@@ -34,6 +34,13 @@ some_before seen (x ∷ xs) ys n h = go (has_name seen x) h (some_before (seen +
     go true h rest = h
     go false h rest = rest h
 
+-- an item whose name did not stand before
+pub seen_on : {A : Type 0} (f : A → Name) (xs : List A) (k : ℕ) (x : A) (seen new : List Name) → slice_get xs k ≡ Some x → first_doubled_behind seen (f x ∷ []) ≡ None → new ≡ seen ++ f x ∷ [] →
+    (first_doubled_behind new (map f (drop (k + 1) xs)) ≡ first_doubled_behind seen (map f (drop k xs))) × (new ++ map f (drop (k + 1) xs) ≡ seen ++ map f (drop k xs))
+seen_on f xs k x seen new at n e =
+    let rest = map f (drop (k + 1) xs) in
+    (ap (λ l. first_doubled_behind l rest) e ∙ sym (none_before seen (f x ∷ []) rest n) ∙ ap (λ l. first_doubled_behind seen (map f l)) (sym (drop_item xs k x at)), ap (λ l. l ++ rest) e ∙ append_assoc seen (f x ∷ []) rest ∙ ap (λ l. seen ++ map f l) (sym (drop_item xs k x at)))
+
 -- a group in which none stood before, and one in which one did
 pub group_passes : (gs : List VariableGroup) (k : ℕ) (g : VariableGroup) (seen new : List Name) → slice_get gs k ≡ Some g → first_doubled_behind seen (group_names g) ≡ None → new ≡ seen ++ group_names g →
     first_doubled_behind new (flat_map group_names (drop (k + 1) gs)) ≡ first_doubled_behind seen (flat_map group_names (drop k gs))
