@@ -24,9 +24,6 @@ few_sum a b = grind (arith, nat_tests)
 at_most_one : (a b : ℕ) → nat_le (a + b) 1 ≡ nat_le (few a + few b) 1
 at_most_one a b = grind (arith, nat_tests)
 
-pub few_at_most_one : (n : ℕ) → nat_le (few n) 1 ≡ nat_le n 1
-few_at_most_one n = grind (arith, nat_tests)
-
 plain-Negated : {Ref : Type 0} (e : Expression Ref) → has_no_operation (Negated e) ≡ is_numeral e
 plain-Negated (Number z) = refl
 plain-Negated (Text s) = refl

@@ -38,7 +38,6 @@ fn is_well_typed(variables: &Variables, e: &Expr<Name>) -> bool
     facts_in(variables, e).is_typed
 }
 
-#[tactic(auto, using(crate::proofs::Told::few_at_most_one))]
 fn is_simple(variables: &Variables, e: &Expr<Name>) -> bool
     ensures { result ≡ is_simple (type_by variables.now) (expression_of e.now) }
 {

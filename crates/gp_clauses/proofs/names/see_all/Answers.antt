@@ -1,4 +1,4 @@
-use Rattle.std.proofs.Common.{rules, sym, ◌∙◌, ap}
+use Rattle.std.proofs.Common.{sym, ◌∙◌, ap}
 use Rattle.std.specs.Option.{option_copied}
 use Rattle.gp_clauses.proofs.Walks.{item_at}
 use Rattle.gp_clauses.proofs.Doubles.{seen_on}
