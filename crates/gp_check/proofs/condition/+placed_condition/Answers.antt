@@ -1,4 +1,4 @@
-use Rattle.std.proofs.Common.{◌≡◌, ℕ, ◌<◌, Some, slice_get, fold, sym, ap, ◌∙◌, arith}
+use Rattle.std.proofs.Common.{◌≡◌, ◌<◌, Some, slice_get, fold, sym, ap, ◌∙◌, arith}
 use Rattle.gp_syntax.specs.Expression.{Not}
 use Rattle.gp_syntax.specs.Tree.{condition_of, pattern_of}
 use Rattle.gp_syntax.proofs.Trees.{condition_of-Not}
