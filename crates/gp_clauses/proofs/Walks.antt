@@ -39,6 +39,9 @@ fold_step f xs k x a b m h e s = ap (λ z. fold f z (drop (k + 1) xs)) e ∙ fol
 
 -- ---- tests of all items
 
+pub all_on : {A : Type 0} (p : A → Bool) (xs : List A) (k : ℕ) (x : A) → slice_get xs k ≡ Some x → p x ≡ true → list_all p (drop (k + 1) xs) ≡ list_all p (drop k xs)
+all_on p xs k x h t = sym (ap (list_all p) (drop_item xs k x h) ∙ ap (λ b. b && list_all p (drop (k + 1) xs)) t)
+
 pub all_fails : {A : Type 0} (p : A → Bool) (xs : List A) (k : ℕ) (x : A) → slice_get xs k ≡ Some x → p x ≡ false → list_all p (drop k xs) ≡ false
 all_fails p xs k x h f = ap (list_all p) (drop_item xs k x h) ∙ ap (λ b. b && list_all p (drop (k + 1) xs)) f
 
