@@ -15,12 +15,16 @@ use Rattle.gp_syntax.specs.Tree.{expression_of}
 use Rattle.gp_syntax.proofs.Told.{both}
 use Rattle.gp_clauses.specs.declared.shape.Operation.{Operation}
 use Rattle.gp_clauses.specs.declared.shape.Operation.TheVariants as operations
+use Rattle.gp_syntax.specs.declared.kinds.VariableType.{VariableType}
+use Rattle.gp_syntax.specs.declared.kinds.Comparison.{Comparison}
+use Rattle.gp_clauses.specs.declared.condition_shape.ConditionShape.{ConditionShape}
+use Rattle.gp_clauses.specs.declared.condition_shape.ConditionShape.TheVariants as conditions
 use Rattle.gp_clauses.specs.declared.condition_shape.Connective.{Connective}
 use Rattle.gp_clauses.specs.declared.condition_shape.Connective.TheVariants as connectives
 use Rattle.gp_clauses.specs.inside.Shapes.{applied, with_operand, chain, expression_in}
 use Rattle.gp_clauses.specs.inside.ConditionShapes.{NamedCondition, named_condition, connected, with_part, condition_chain}
 use Rattle.gp_check.specs.declared.places.Places.{Places}
-use Rattle.gp_check.specs.inside.Placed.{placed_in, placed_condition_in, numeral, IsJoining}
+use Rattle.gp_check.specs.inside.Placed.{placed_in, placed_condition_in, numeral, IsJoining, IsTest}
 
 renamed_applied : {A B : Type 0} (v n : A → B) (op : Operation) (d e : Expression A) → renamed v n (applied op d e) ≡ applied op (renamed v n d) (renamed v n e)
 renamed_applied v n operations.Plus d e = refl
@@ -98,6 +102,23 @@ negated_numeral (Number z) h = refl
 negated_numeral other h = absurd cc
 
 -- ---- conditions
+
+pub is_test : (s : ConditionShape) → ((c : Bor (Cond Name (Option Name))) → s ≡ conditions.Not c → ⊥) → ((by : Connective) (c : Bor (Cond Name (Option Name))) (ds : Bor (List (Cond Name (Option Name)))) → s ≡ conditions.Chain by c ds → ⊥) → IsTest s
+is_test (conditions.HasType w e) n c = tt
+is_test (conditions.HasEdge a b) n c = tt
+is_test (conditions.HasEdgeWith a b e m) n c = tt
+is_test (conditions.Compared op d e) n c = tt
+is_test (conditions.Not p) n c = n p refl
+is_test (conditions.Chain by p ds) n c = c by p ds refl
+
+pub no_test : (s : ConditionShape) → IsTest s → ((w : VariableType) (e : Bor (Expr Name)) → s ≡ conditions.HasType w e → ⊥) → ((a b : Bor Name) → s ≡ conditions.HasEdge a b → ⊥) →
+    ((a b : Bor Name) (e : Bor (Expr Name)) (m : Bor (Option Name)) → s ≡ conditions.HasEdgeWith a b e m → ⊥) → ((op : Comparison) (d e : Bor (Expr Name)) → s ≡ conditions.Compared op d e → ⊥) → ⊥
+no_test (conditions.HasType w e) is h f g k = h w e refl
+no_test (conditions.HasEdge a b) is h f g k = f a b refl
+no_test (conditions.HasEdgeWith a b e m) is h f g k = g a b e m refl
+no_test (conditions.Compared op d e) is h f g k = k op d e refl
+no_test (conditions.Not p) is h f g k = is
+no_test (conditions.Chain by p ds) is h f g k = is
 
 renamed_connected : (p : Places) (by : Connective) (c d : NamedCondition) → placed_condition_in p (connected by c d) ≡ connected by (placed_condition_in p c) (placed_condition_in p d)
 renamed_connected p connectives.And c d = refl

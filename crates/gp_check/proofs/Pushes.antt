@@ -1,5 +1,5 @@
 -- Chains with one operand more.
-use Rattle.std.proofs.Common.{◌≡◌, ℕ, List, [], ◌∷◌, ◌++◌, map, fold, Result, Ok, Err, refl, sym, ap, ◌∙◌}
+use Rattle.std.proofs.Common.{◌≡◌, ℕ, ◌+◌, List, [], ◌∷◌, ◌++◌, map, fold, drop, Some, slice_get, Result, Ok, Err, refl, sym, ap, ◌∙◌, append_assoc}
 use Rattle.std.specs.Prelude.{MatchResult}
 use Rattle.gp_values.specs.declared.marks.EdgeMark.{EdgeMark}
 use Rattle.gp_syntax.specs.declared.expression.Signed.{Signed}
@@ -14,6 +14,7 @@ use Rattle.gp_syntax.specs.declared.label.SimpleLabel.TheVariants as label
 use Rattle.gp_syntax.specs.declared.rule.MarkPattern.{MarkPattern as Pattern}
 use Rattle.gp_syntax.specs.Expression.{Expression, Dot, Join, Condition, And, Or, MarkPattern}
 use Rattle.gp_syntax.specs.Tree.{expression_of, label_of, condition_of, operands_of, sum, product, dots, joins, ands, ors, added, multiplied, pattern_of}
+use Rattle.gp_clauses.proofs.Walks.{drop_item}
 use Rattle.gp_check.specs.inside.Grown.{IsGrown}
 use Rattle.gp_syntax.proofs.Trees.{expression_of-Sum, expression_of-Product, expression_of-Dot, expression_of-Join, label_of-Dot, label_of-Join, condition_of-And, condition_of-Or}
 
@@ -24,6 +25,14 @@ fold_push f a (y ∷ xs) x = fold_push f (f a y) xs x
 map_push : {A B : Type 0} (f : A → B) (xs : List A) (x : A) → map f (xs ++ x ∷ []) ≡ map f xs ++ f x ∷ []
 map_push f [] x = refl
 map_push f (y ∷ xs) x = ap (λ l. f y ∷ l) (map_push f xs x)
+
+-- one item more of a list that is made item by item
+pub made_on : {A B C D : Type 0} (means : C → D) (wanted : B → D) (read : A → B) (xs : List A) (k : ℕ) (x : A) (made new : List C) (y : C) (whole : List D) → slice_get xs k ≡ Some x → new ≡ made ++ y ∷ [] → means y ≡ wanted (read x) →
+    map means made ++ map wanted (map read (drop k xs)) ≡ whole → map means new ++ map wanted (map read (drop (k + 1) xs)) ≡ whole
+made_on means wanted read xs k x made new y whole at e h s =
+    let rest = map wanted (map read (drop (k + 1) xs)) in
+    ap (λ l. map means l ++ rest) e ∙ ap (λ l. l ++ rest) (map_push means made y) ∙ append_assoc (map means made) (means y ∷ []) rest ∙ ap (λ z. map means made ++ z ∷ rest) h
+    ∙ ap (λ l. map means made ++ map wanted (map read l)) (sym (drop_item xs k x at)) ∙ s
 
 -- a chain that has grown, by what it means with one part more and by what one of two parts means
 grown_means : {T P R : Type 0} (make : T → List P → T) (value : T → R) (with : R → P → R) → ((t : T) (l : List P) (x : P) → value (make t (l ++ x ∷ [])) ≡ with (value (make t l)) x) → ((t : T) (x : P) → value (make t (x ∷ [])) ≡ with (value t) x) →

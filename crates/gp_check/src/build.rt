@@ -279,12 +279,12 @@ pub fn parts(alloc: Global, rule: &RuleDecl, scope: Scope) -> Result<RuleParts, 
     ensures rule { IfOk result (λ r. rule_of_tree r ≡ rule_of (declaration_of rule.now)) }
     ensures name { IfOk result (λ r. r.name ≡ rule.now.name) }
 {
+    let name = rule.name.copy(alloc)?;
     let sides = made_sides(alloc, &scope.left.names, rule)?;
     let places = Places {
         variables: &scope.left.names,
         left: &rule.left,
     };
     let condition = placed_tests(alloc, places, &rule.condition)?;
-    let name = rule.name.copy(alloc)?;
     Ok(sides.with(name, scope.into_left_types(), condition))
 }

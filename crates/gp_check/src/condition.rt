@@ -2,8 +2,8 @@
 
 ghost use Rattle.std.specs.Prelude.{◌≡◌, IfOk};
 ghost use Rattle.gp_syntax.specs.Tree.{condition_of, condition_or_true, pattern_of};
-ghost use Rattle.gp_clauses.specs.inside.ConditionShapes.{named_condition};
-ghost use Rattle.gp_check.specs.inside.Placed.{placed_condition_in};
+ghost use Rattle.gp_clauses.specs.inside.ConditionShapes.{named_condition, condition_in};
+ghost use Rattle.gp_check.specs.inside.Placed.{placed_condition_in, IsTest};
 
 use crate::chains::with_part;
 use crate::expression::placed;
@@ -15,15 +15,16 @@ use gp_syntax::{Boxed, Cond, MarkPattern, Name};
 use gp_values::EdgeMark;
 use std::alloc::Global;
 
-/// A condition with places in place of names.
-pub fn placed_condition(
+// A condition that is neither a `not` nor a chain, with places in place of names.
+fn placed_test(
     alloc: Global,
     places: Places<'_>,
-    c: &Cond<Name, Option<Name>>,
+    test: ConditionShape<'_>,
 ) -> Result<Cond<u32, MarkPattern<EdgeMark>>, NoMemory>
-    ensures { IfOk result (λ r. condition_of pattern_of r ≡ placed_condition_in places.entry (named_condition c.now)) }
+    requires { IsTest test }
+    ensures { IfOk result (λ r. condition_of pattern_of r ≡ placed_condition_in places.entry (condition_in test.entry)) }
 {
-    match condition_shape_of(c) {
+    match test {
         ConditionShape::HasType(wanted, e) => {
             let e = placed(alloc, places, e)?;
             Ok(Cond::HasType(wanted, e))
@@ -44,6 +45,20 @@ pub fn placed_condition(
             let e = placed(alloc, places, e)?;
             Ok(Cond::Compared(comparison, d, e))
         }
+        _ => unreachable!(),
+    }
+}
+
+/// A condition with places in place of names.
+pub fn placed_condition(
+    alloc: Global,
+    places: Places<'_>,
+    c: &Cond<Name, Option<Name>>,
+) -> Result<Cond<u32, MarkPattern<EdgeMark>>, NoMemory>
+    ensures { IfOk result (λ r. condition_of pattern_of r ≡ placed_condition_in places.entry (named_condition c.now)) }
+{
+    let shape = condition_shape_of(c);
+    match shape {
         ConditionShape::Not(part) => {
             let part = placed_condition(alloc, places, part)?;
             Ok(Cond::Not(Boxed::new(alloc, part)?))
@@ -56,6 +71,7 @@ pub fn placed_condition(
             }
             Ok(total)
         }
+        _ => placed_test(alloc, places, shape),
     }
 }
 

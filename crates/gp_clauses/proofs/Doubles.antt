@@ -1,9 +1,14 @@
 -- The first name that stood before, list by list.
-use Rattle.std.proofs.Common.{◌≡◌, ℕ, ◌+◌, Bool, true, false, if◌then◌else◌, List, [], ◌∷◌, ◌++◌, map, flat_map, drop, Some, None, slice_get, refl, sym, ap, ◌∙◌, append_assoc}
-use Rattle.gp_values.specs.Names.{Name, has_name, first_doubled_behind}
+use Rattle.std.proofs.Common.{◌≡◌, ℕ, ◌+◌, Bool, true, false, if◌then◌else◌, List, [], ◌∷◌, ◌++◌, map, flat_map, drop, Option, Some, None, slice_get, refl, sym, ap, ◌∙◌, append_assoc}
+use Rattle.std.specs.Option.{option_or}
+use Rattle.gp_values.specs.Names.{Name, has_name, first_doubled, first_doubled_behind}
 use Rattle.gp_syntax.specs.declared.tree.VariableGroup.{VariableGroup}
-use Rattle.gp_syntax.specs.Declaration.{DeclaredVariable}
-use Rattle.gp_syntax.specs.Tree.{variables_of}
+use Rattle.gp_syntax.specs.declared.tree.RuleDecl.{RuleDecl}
+use Rattle.gp_syntax.specs.declared.tree.NodeDecl.{NodeDecl}
+use Rattle.gp_syntax.specs.declared.tree.EdgeDecl.{EdgeDecl}
+use Rattle.gp_syntax.specs.Declaration.{DeclaredNode, DeclaredEdge, DeclaredVariable, Declaration, node_names, edge_names}
+use Rattle.gp_syntax.specs.Fault.{variable_names, twice_declared}
+use Rattle.gp_syntax.specs.Tree.{node_of, edge_of, variables_of, declaration_of}
 use Rattle.gp_clauses.specs.inside.Names.{group_names}
 use Rattle.gp_clauses.proofs.Walks.{drop_item}
 
@@ -28,6 +33,13 @@ some_before seen (x ∷ xs) ys n h = go (has_name seen x) h (some_before (seen +
         (if b then Some x else first_doubled_behind (seen ++ x ∷ []) (xs ++ ys)) ≡ Some n
     go true h rest = h
     go false h rest = rest h
+
+-- an item whose name did not stand before
+pub seen_on : {A : Type 0} (f : A → Name) (xs : List A) (k : ℕ) (x : A) (seen new : List Name) → slice_get xs k ≡ Some x → first_doubled_behind seen (f x ∷ []) ≡ None → new ≡ seen ++ f x ∷ [] →
+    (first_doubled_behind new (map f (drop (k + 1) xs)) ≡ first_doubled_behind seen (map f (drop k xs))) × (new ++ map f (drop (k + 1) xs) ≡ seen ++ map f (drop k xs))
+seen_on f xs k x seen new at n e =
+    let rest = map f (drop (k + 1) xs) in
+    (ap (λ l. first_doubled_behind l rest) e ∙ sym (none_before seen (f x ∷ []) rest n) ∙ ap (λ l. first_doubled_behind seen (map f l)) (sym (drop_item xs k x at)), ap (λ l. l ++ rest) e ∙ append_assoc seen (f x ∷ []) rest ∙ ap (λ l. seen ++ map f l) (sym (drop_item xs k x at)))
 
 -- a group in which none stood before, and one in which one did
 pub group_passes : (gs : List VariableGroup) (k : ℕ) (g : VariableGroup) (seen new : List Name) → slice_get gs k ≡ Some g → first_doubled_behind seen (group_names g) ≡ None → new ≡ seen ++ group_names g →
@@ -56,3 +68,43 @@ names_of_group t (n ∷ ns) = ap (λ l. n ∷ l) (names_of_group t ns)
 pub names_of_groups : (gs : List VariableGroup) → map name_of (flat_map variables_of gs) ≡ flat_map group_names gs
 names_of_groups [] = refl
 names_of_groups (g ∷ gs) = map_append name_of (variables_of g) (flat_map variables_of gs) ∙ (λ i. names_of_group g.variable_type (group_names g) i ++ names_of_groups gs i)
+
+-- ---- lists of names, one after the other
+
+pub same_names : (ns : List Name) → map (λ n. n) ns ≡ ns
+same_names [] = refl
+same_names (n ∷ ns) = ap (λ l. n ∷ l) (same_names ns)
+
+names_of_nodes : (ns : List NodeDecl) → map (λ (n : NodeDecl). n.name) ns ≡ map (λ (n : DeclaredNode). n.name) (map node_of ns)
+names_of_nodes [] = refl
+names_of_nodes (n ∷ ns) = ap (λ l. n.name ∷ l) (names_of_nodes ns)
+
+names_of_edges : (es : List EdgeDecl) → map (λ (e : EdgeDecl). e.name) es ≡ map (λ (e : DeclaredEdge). e.name) (map edge_of es)
+names_of_edges [] = refl
+names_of_edges (e ∷ es) = ap (λ l. e.name ∷ l) (names_of_edges es)
+
+told_in_turn : {A : Type 0} (a b c d e f : Option A) → option_or (option_or (option_or (option_or (option_or a b) c) d) e) f ≡ option_or a (option_or b (option_or c (option_or d (option_or e (option_or f None)))))
+told_in_turn (Some x) b c d e f = refl
+told_in_turn None (Some x) c d e f = refl
+told_in_turn None None (Some x) d e f = refl
+told_in_turn None None None (Some x) e f = refl
+told_in_turn None None None None (Some x) f = refl
+told_in_turn None None None None None (Some x) = refl
+told_in_turn None None None None None None = refl
+
+-- kind by kind
+module _ (r : RuleDecl) where
+  abbrev d : Declaration
+  d = declaration_of r
+
+  abbrev nodes_doubled : List NodeDecl → Option Name
+  nodes_doubled ns = first_doubled (map (λ (n : NodeDecl). n.name) ns)
+
+  abbrev edges_doubled : List EdgeDecl → Option Name
+  edges_doubled es = first_doubled (map (λ (e : EdgeDecl). e.name) es)
+
+  pub doubled_in_turn : (o p q s t : Option Name) → o ≡ first_doubled (variable_names d) → p ≡ option_or o (nodes_doubled r.left.nodes) → q ≡ option_or p (edges_doubled r.left.edges) → s ≡ option_or q (nodes_doubled r.right.nodes) → t ≡ option_or s (edges_doubled r.right.edges) →
+      option_or t (first_doubled (map (λ n. n) r.interface)) ≡ twice_declared d
+  doubled_in_turn o p q s t is-o is-p is-q is-s is-t =
+      rw (is-t, is-s, is-q, is-p, is-o, names_of_nodes r.left.nodes, names_of_edges r.left.edges, names_of_nodes r.right.nodes, names_of_edges r.right.edges, same_names r.interface)
+      (told_in_turn (first_doubled (variable_names d)) (first_doubled (node_names d.left)) (first_doubled (edge_names d.left)) (first_doubled (node_names d.right)) (first_doubled (edge_names d.right)) (first_doubled d.interface))

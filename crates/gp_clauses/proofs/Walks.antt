@@ -1,8 +1,9 @@
 -- Loops over what is left of a list, by the item at a place.
-use Rattle.std.proofs.Common.{◌≡◌, ℕ, zero, suc, ◌+◌, ◌<◌, ◌≤◌, ◌&&◌, Bool, true, false, get_or, List, [], ◌∷◌, length, fold, drop, Option, Some, None, slice_get, refl, sym, ap, ◌∙◌, add-one}
+use Rattle.std.proofs.Common.{◌≡◌, ℕ, zero, suc, ◌+◌, ◌<◌, ◌≤◌, ◌&&◌, Bool, true, false, get_or, List, [], ◌∷◌, length, map, fold, drop, Option, Some, None, slice_get, refl, sym, ap, ◌∙◌, add-one, arith}
 use Rattle.std.specs.Option.{option_or}
 use Rattle.std.proofs.Math.ListN.{drop_of_length-le}
 use Rattle.std.specs.List.{list_all}
+use Rattle.std.proofs.lemmas.List.{length-map}
 use Rattle.std.proofs.lemmas.Option.{slice_get_read}
 use Rattle.gp_syntax.specs.Fault.{first_told}
 
@@ -38,6 +39,9 @@ fold_step f xs k x a b m h e s = ap (λ z. fold f z (drop (k + 1) xs)) e ∙ fol
 
 -- ---- tests of all items
 
+pub all_on : {A : Type 0} (p : A → Bool) (xs : List A) (k : ℕ) (x : A) → slice_get xs k ≡ Some x → p x ≡ true → list_all p (drop (k + 1) xs) ≡ list_all p (drop k xs)
+all_on p xs k x h t = sym (ap (list_all p) (drop_item xs k x h) ∙ ap (λ b. b && list_all p (drop (k + 1) xs)) t)
+
 pub all_fails : {A : Type 0} (p : A → Bool) (xs : List A) (k : ℕ) (x : A) → slice_get xs k ≡ Some x → p x ≡ false → list_all p (drop k xs) ≡ false
 all_fails p xs k x h f = ap (list_all p) (drop_item xs k x h) ∙ ap (λ b. b && list_all p (drop (k + 1) xs)) f
 
@@ -46,3 +50,12 @@ all_ended p xs k l = ap (list_all p) (drop_of_length-le xs l)
 
 pub item_at : {A : Type 0} (xs : List A) (k : ℕ) (x : A) → k < length xs → x ≡ get_or xs k x → slice_get xs k ≡ Some x
 item_at xs k x l e = slice_get_read xs _ k x refl l e
+
+-- an item of a list that is read item by item
+pub mapped_at : {A B : Type 0} (f : A → B) (xs : List A) (k : ℕ) (x : A) → k < length (map f xs) → x ≡ get_or xs k x → slice_get (map f xs) k ≡ Some (f x)
+mapped_at f [] k x l e = absurd (omega (arith, l))
+mapped_at f (y ∷ xs) zero x l e = ap (λ z. Some (f z)) (sym e)
+mapped_at f (y ∷ xs) (suc k) x l e = mapped_at f xs k x (omega (arith, l)) e
+
+pub mapped_below : {A B : Type 0} (f : A → B) (xs : List A) (k : ℕ) → k < length (map f xs) → k < length xs
+mapped_below f xs k l = rw (length-map xs f) at l

@@ -1,6 +1,7 @@
 pub mod ConditionShapes
 pub mod Facts
 pub mod Known
+pub mod Labels
 pub mod Names
 pub mod Shapes
 pub mod Size

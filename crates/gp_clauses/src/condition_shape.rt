@@ -8,7 +8,7 @@ ghost use Rattle.gp_clauses.specs.inside.Size.{condition_size};
 use gp_syntax::{Comparison, Cond, Expr, Name, VariableType};
 
 /// What joins the parts of a chain.
-#[derive(Clone, Copy, PartialEq, Eq)]
+#[derive(Clone, Copy)]
 pub enum Connective {
     And,
     Or,

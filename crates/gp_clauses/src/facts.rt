@@ -174,9 +174,6 @@ pub fn facts_in(variables: &Variables, e: &Expr<Name>) -> Facts
         Shape::Number(_) => constant(VariableType::Int, true, true),
         Shape::Text(text) => text_facts(variables, text),
         Shape::Variable(x) => variable_facts(variables, x),
-        Shape::InDegree(_) => constant(VariableType::Int, false, false),
-        Shape::OutDegree(_) => constant(VariableType::Int, false, false),
-        Shape::Length(_) => constant(VariableType::Int, false, false),
         Shape::Empty => constant(VariableType::List, false, true),
         Shape::Negated(operand) => negated(&facts_in(variables, operand)),
         Shape::Chain(first, links) => {
@@ -188,5 +185,6 @@ pub fn facts_in(variables: &Variables, e: &Expr<Name>) -> Facts
             }
             total
         }
+        _ => constant(VariableType::Int, false, false),
     }
 }

@@ -1,13 +1,13 @@
 //! Names that are unknown where they stand.
 
-ghost use Rattle.std.specs.Prelude.{◌≡◌, if◌then◌else◌, Some, None};
+ghost use Rattle.std.specs.Prelude.{◌≡◌};
 ghost use Rattle.std.specs.Option.{option_copied, option_or};
 ghost use Rattle.gp_values.specs.Names.{has_name};
 ghost use Rattle.gp_syntax.specs.Declaration.{node_names};
 ghost use Rattle.gp_syntax.specs.Expression.{Variable, In_degree};
 ghost use Rattle.gp_syntax.specs.Tree.{side_of, expression_of};
 ghost use Rattle.gp_clauses.specs.inside.ConditionShapes.{named_condition};
-ghost use Rattle.gp_clauses.specs.inside.Known.{names_known, unknown_in, unknown_in_condition};
+ghost use Rattle.gp_clauses.specs.inside.Known.{unknown_in, unknown_in_condition};
 
 use crate::condition_shape::{ConditionShape, condition_shape_of};
 use crate::shape::{Shape, shape_of};
@@ -33,28 +33,18 @@ pub fn has_node(side: &GraphDecl, name: &Name) -> bool
 }
 
 impl<'k> Known<'k> {
-    fn has(self, name: &Name) -> bool
-        ensures { result ≡ has_name (names_known self.entry) name.now }
-    {
-        match self {
-            Known::Nodes(side) => has_node(side, name),
-            Known::Variables(table) => table.has(name.as_bytes()),
-        }
-    }
-
-    /// The name, where it is not known.
-    pub fn unknown<'a>(self, name: &'a Name) -> Option<&'a Name>
-        ensures { option_copied result ≡ (if has_name (names_known self.entry) name.now then None else Some name.now) }
-    {
-        if self.has(name) { None } else { Some(name) }
-    }
-
     fn unknown_variable<'a>(self, name: &'a Name) -> Option<&'a Name>
         ensures { option_copied result ≡ unknown_in self.entry (Variable name.now) }
     {
         match self {
             Known::Nodes(_) => None,
-            Known::Variables(_) => self.unknown(name),
+            Known::Variables(table) => {
+                if table.has(name.as_bytes()) {
+                    None
+                } else {
+                    Some(name)
+                }
+            }
         }
     }
 
@@ -62,7 +52,13 @@ impl<'k> Known<'k> {
         ensures { option_copied result ≡ unknown_in self.entry (In_degree name.now) }
     {
         match self {
-            Known::Nodes(_) => self.unknown(name),
+            Known::Nodes(side) => {
+                if has_node(side, name) {
+                    None
+                } else {
+                    Some(name)
+                }
+            }
             Known::Variables(_) => None,
         }
     }
@@ -73,13 +69,10 @@ pub fn unknown_in<'a>(known: Known<'_>, e: &'a Expr<Name>) -> Option<&'a Name>
     ensures { option_copied result ≡ unknown_in known.entry (expression_of e.now) }
 {
     match shape_of(e) {
-        Shape::Number(_) => None,
-        Shape::Text(_) => None,
         Shape::Variable(x) => known.unknown_variable(x),
         Shape::InDegree(n) => known.unknown_node(n),
         Shape::OutDegree(n) => known.unknown_node(n),
         Shape::Length(x) => known.unknown_variable(x),
-        Shape::Empty => None,
         Shape::Negated(operand) => unknown_in(known, operand),
         Shape::Chain(first, links) => {
             if let Some(name) = unknown_in(known, first) {
@@ -93,6 +86,7 @@ pub fn unknown_in<'a>(known: Known<'_>, e: &'a Expr<Name>) -> Option<&'a Name>
             }
             None
         }
+        _ => None,
     }
 }
 

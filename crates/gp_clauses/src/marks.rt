@@ -14,25 +14,30 @@ use crate::condition_shape::{ConditionShape, condition_shape_of};
 use gp_syntax::{Cond, EdgeDecl, GraphDecl, Name, NodeDecl, RuleDecl};
 use gp_values::{EdgeMark, NodeMark};
 
+fn is_word(word: &Name, text: &[u8]) -> bool
+    ensures { result ≡ same_name word.now text.now }
+{
+    word.as_bytes() == text
+}
+
 /// Whether a word is `any`.
 pub fn says_any(word: &Name) -> bool
     ensures { result ≡ same_name word.now (codes "any") }
 {
-    word.as_bytes() == b"any".as_slice()
+    is_word(word, b"any")
 }
 
 /// The mark of a node that a word names.
 pub fn node_mark(word: &Name) -> Option<NodeMark>
     ensures { result ≡ node_mark_named word.now }
 {
-    let word = word.as_bytes();
-    if word == b"red".as_slice() {
+    if is_word(word, b"red") {
         Some(NodeMark::Red)
-    } else if word == b"green".as_slice() {
+    } else if is_word(word, b"green") {
         Some(NodeMark::Green)
-    } else if word == b"blue".as_slice() {
+    } else if is_word(word, b"blue") {
         Some(NodeMark::Blue)
-    } else if word == b"grey".as_slice() {
+    } else if is_word(word, b"grey") {
         Some(NodeMark::Grey)
     } else {
         None
@@ -43,14 +48,13 @@ pub fn node_mark(word: &Name) -> Option<NodeMark>
 pub fn edge_mark(word: &Name) -> Option<EdgeMark>
     ensures { result ≡ edge_mark_named word.now }
 {
-    let word = word.as_bytes();
-    if word == b"red".as_slice() {
+    if is_word(word, b"red") {
         Some(EdgeMark::Red)
-    } else if word == b"green".as_slice() {
+    } else if is_word(word, b"green") {
         Some(EdgeMark::Green)
-    } else if word == b"blue".as_slice() {
+    } else if is_word(word, b"blue") {
         Some(EdgeMark::Blue)
-    } else if word == b"dashed".as_slice() {
+    } else if is_word(word, b"dashed") {
         Some(EdgeMark::Dashed)
     } else {
         None
@@ -153,10 +157,7 @@ fn condition_has_marks(c: &Cond<Name, Option<Name>>) -> bool
     ensures { result ≡ list_all is_edge_mark (marks_in_condition (named_condition c.now)) }
 {
     match condition_shape_of(c) {
-        ConditionShape::HasType(_, _) => true,
-        ConditionShape::HasEdge(_, _) => true,
         ConditionShape::HasEdgeWith(_, _, _, mark) => is_edge_mark(mark),
-        ConditionShape::Compared(_, _, _) => true,
         ConditionShape::Not(part) => condition_has_marks(part),
         ConditionShape::Chain(_, first, rest) => {
             if !condition_has_marks(first) {
@@ -169,6 +170,7 @@ fn condition_has_marks(c: &Cond<Name, Option<Name>>) -> bool
             }
             true
         }
+        _ => true,
     }
 }
 

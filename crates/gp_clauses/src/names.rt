@@ -27,6 +27,40 @@ pub fn too_large(rule: &RuleDecl) -> bool
     is_large(&rule.left) || is_large(&rule.right)
 }
 
+// What has a name.
+trait Named {
+    ghost use Rattle.gp_values.specs.Names.{Name};
+
+    ghost name_of: { Self → Name };
+
+    fn name(&self) -> &Name
+        ensures { result.now ≡ name_of self.now };
+}
+
+impl Named for Name {
+    ghost name_of = { λ n. n };
+
+    fn name(&self) -> &Name {
+        self
+    }
+}
+
+impl Named for NodeDecl {
+    ghost name_of = { λ n. n.name };
+
+    fn name(&self) -> &Name {
+        &self.name
+    }
+}
+
+impl Named for EdgeDecl {
+    ghost name_of = { λ e. e.name };
+
+    fn name(&self) -> &Name {
+        &self.name
+    }
+}
+
 // Puts a name behind those that were seen, or gives it where it was seen.
 fn see<'a>(
     alloc: Global,
@@ -42,21 +76,22 @@ fn see<'a>(
     }
 }
 
-fn see_names<'a>(
+fn see_all<'a, T: Named>(
     alloc: Global,
     seen: &mut NameTable,
-    names: &'a [Name],
+    items: &'a [T],
 ) -> Result<Option<&'a Name>, NoMemory>
-    ensures { IfOk result (λ o. Doubled (option_copied o) seen.old seen.new names.now) }
+    ensures { IfOk result (λ o. Doubled (option_copied o) seen.old seen.new (map T.name_of items.now)) }
 {
-    for name in names {
-        if let Some(doubled) = see(alloc, seen, name)? {
+    for item in items {
+        if let Some(doubled) = see(alloc, seen, item.name())? {
             return Ok(Some(doubled));
         }
     }
     Ok(None)
 }
 
+#[tactic(auto, using(crate::proofs::Doubles::same_names))]
 fn see_group<'a>(
     alloc: Global,
     seen: &mut NameTable,
@@ -67,7 +102,7 @@ fn see_group<'a>(
     if let Some(doubled) = see(alloc, seen, &group.first)? {
         return Ok(Some(doubled));
     }
-    see_names(alloc, seen, group.rest.as_slice())
+    see_all(alloc, seen, group.rest.as_slice())
 }
 
 fn doubled_variable(alloc: Global, rule: &RuleDecl) -> Result<Option<&Name>, NoMemory>
@@ -82,35 +117,19 @@ fn doubled_variable(alloc: Global, rule: &RuleDecl) -> Result<Option<&Name>, NoM
     Ok(None)
 }
 
-fn doubled_node(alloc: Global, side: &GraphDecl) -> Result<Option<&Name>, NoMemory>
-    ensures { IfOk result (λ o. option_copied o ≡ first_doubled (node_names (side_of side.now))) }
+// The name that was told before, or else the first of these that stood before among them.
+fn doubled_among<'a, T: Named>(
+    alloc: Global,
+    before: Option<&'a Name>,
+    items: &'a [T],
+) -> Result<Option<&'a Name>, NoMemory>
+    ensures { IfOk result (λ o. option_copied o ≡ option_or (option_copied before.entry) (first_doubled (map T.name_of items.now))) }
 {
-    let mut seen = NameTable::new(alloc);
-    for node in side.nodes.as_slice() {
-        if let Some(doubled) = see(alloc, &mut seen, &node.name)? {
-            return Ok(Some(doubled));
-        }
+    if before.is_some() {
+        return Ok(before);
     }
-    Ok(None)
-}
-
-fn doubled_edge(alloc: Global, side: &GraphDecl) -> Result<Option<&Name>, NoMemory>
-    ensures { IfOk result (λ o. option_copied o ≡ first_doubled (edge_names (side_of side.now))) }
-{
     let mut seen = NameTable::new(alloc);
-    for edge in side.edges.as_slice() {
-        if let Some(doubled) = see(alloc, &mut seen, &edge.name)? {
-            return Ok(Some(doubled));
-        }
-    }
-    Ok(None)
-}
-
-fn doubled_name(alloc: Global, names: &[Name]) -> Result<Option<&Name>, NoMemory>
-    ensures { IfOk result (λ o. option_copied o ≡ first_doubled names.now) }
-{
-    let mut seen = NameTable::new(alloc);
-    see_names(alloc, &mut seen, names)
+    see_all(alloc, &mut seen, items)
 }
 
 /// The first name of a variable, of a node or an edge of its side, or in the interface, that stood before among those of
@@ -118,22 +137,12 @@ fn doubled_name(alloc: Global, names: &[Name]) -> Result<Option<&Name>, NoMemory
 pub fn twice_declared(alloc: Global, rule: &RuleDecl) -> Result<Option<&Name>, NoMemory>
     ensures { IfOk result (λ o. option_copied o ≡ twice_declared (declaration_of rule.now)) }
 {
-    if let Some(doubled) = doubled_variable(alloc, rule)? {
-        return Ok(Some(doubled));
-    }
-    if let Some(doubled) = doubled_node(alloc, &rule.left)? {
-        return Ok(Some(doubled));
-    }
-    if let Some(doubled) = doubled_edge(alloc, &rule.left)? {
-        return Ok(Some(doubled));
-    }
-    if let Some(doubled) = doubled_node(alloc, &rule.right)? {
-        return Ok(Some(doubled));
-    }
-    if let Some(doubled) = doubled_edge(alloc, &rule.right)? {
-        return Ok(Some(doubled));
-    }
-    doubled_name(alloc, rule.interface.as_slice())
+    let doubled = doubled_variable(alloc, rule)?;
+    let doubled = doubled_among(alloc, doubled, rule.left.nodes.as_slice())?;
+    let doubled = doubled_among(alloc, doubled, rule.left.edges.as_slice())?;
+    let doubled = doubled_among(alloc, doubled, rule.right.nodes.as_slice())?;
+    let doubled = doubled_among(alloc, doubled, rule.right.edges.as_slice())?;
+    doubled_among(alloc, doubled, rule.interface.as_slice())
 }
 
 fn unknown_at_nodes<'a>(rule: &RuleDecl, nodes: &'a [NodeDecl]) -> Option<&'a Name>

@@ -12,7 +12,7 @@ ghost use Rattle.gp_clauses.specs.inside.Tables.{type_by};
 
 use crate::known::{Known, unknown_in};
 use crate::names::unknown_in_tests;
-use crate::typed::{has_simple_labels, has_typed_labels, is_well_typed_condition};
+use crate::typed::{LabelClause, is_well_typed_condition, labels_pass};
 use crate::variables::{Variables, add_side};
 use gp_memory::NoMemory;
 use gp_syntax::{Cond, GraphDecl, Name, NameTable, RuleDecl, VariableType};
@@ -92,7 +92,8 @@ pub fn unbound<'a>(rule: &'a RuleDecl, scope: &Scope) -> Option<&'a Name>
 fn labels_are_typed(variables: &Variables, rule: &RuleDecl) -> bool
     ensures { result ≡ list_all (is_well_typed (type_by variables.now)) (labels (side_of rule.now.left) ++ labels (side_of rule.now.right)) }
 {
-    has_typed_labels(variables, &rule.left) && has_typed_labels(variables, &rule.right)
+    labels_pass(LabelClause::Typed, variables, &rule.left)
+        && labels_pass(LabelClause::Typed, variables, &rule.right)
 }
 
 fn tests_are_typed(variables: &Variables, condition: &Option<Cond<Name, Option<Name>>>) -> bool
@@ -120,5 +121,5 @@ pub fn not_simple(rule: &RuleDecl, scope: &Scope) -> bool
     requires { IsScope (declaration_of rule.now) scope.now }
     ensures { result ≡ not_simple (declaration_of rule.now) }
 {
-    !has_simple_labels(&scope.declared, &rule.left)
+    !labels_pass(LabelClause::Simple, &scope.declared, &rule.left)
 }

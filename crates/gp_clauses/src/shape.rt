@@ -100,8 +100,14 @@ impl<'a> Links<'a> {
         ensures { slice_get (operands self.entry) at ≡ Some (result.0, result.1.now) }
     {
         match self {
-            Links::Sum(rest) => (sum_operation(rest[at].sign), &rest[at].operand),
-            Links::Product(rest) => (product_operation(rest[at].sign), &rest[at].operand),
+            Links::Sum(rest) => {
+                let term = &rest[at];
+                (sum_operation(term.sign), &term.operand)
+            }
+            Links::Product(rest) => {
+                let factor = &rest[at];
+                (product_operation(factor.sign), &factor.operand)
+            }
             Links::Dot(rest) => (Operation::Dot, &rest[at]),
             Links::Join(rest) => (Operation::Join, &rest[at]),
         }

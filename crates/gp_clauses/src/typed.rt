@@ -7,12 +7,20 @@ ghost use Rattle.gp_syntax.specs.Declaration.{labels};
 ghost use Rattle.gp_syntax.specs.Fault.{is_order, is_of_type, is_well_typed, is_well_typed_condition, is_simple};
 ghost use Rattle.gp_syntax.specs.Tree.{expression_of, side_of};
 ghost use Rattle.gp_clauses.specs.inside.ConditionShapes.{named_condition};
+ghost use Rattle.gp_clauses.specs.inside.Labels.{passes};
 ghost use Rattle.gp_clauses.specs.inside.Tables.{type_by};
 
 use crate::condition_shape::{ConditionShape, condition_shape_of};
 use crate::facts::{facts_in, is_subtype};
 use crate::variables::Variables;
 use gp_syntax::{Comparison, Cond, Expr, GraphDecl, Name, VariableType};
+
+/// What is asked of a label: that its operands are of the types that their operations want, or that it is simple.
+#[derive(Clone, Copy)]
+pub enum LabelClause {
+    Typed,
+    Simple,
+}
 
 fn is_order(comparison: Comparison) -> bool
     ensures { result ≡ is_order comparison }
@@ -77,34 +85,27 @@ pub fn is_well_typed_condition(variables: &Variables, c: &Cond<Name, Option<Name
     }
 }
 
-/// Whether the operands in the labels of a side are of the types that their operations want.
-pub fn has_typed_labels(variables: &Variables, side: &GraphDecl) -> bool
-    ensures { result ≡ list_all (is_well_typed (type_by variables.now)) (labels (side_of side.now)) }
+// Whether a label keeps a clause.
+fn passes(clause: LabelClause, variables: &Variables, label: &Expr<Name>) -> bool
+    ensures { result ≡ passes clause (type_by variables.now) (expression_of label.now) }
 {
-    'nodes: for node in side.nodes.as_slice() {
-        if !is_well_typed(variables, &node.label) {
-            return false;
-        }
+    match clause {
+        LabelClause::Typed => is_well_typed(variables, label),
+        LabelClause::Simple => is_simple(variables, label),
     }
-    'edges: for edge in side.edges.as_slice() {
-        if !is_well_typed(variables, &edge.label) {
-            return false;
-        }
-    }
-    true
 }
 
-/// Whether the labels of a side are simple.
-pub fn has_simple_labels(variables: &Variables, side: &GraphDecl) -> bool
-    ensures { result ≡ list_all (is_simple (type_by variables.now)) (labels (side_of side.now)) }
+/// Whether the labels of a side keep a clause.
+pub fn labels_pass(clause: LabelClause, variables: &Variables, side: &GraphDecl) -> bool
+    ensures { result ≡ list_all (passes clause (type_by variables.now)) (labels (side_of side.now)) }
 {
     'nodes: for node in side.nodes.as_slice() {
-        if !is_simple(variables, &node.label) {
+        if !passes(clause, variables, &node.label) {
             return false;
         }
     }
     'edges: for edge in side.edges.as_slice() {
-        if !is_simple(variables, &edge.label) {
+        if !passes(clause, variables, &edge.label) {
             return false;
         }
     }

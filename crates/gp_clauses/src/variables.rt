@@ -131,13 +131,8 @@ pub fn add_variables(alloc: Global, table: &mut NameTable, e: &Expr<Name>) -> Re
     ensures { OnOk result (table.new ≡ with_variables_in table.old (expression_of e.now)) }
 {
     match shape_of(e) {
-        Shape::Number(_) => Ok(()),
-        Shape::Text(_) => Ok(()),
         Shape::Variable(x) => add_name(alloc, table, x),
-        Shape::InDegree(_) => Ok(()),
-        Shape::OutDegree(_) => Ok(()),
         Shape::Length(x) => add_name(alloc, table, x),
-        Shape::Empty => Ok(()),
         Shape::Negated(operand) => add_variables(alloc, table, operand),
         Shape::Chain(first, links) => {
             add_variables(alloc, table, first)?;
@@ -147,6 +142,7 @@ pub fn add_variables(alloc: Global, table: &mut NameTable, e: &Expr<Name>) -> Re
             }
             Ok(())
         }
+        _ => Ok(()),
     }
 }
 

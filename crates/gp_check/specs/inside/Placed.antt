@@ -8,6 +8,8 @@ use Rattle.gp_syntax.specs.Declaration.{DeclaredNode, DeclaredEdge, Declaration,
 use Rattle.gp_syntax.specs.Rule.{Rule, LeftNode, LeftEdge, RightNode, RightEdge}
 use Rattle.gp_syntax.specs.Tree.{side_of}
 use Rattle.gp_clauses.specs.inside.ConditionShapes.{NamedCondition}
+use Rattle.gp_clauses.specs.declared.condition_shape.ConditionShape.{ConditionShape}
+use Rattle.gp_clauses.specs.declared.condition_shape.ConditionShape.TheVariants as conditions
 use Rattle.gp_clauses.specs.declared.shape.Operation.{Operation}
 use Rattle.gp_clauses.specs.declared.shape.Operation.TheVariants as operations
 use Rattle.gp_check.specs.declared.places.Places.{Places}
@@ -34,6 +36,12 @@ abbrev pub IsJoining : Operation → Type 0
 IsJoining operations.Dot = Unit {0}
 IsJoining operations.Join = Unit {0}
 IsJoining other = ⊥
+
+-- a condition that is neither a `not` nor a chain
+abbrev pub IsTest : ConditionShape → Type 0
+IsTest (conditions.Not c) = ⊥
+IsTest (conditions.Chain by c ds) = ⊥
+IsTest other = Unit {0}
 
 -- ---- nodes and edges
 

@@ -27,3 +27,9 @@ new-requires c = record { declaration = declaration_of c.args.rule.now; no_fault
 
 pub returns-clause-fault : goal.returns-clause-fault
 returns-clause-fault c = c.in_ok-scope.ensures.fault
+
+pub parts-requires-clause-scope : goal.parts-requires-clause-scope
+parts-requires-clause-scope c = c.in_ok-scope.ensures.scope
+
+pub parts-requires-clause-simple : goal.parts-requires-clause-simple
+parts-requires-clause-simple c = c.in_ok-scope.ensures.simple

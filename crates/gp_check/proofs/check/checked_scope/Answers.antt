@@ -1,6 +1,5 @@
 use Rattle.gp_syntax.specs.Tree.{declaration_of}
 use Rattle.gp_syntax.specs.Fault.{fault_of}
-use Rattle.gp_check.specs.declared.fault.RuleFault.TheVariants as faults
 use Rattle.gp_check.proofs.Wholes.{told_by, simple_labels, names_stop, labels_stop, marks_stop, none_stop}
 use Rattle.gp_check.proofs.check.checked_scope.Goals as goal
 

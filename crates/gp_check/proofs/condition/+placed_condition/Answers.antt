@@ -1,29 +1,13 @@
-use Rattle.std.proofs.Common.{◌≡◌, ℕ, ◌<◌, Some, slice_get, fold, sym, ap, ◌∙◌, arith}
-use Rattle.gp_syntax.specs.Expression.{HasType, HasEdge, HasEdgeWith, Compared, Not}
+use Rattle.std.proofs.Common.{◌≡◌, ◌<◌, Some, slice_get, fold, sym, ap, ◌∙◌, arith}
+use Rattle.gp_syntax.specs.Expression.{Not}
 use Rattle.gp_syntax.specs.Tree.{condition_of, pattern_of}
-use Rattle.gp_syntax.proofs.Trees.{condition_of-HasType, condition_of-HasEdge, condition_of-HasEdgeWith, condition_of-Compared, condition_of-Not}
+use Rattle.gp_syntax.proofs.Trees.{condition_of-Not}
 use Rattle.gp_clauses.specs.inside.Size.{condition_size}
 use Rattle.gp_clauses.specs.inside.ConditionShapes.{named_condition, connected}
 use Rattle.gp_clauses.proofs.Walks.{fold_step, fold_ended, item_at}
 use Rattle.gp_check.specs.inside.Placed.{placed_condition_in}
-use Rattle.gp_check.proofs.Placing.{with_placed_part, placed_condition_chain}
+use Rattle.gp_check.proofs.Placing.{is_test, with_placed_part, placed_condition_chain}
 use Rattle.gp_check.proofs.condition.+placed_condition.Goals as goal
-
-pub returns-in_ok-e-in-HasType : goal.returns-in_ok-e-in-HasType
-returns-in_ok-e-in-HasType t c = condition_of-HasType {R = ℕ} pattern_of c.in-HasType.wanted c.in_ok-e-in-HasType.e ∙ ap (HasType c.in-HasType.wanted) c.in_ok-e-in-HasType.ensures ∙ ap (placed_condition_in c.args.places) (sym c.in-HasType.ensures.whole)
-
-pub returns-in_ok-target-in-HasEdge : goal.returns-in_ok-target-in-HasEdge
-returns-in_ok-target-in-HasEdge t c =
-    condition_of-HasEdge {R = ℕ} pattern_of c.in_ok-source-in-HasEdge.source c.in_ok-target-in-HasEdge.target ∙ (λ i. HasEdge (c.in_ok-source-in-HasEdge.ensures i) (c.in_ok-target-in-HasEdge.ensures i)) ∙ ap (placed_condition_in c.args.places) (sym c.in-HasEdge.ensures.whole)
-
-pub returns-in_ok-label-in-HasEdgeWith : goal.returns-in_ok-label-in-HasEdgeWith
-returns-in_ok-label-in-HasEdgeWith t c =
-    condition_of-HasEdgeWith {R = ℕ} pattern_of c.in_ok-source-in-HasEdgeWith.source c.in_ok-target-in-HasEdgeWith.target c.in_ok-label-in-HasEdgeWith.label c.edge_pattern.result
-    ∙ (λ i. HasEdgeWith (c.in_ok-source-in-HasEdgeWith.ensures i) (c.in_ok-target-in-HasEdgeWith.ensures i) (c.in_ok-label-in-HasEdgeWith.ensures i) (c.edge_pattern.ensures i)) ∙ ap (placed_condition_in c.args.places) (sym c.in-HasEdgeWith.ensures.whole)
-
-pub returns-in_ok-e-in-Compared : goal.returns-in_ok-e-in-Compared
-returns-in_ok-e-in-Compared t c =
-    condition_of-Compared {R = ℕ} pattern_of c.in-Compared.comparison c.in_ok-d-in-Compared.d c.in_ok-e-in-Compared.e ∙ (λ i. Compared c.in-Compared.comparison (c.in_ok-d-in-Compared.ensures i) (c.in_ok-e-in-Compared.ensures i)) ∙ ap (placed_condition_in c.args.places) (sym c.in-Compared.ensures.whole)
 
 pub returns-in_ok-new-in-Not : goal.returns-in_ok-new-in-Not
 returns-in_ok-new-in-Not t c =
@@ -57,3 +41,9 @@ parts-preserved t c =
     let at : slice_get c.in-Chain.rest.now c.parts.part-index ≡ Some c.part-item.result = item_at c.in-Chain.rest.now _ _ c.parts-test.true c.part-item.is in
     fold_step (with_placed_part c.args.places c.in-Chain.by) c.in-Chain.rest.now c.parts.part-index _ (condition_of pattern_of c.parts.total) _ _ at
     (c.in_ok-total-in-Chain-2.ensures ∙ ap (connected c.in-Chain.by (condition_of pattern_of c.parts.total)) c.in_ok-next-in-Chain.ensures) c.parts.invariant
+
+pub placed_test-requires : goal.placed_test-requires
+placed_test-requires t c = is_test c.condition_shape_of-shape.result c.in_default.not-Not c.in_default.not-Chain
+
+pub returns-in_default : goal.returns-in_default
+returns-in_default t c = rw (ap (placed_condition_in c.args.places) (sym c.condition_shape_of-shape.ensures.whole)) at c.placed_test.ensures

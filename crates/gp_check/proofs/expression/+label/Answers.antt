@@ -1,4 +1,4 @@
-use Rattle.std.proofs.Common.{rules, ◌<◌, fold, sym, ap, ◌∙◌, arith}
+use Rattle.std.proofs.Common.{◌<◌, fold, sym, ap, ◌∙◌, arith}
 use Rattle.gp_syntax.specs.Expression.{Variable, Text}
 use Rattle.gp_syntax.specs.Tree.{expression_of, label_of}
 use Rattle.gp_syntax.proofs.Trees.{label_of-Text, label_of-Variable, label_of-Empty}
@@ -24,13 +24,14 @@ returns-in-Empty t c = label_of-Empty ∙ ap (placed_in c.args.places) (sym c.in
 pub label-requires : goal.label-requires
 label-requires t c =
     let p = plain_chain (expression_of c.in-Chain.first.now) (operands c.in-Chain.links) (rw c.in-Chain.ensures.whole at c.requires) in
-    search rules
+    let l : size c.in-Chain.first.now < size c.args.e.now = c.in-Chain.ensures.smaller.0 in
+    (omega arith, p.0)
 
 pub label-requires-in-operands : goal.label-requires-in-operands
 label-requires-in-operands t c =
     let p = (plain_chain (expression_of c.in-Chain.first.now) (operands c.in-Chain.links) (rw c.in-Chain.ensures.whole at c.requires)).1 c.operands.at _ c.get-operation.ensures in
     let l : size c.get-operation.result.1.now < size c.args.e.now = c.in-Chain.ensures.smaller.1 c.operands.at _ c.get-operation.ensures in
-    search rules
+    (omega arith, p.operand)
 
 pub with_label-requires : goal.with_label-requires
 with_label-requires t c = ((plain_chain (expression_of c.in-Chain.first.now) (operands c.in-Chain.links) (rw c.in-Chain.ensures.whole at c.requires)).1 c.operands.at _ c.get-operation.ensures).joining

@@ -1,4 +1,4 @@
-use Rattle.std.proofs.Common.{rules, ℕ, ◌<◌, fold, sym, ap, ◌∙◌, arith}
+use Rattle.std.proofs.Common.{ℕ, ◌<◌, fold, sym, ap, ◌∙◌, arith}
 use Rattle.gp_syntax.specs.Expression.{Negated, Variable, In_degree, Out_degree, Length_of, Text}
 use Rattle.gp_syntax.specs.Tree.{expression_of}
 use Rattle.gp_syntax.proofs.Trees.{expression_of-Text, expression_of-Variable, expression_of-InDegree, expression_of-OutDegree, expression_of-Length, expression_of-Empty, expression_of-Negated}
@@ -25,7 +25,17 @@ returns-in_ok-new-in-Negated t c =
 pub placed-requires-in-operands : goal.placed-requires-in-operands
 placed-requires-in-operands t c =
     let l : size c.get-operation.result.1.now < size c.args.e.now = c.in-Chain.ensures.smaller.1 c.operands.at _ c.get-operation.ensures in
-    search rules
+    (omega arith, tt)
+
+pub placed-requires : goal.placed-requires
+placed-requires t c =
+    let l : size c.in-Negated.operand.now < size c.args.e.now = c.in-Negated.ensures.smaller in
+    (omega arith, tt)
+
+pub placed-requires-in-Chain : goal.placed-requires-in-Chain
+placed-requires-in-Chain t c =
+    let l : size c.in-Chain.first.now < size c.args.e.now = c.in-Chain.ensures.smaller.0 in
+    (omega arith, tt)
 
 pub operands-preserved : goal.operands-preserved
 operands-preserved t c =

@@ -1,4 +1,4 @@
-use Rattle.std.proofs.Common.{rules, ◌<◌, refl, sym, subst, ap, ◌∙◌, arith}
+use Rattle.std.proofs.Common.{◌<◌, refl, sym, subst, ap, ◌∙◌, arith}
 use Rattle.gp_syntax.specs.Tree.{expression_of}
 use Rattle.gp_clauses.specs.inside.Shapes.{operands}
 use Rattle.gp_clauses.specs.inside.Size.{size}
@@ -23,7 +23,7 @@ operands-preserved t c =
 pub facts_in-next-requires : goal.facts_in-next-requires
 facts_in-next-requires t c =
     let l : size c.get-operation.result.1.now < size c.args.e.now = c.in-Chain.ensures.smaller.1 c.operands.at _ c.get-operation.ensures in
-    search rules
+    (omega arith, tt)
 
 pub combined-total-requires : goal.combined-total-requires
 combined-total-requires t c =
@@ -35,3 +35,13 @@ pub returns-after-operands : goal.returns-after-operands
 returns-after-operands t c =
     rw (c.in-Chain.ensures.whole, facts_chain (type_by c.args.variables.now) (expression_of c.in-Chain.first.now) (operands c.in-Chain.links), ← c.facts_in-total.ensures)
     (sym (fold_ended (with_facts (type_by c.args.variables.now)) (operands c.in-Chain.links) c.operands.at c.operands.total (omega arith)) ∙ c.operands.invariant.0)
+
+pub facts_in-requires : goal.facts_in-requires
+facts_in-requires t c =
+    let l : size c.in-Negated.operand.now < size c.args.e.now = c.in-Negated.ensures.smaller in
+    (omega arith, tt)
+
+pub facts_in-total-requires : goal.facts_in-total-requires
+facts_in-total-requires t c =
+    let l : size c.in-Chain.first.now < size c.args.e.now = c.in-Chain.ensures.smaller.0 in
+    (omega arith, tt)

@@ -1,10 +1,11 @@
-use Rattle.std.proofs.Common.{◌≡◌, Some, slice_get, refl, sym, ap, ◌∙◌, arith}
+use Rattle.std.proofs.Common.{◌≡◌, ◌<◌, Some, slice_get, refl, sym, ap, ◌∙◌, arith}
 use Rattle.std.specs.Option.{option_or}
 use Rattle.std.proofs.lemmas.Option.{slice_get_read}
 use Rattle.gp_syntax.specs.Tree.{expression_of}
 use Rattle.gp_syntax.specs.Fault.{first_told}
+use Rattle.gp_clauses.specs.inside.Size.{condition_size}
 use Rattle.gp_clauses.specs.inside.ConditionShapes.{named_condition}
-use Rattle.gp_clauses.proofs.Walks.{told_here, told_ended}
+use Rattle.gp_clauses.proofs.Walks.{untold, told_here, told_ended, item_at}
 use Rattle.gp_clauses.proofs.Knowns.{unknown_in_part, unknown_condition_chain, unknown-Compared}
 use Rattle.gp_clauses.proofs.known.+unknown_in_condition.Goals as goal
 
@@ -28,3 +29,24 @@ returns-after-parts t c =
     let ds = c.in-Chain.rest.now in
     rw (c.in-Chain.ensures.whole, unknown_condition_chain c.args.known c.in-Chain.field-0 (named_condition c.in-Chain.first.now) ds, ← c.in_default.ensures)
     (sym (told_ended (unknown_in_part c.args.known) ds c.parts.part-index (omega arith)) ∙ c.parts.invariant)
+
+pub unknown_in_condition-requires : goal.unknown_in_condition-requires
+unknown_in_condition-requires t c =
+    let l : condition_size c.in-Not.part.now < condition_size c.args.c.now = c.in-Not.ensures.smaller in
+    (omega arith, tt)
+
+pub unknown_in_condition-requires-in-Chain : goal.unknown_in_condition-requires-in-Chain
+unknown_in_condition-requires-in-Chain t c =
+    let l : condition_size c.in-Chain.first.now < condition_size c.args.c.now = c.in-Chain.ensures.smaller.0 in
+    (omega arith, tt)
+
+pub unknown_in_condition-requires-in-parts : goal.unknown_in_condition-requires-in-parts
+unknown_in_condition-requires-in-parts t c =
+    let at : slice_get c.in-Chain.rest.now c.parts.part-index ≡ Some c.part-item.result = item_at c.in-Chain.rest.now _ _ c.parts-test.true c.part-item.is in
+    let l : condition_size c.part-item.result < condition_size c.args.c.now = c.in-Chain.ensures.smaller.1 c.parts.part-index _ at in
+    (omega arith, tt)
+
+pub parts-preserved : goal.parts-preserved
+parts-preserved t c =
+    let ds = c.in-Chain.rest.now in
+    untold (unknown_in_part c.args.known) ds c.parts.part-index _ (item_at ds _ _ c.parts-test.true c.part-item.is) (sym c.in_default-unknown_in_condition.ensures) ∙ c.parts.invariant
