@@ -1,5 +1,6 @@
 pub mod Faults
 pub mod Making
+pub mod Finding
 pub mod Built
 pub mod Grammars
 pub mod Hosts

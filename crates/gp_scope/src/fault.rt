@@ -3,10 +3,11 @@
 use gp_memory::NoMemory as Refused;
 use gp_syntax::Name;
 use std::alloc::AllocError;
+use std::fmt::{Debug, Display, Formatter, Result, Write};
 use thiserror::Error;
 
 /// The first fault of scope of a program text, with the name of a rule or a procedure where it carries one.
-#[derive(Debug, Drop, Error)]
+#[derive(Drop, Error)]
 pub enum ScopeFault {
     /// Main is not declared outside all procedures.
     #[error("Main is not declared")]
@@ -32,6 +33,13 @@ pub enum ScopeFault {
     /// Memory was refused.
     #[error("memory was refused")]
     NoMemory,
+}
+
+// As it is shown to users.
+impl Debug for ScopeFault {
+    fn fmt<W: Write>(&self, f: &mut Formatter<W>) -> Result {
+        Display::fmt(self, f)
+    }
 }
 
 impl From<Refused> for ScopeFault {

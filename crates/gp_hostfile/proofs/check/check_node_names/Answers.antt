@@ -1,0 +1,9 @@
+use Rattle.std.proofs.Common.{rules, ◌≡◌, true}
+use Rattle.gp_hostfile.specs.declared.tree.NodeTree.{NodeTree}
+use Rattle.gp_hostfile.proofs.Finding.{doubled_goes_on, names_go_on}
+use Rattle.gp_hostfile.proofs.check.check_node_names.Goals as goal
+
+pub loop-node-preserved : goal.loop-node-preserved
+loop-node-preserved c =
+    let new : c.in_ok-add.field-0 ≡ true = search rules in
+    (doubled_goes_on (λ (x : NodeTree). x.name) c.args.nodes.now c.loop-node.node-index c.node-item.result c.loop-node-test.true c.node-item.is c.loop-node.names c.add.new.self c.in_ok-add.field-0 (rw c.as_bytes.ensures at c.in_ok-add.ensures.new) (rw c.as_bytes.ensures at c.in_ok-add.ensures.names) new _ c.loop-node.invariant.0, names_go_on (λ (x : NodeTree). x.name) c.args.nodes.now c.loop-node.node-index c.node-item.result c.loop-node-test.true c.node-item.is c.loop-node.names c.add.new.self c.in_ok-add.field-0 (rw c.as_bytes.ensures at c.in_ok-add.ensures.new) (rw c.as_bytes.ensures at c.in_ok-add.ensures.names) new _ c.loop-node.invariant.1)
