@@ -2,6 +2,7 @@ pub mod Faults
 pub mod Making
 pub mod Finding
 pub mod Built
+pub mod Edges
 pub mod Grammars
 pub mod Hosts
 pub mod Always
