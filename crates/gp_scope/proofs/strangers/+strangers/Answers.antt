@@ -1,4 +1,4 @@
-use Rattle.std.proofs.Common.{rules, ◌≡◌, ◌∙◌, ◌+◌, ◌<◌, ◌^◌, ◌++◌, ◌∷◌, [], List, ap, sym, subst, drop, Option, Some, None, option_map, is_some, true, false, refl}
+use Rattle.std.proofs.Common.{arith, rules, ◌≡◌, ◌∙◌, ◌+◌, ◌<◌, ◌^◌, ◌++◌, ◌∷◌, [], List, ap, sym, subst, drop, Option, Some, None, option_map, is_some, true, false, refl}
 use Rattle.std.specs.Option.{option_or, option_copied}
 use Rattle.gp_values.specs.Names.{Name}
 use Rattle.gp_syntax.specs.declared.tree.Decl.{Decl}
@@ -147,3 +147,14 @@ unknown_within-returns-in-Rule-clause-once t c = rule_once c.args.declaration.no
 
 pub unknown_within-returns-after-branch-3-clause-once : goal.unknown_within-returns-after-branch-3-clause-once
 unknown_within-returns-after-branch-3-clause-once t c = procedure_once c.args.declaration.now c.in-Procedure.name c.in-Procedure.declarations c.in-Procedure.body c.in-Procedure.is
+
+pub first_unknown-count_one-requires : goal.first_unknown-count_one-requires
+first_unknown-count_one-requires t c =
+    let i = c.each.declaration-index in
+    let ds = c.args.declarations.now in
+    let few = few_here ds i c.declaration-item.result c.each.at c.each-test.true c.declaration-item.is c.each.invariant.few in
+    (outline (drop (i + 1) ds), omega (arith, few))
+
+pub first_unknown-returns-clause-told : goal.first_unknown-returns-clause-told
+first_unknown-returns-clause-told t c =
+    sym (ap (λ o. first_told unknown_of (bodies_in_text (scope_of c.args.levels.now.items) c.each.at.rules c.each.at.procedures o)) (outline_past c.args.declarations.now c.each.declaration-index c.each-test.false)) ∙ c.each.invariant.told
