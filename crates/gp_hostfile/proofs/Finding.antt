@@ -1,5 +1,5 @@
 -- The loops that look for the first fault, one item after the other.
-use Rattle.std.proofs.Common.{◌≡◌, ℕ, suc, ◌+◌, ◌<◌, ◌≤◌, List, ◌∷◌, length, get_or, drop, Option, None, Some, Bool, true, false, not, map, [], ◌++◌, refl, sym, ap, subst, append_assoc, ◌∙◌, add-one, drop-cons}
+use Rattle.std.proofs.Common.{◌≡◌, ℕ, suc, ◌+◌, ◌<◌, ◌≤◌, List, ◌∷◌, length, get_or, drop, Option, None, Some, Bool, true, false, not, map, [], ◌++◌, refl, sym, ap, subst, append_assoc, append-nil, ◌∙◌, add-one, drop-cons}
 use Rattle.std.specs.Prelude.{if◌then◌else◌}
 use Rattle.std.specs.Option.{option_or}
 use Rattle.gp_values.specs.Names.{Name, has_name, first_doubled_behind}
@@ -46,3 +46,20 @@ module _ {A : Type 0} (name : A → Name) (xs : List A) (i : ℕ) (x : A) (lt : 
   pub names_go_on : (whole : List Name) → old ++ map name (drop i xs) ≡ whole → new ++ map name (drop (i + 1) xs) ≡ whole
   names_go_on whole same =
       ap (λ l. l ++ map name (drop (i + 1) xs)) one_more ∙ append_assoc old (name x ∷ []) (map name (drop (i + 1) xs)) ∙ sym (ap (λ l. old ++ map name l) (drop_item xs i x lt is)) ∙ same
+
+old_name : (b r : Bool) → r ≡ not b → r ≡ false → b ≡ true
+old_name true r e t = refl
+old_name false r e t = cc
+
+pub doubled_stops : {A : Type 0} (name : A → Name) (xs : List A) (i : ℕ) (x : A) → i < length xs → x ≡ get_or xs i x → (old : List Name) (added : Bool) → added ≡ not (has_name old (name x)) → added ≡ false
+    → (whole : Option Name) → first_doubled_behind old (map name (drop i xs)) ≡ whole → whole ≡ Some (name x)
+doubled_stops name xs i x lt is old added was f whole same =
+    let twice = old_name (has_name old (name x)) added was f in
+    let step : first_doubled_behind old (map name (x ∷ drop (i + 1) xs)) ≡ Some (name x) = rw (twice) refl in
+    sym same ∙ ap (λ l. first_doubled_behind old (map name l)) (drop_item xs i x lt is) ∙ step
+
+pub doubled_ends : {A : Type 0} (name : A → Name) (xs : List A) (i : ℕ) (old : List Name) (whole : Option Name) → length xs ≤ i → first_doubled_behind old (map name (drop i xs)) ≡ whole → whole ≡ None
+doubled_ends name xs i old whole le same = sym same ∙ ap (λ l. first_doubled_behind old (map name l)) (drop_of_length-le xs le)
+
+pub names_end : {A : Type 0} (name : A → Name) (xs : List A) (i : ℕ) (old whole : List Name) → length xs ≤ i → old ++ map name (drop i xs) ≡ whole → old ≡ whole
+names_end name xs i old whole le same = sym (append-nil old) ∙ ap (λ l. old ++ map name l) (sym (drop_of_length-le xs le)) ∙ same
