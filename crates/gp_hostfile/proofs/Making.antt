@@ -1,16 +1,21 @@
 -- The loops that make a graph, one item after the other.
-use Rattle.std.proofs.Common.{◌≡◌, ℕ, suc, ◌+◌, ◌<◌, ◌≤◌, List, ◌∷◌, length, get_or, drop, Option, Some, refl, sym, ap, ◌∙◌, add-one, drop-cons}
+use Rattle.std.proofs.Common.{◌≡◌, [], ◌++◌, append_assoc, append-nil, ℕ, suc, ◌+◌, ◌<◌, ◌≤◌, List, ◌∷◌, length, get_or, drop, Option, Some, refl, sym, ap, ◌∙◌, None, add-one, drop-cons}
+use Rattle.std.specs.Prelude.{option_map}
 use Rattle.std.proofs.Math.ListN.{drop_of_length-le}
 use Rattle.gp_grammar.specs.inside.Reading.{◌>>=◌}
-use Rattle.gp_values.specs.Names.{Name}
-use Rattle.gp_values.specs.Graph.{Graph}
+use Rattle.gp_values.specs.declared.atom.Atom.{Atom}
+use Rattle.gp_values.specs.declared.marks.EdgeMark.{EdgeMark}
+use Rattle.gp_values.specs.Names.{Name, place_of}
+use Rattle.gp_values.specs.Graph.{Graph, with_edge}
+use Rattle.gp_hostfile.specs.declared.tree.AtomTree.{AtomTree}
 use Rattle.gp_hostfile.specs.declared.tree.NodeTree.{NodeTree}
 use Rattle.gp_hostfile.specs.declared.tree.EdgeTree.{EdgeTree}
 use Rattle.gp_hostfile.specs.declared.fault.HostFault.{HostFault}
 use Rattle.gp_hostfile.specs.declared.fault.HostFault.TheVariants as faults
-use Rattle.gp_hostfile.specs.inside.Stages.{Fails, one_node_more, nodes_made, one_edge_more, edges_made}
+use Rattle.gp_hostfile.specs.Host.{atom_of, atoms_of, edge_mark, unless}
+use Rattle.gp_hostfile.specs.inside.Stages.{Refuses, Fails, one_node_more, nodes_made, one_edge_more, edges_made}
 
-drop_item : {A : Type 0} (xs : List A) (i : ℕ) (x : A) → i < length xs → x ≡ get_or xs i x → drop i xs ≡ x ∷ drop (i + 1) xs
+pub drop_item : {A : Type 0} (xs : List A) (i : ℕ) (x : A) → i < length xs → x ≡ get_or xs i x → drop i xs ≡ x ∷ drop (i + 1) xs
 drop_item xs i x lt is = drop-cons xs i x lt ∙ ap (λ y. y ∷ drop (suc i) xs) (sym is) ∙ rw add-one refl
 
 pub failed : {A B : Type 0} (e : HostFault) (made : Option A) (f : A → Option B) (whole : Option B) → Fails e made → (made >>= f) ≡ whole → Fails e whole
@@ -54,3 +59,78 @@ module _ (nodes : List Name) (es : List EdgeTree) (i : ℕ) (e : EdgeTree) (lt :
 pub edges_end : (nodes : List Name) (es : List EdgeTree) (i : ℕ) (old : Graph) (whole : Option Graph) → length es ≤ i → edges_made nodes (drop i es) old ≡ whole → whole ≡ Some old
 unfolding edges_made
 edges_end nodes es i old whole le same = sym same ∙ ap (λ xs. edges_made nodes xs old) (drop_of_length-le es le)
+
+-- ---- parts of a node or an edge
+
+stays : (B : Type 0) (e : HostFault) → Fails {Y = B} e None
+stays B faults.NoMemory = tt
+stays B (faults.Lex x) = refl
+stays B (faults.Syntax k) = refl
+stays B (faults.NumberRange at) = refl
+stays B (faults.TwoNodes n) = refl
+stays B (faults.TwoEdges n) = refl
+stays B (faults.NoSuchEnd n) = refl
+stays B (faults.WrongMark n) = refl
+
+unrefused : {B : Type 0} (e : HostFault) (made : Option B) → Refuses e None → Fails e made
+unrefused faults.NoMemory made h = tt
+unrefused (faults.Lex x) made h = absurd cc
+unrefused (faults.Syntax k) made h = absurd cc
+unrefused (faults.NumberRange at) made h = absurd cc
+unrefused (faults.TwoNodes n) made h = absurd cc
+unrefused (faults.TwoEdges n) made h = absurd cc
+unrefused (faults.NoSuchEnd n) made h = absurd cc
+unrefused (faults.WrongMark n) made h = absurd cc
+
+not_found : {A B : Type 0} (e fault : HostFault) (found : Option A) (f : A → Option B) → Refuses e (unless fault found) → Fails e (found >>= f)
+not_found e fault None f h = stays _ e
+not_found e fault (Some x) f h = unrefused e (f x) h
+
+module _ (nodes : List Name) (e : EdgeTree) (g : Graph) where
+  pub source_missing : (r fault : HostFault) → Refuses r (unless fault (place_of nodes e.source)) → Fails r (one_edge_more nodes e g)
+  source_missing r fault h = not_found r fault (place_of nodes e.source) _ h
+
+  module _ (s : ℕ) (from : place_of nodes e.source ≡ Some s) where
+    pub target_missing : (r fault : HostFault) → Refuses r (unless fault (place_of nodes e.target)) → Fails r (one_edge_more nodes e g)
+    target_missing r fault h = rw (from) (not_found r fault (place_of nodes e.target) _ h)
+
+    module _ (t : ℕ) (to : place_of nodes e.target ≡ Some t) where
+      pub mark_missing : (r fault : HostFault) → Refuses r (unless fault (edge_mark e.mark)) → Fails r (one_edge_more nodes e g)
+      mark_missing r fault h = rw (from, to) (not_found r fault (edge_mark e.mark) _ h)
+
+      module _ (m : EdgeMark) (marked : edge_mark e.mark ≡ Some m) where
+        pub label_missing : (r : HostFault) → Fails r (atoms_of e.label) → Fails r (one_edge_more nodes e g)
+        label_missing r h = rw (from, to, marked) (failed r (atoms_of e.label) _ _ h refl)
+
+        pub edge_made : (v : List Atom) → atoms_of e.label ≡ Some v → one_edge_more nodes e g ≡ Some (with_edge g (record { source = s; target = t; label = v; mark = m }))
+        edge_made v labelled = rw (from, to, marked, labelled) refl
+
+-- ---- the atoms of a label
+
+over_bind : {A B C : Type 0} (f : B → C) (o : Option A) (g : A → Option B) → option_map f (o >>= g) ≡ (o >>= λ x. option_map f (g x))
+over_bind f None g = refl
+over_bind f (Some x) g = refl
+
+behind_one : (old : List Atom) (v : Atom) (r : Option (List Atom)) → option_map (λ xs. (old ++ v ∷ []) ++ xs) r ≡ option_map (λ xs. old ++ xs) (option_map (λ xs. v ∷ xs) r)
+behind_one old v None = refl
+behind_one old v (Some xs) = ap Some (append_assoc old (v ∷ []) xs)
+
+module _ (label : List AtomTree) (i : ℕ) (a : AtomTree) (lt : i < length label) (is : a ≡ get_or label i a) (old : List Atom) (whole : Option (List Atom))
+    (same : option_map (λ xs. old ++ xs) (atoms_of (drop i label)) ≡ whole) where
+  abbrev rest : Option (List Atom)
+  rest = atoms_of (drop (i + 1) label)
+
+  atom_link : (atom_of a >>= λ x. option_map (λ xs. old ++ xs) (option_map (λ xs. x ∷ xs) rest)) ≡ whole
+  atom_link =
+      sym (over_bind (λ xs. old ++ xs) (atom_of a) (λ x. option_map (λ xs. x ∷ xs) rest))
+      ∙ ap (λ l. option_map (λ xs. old ++ xs) (atoms_of l)) (sym (drop_item label i a lt is)) ∙ same
+
+  pub atoms_go_on : (v : Atom) (new : List Atom) → atom_of a ≡ Some v → new ≡ old ++ v ∷ [] → option_map (λ xs. new ++ xs) rest ≡ whole
+  atoms_go_on v new h more =
+      ap (λ l. option_map (λ xs. l ++ xs) rest) more ∙ behind_one old v rest ∙ sym (ap (λ o. o >>= λ x. option_map (λ xs. old ++ xs) (option_map (λ xs. x ∷ xs) rest)) h) ∙ atom_link
+
+  pub atoms_stop : (e : HostFault) → Fails e (atom_of a) → Fails e whole
+  atoms_stop e h = failed e (atom_of a) _ whole h atom_link
+
+pub atoms_end : (label : List AtomTree) (i : ℕ) (old : List Atom) (whole : Option (List Atom)) → length label ≤ i → option_map (λ xs. old ++ xs) (atoms_of (drop i label)) ≡ whole → whole ≡ Some old
+atoms_end label i old whole le same = sym same ∙ ap (λ l. option_map (λ xs. old ++ xs) (atoms_of l)) (drop_of_length-le label le) ∙ ap Some (append-nil old)

@@ -1,3 +1,4 @@
 pub mod Stages
 pub mod Lines
 pub mod Held
+pub mod Edges

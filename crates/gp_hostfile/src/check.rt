@@ -3,7 +3,7 @@
 ghost use Rattle.std.specs.Prelude.{◌≡◌, map, IfOk, option_map};
 ghost use Rattle.std.specs.Option.{option_or};
 ghost use Rattle.gp_grammar.specs.Numerals.{signed};
-ghost use Rattle.gp_values.specs.Names.{place_of, first_doubled};
+ghost use Rattle.gp_values.specs.Names.{place_of, first_doubled, same_name};
 ghost use Rattle.gp_hostfile.specs.Host.{node_mark, edge_mark, first_found, first_fault, first_out_of_range, first_wrong_mark, node_names};
 ghost use Rattle.gp_hostfile.specs.inside.Stages.{Checks, Finds, tree_in, atom_fault, label_fault, ends_fault, node_mark_fault, edge_mark_fault};
 ghost use Rattle.gp_hostfile.specs.declared.fault.HostFault.TheVariants as faults;
@@ -183,18 +183,24 @@ fn node_mark_of(word: &Option<Slice<'_>>) -> Option<NodeMark>
     let Some(word) = word else {
         return Some(NodeMark::None);
     };
-    let word = word.as_bytes();
-    if word == b"red".as_slice() {
+    if says(word, b"red") {
         Some(NodeMark::Red)
-    } else if word == b"green".as_slice() {
+    } else if says(word, b"green") {
         Some(NodeMark::Green)
-    } else if word == b"blue".as_slice() {
+    } else if says(word, b"blue") {
         Some(NodeMark::Blue)
-    } else if word == b"grey".as_slice() {
+    } else if says(word, b"grey") {
         Some(NodeMark::Grey)
     } else {
         None
     }
+}
+
+// Whether the word is spelled by these letters.
+fn says(word: &Slice<'_>, letters: &[u8]) -> bool
+    ensures { result ≡ same_name word.now letters.now }
+{
+    word.as_bytes() == letters
 }
 
 /// The mark of an edge, or the fault that its word is none.
@@ -213,14 +219,13 @@ fn edge_mark_of(word: &Option<Slice<'_>>) -> Option<EdgeMark>
     let Some(word) = word else {
         return Some(EdgeMark::None);
     };
-    let word = word.as_bytes();
-    if word == b"red".as_slice() {
+    if says(word, b"red") {
         Some(EdgeMark::Red)
-    } else if word == b"green".as_slice() {
+    } else if says(word, b"green") {
         Some(EdgeMark::Green)
-    } else if word == b"blue".as_slice() {
+    } else if says(word, b"blue") {
         Some(EdgeMark::Blue)
-    } else if word == b"dashed".as_slice() {
+    } else if says(word, b"dashed") {
         Some(EdgeMark::Dashed)
     } else {
         None

@@ -3,11 +3,12 @@
 use gp_memory::NoMemory;
 use gp_tokens::{LexFault, Text};
 use std::alloc::AllocError;
+use std::fmt::{Debug, Display, Formatter, Result, Write};
 use thiserror::Error;
 
 /// Why a host text gave no graph: its first fault, in the order of these variants. Those of one variant go by the
 /// order of the text, and those of nodes come before those of edges.
-#[derive(Debug, Drop, Error)]
+#[derive(Drop, Error)]
 pub enum HostFault {
     /// The text has no tokens, and this is why.
     #[error("{0}")]
@@ -34,6 +35,13 @@ pub enum HostFault {
     /// Memory was refused.
     #[error("NoMemory")]
     NoMemory,
+}
+
+// As it is shown to users.
+impl Debug for HostFault {
+    fn fmt<W: Write>(&self, f: &mut Formatter<W>) -> Result {
+        Display::fmt(self, f)
+    }
 }
 
 impl From<NoMemory> for HostFault {

@@ -4,6 +4,7 @@ ghost use Rattle.std.specs.Prelude.{◌≡◌};
 ghost use Rattle.gp_grammar.specs.inside.Cursor.{Reads, ReadsAs};
 ghost use Rattle.gp_grammar.specs.inside.Reading.{reader_of};
 ghost use Rattle.gp_hostfile.specs.Grammar as spec;
+ghost use Rattle.gp_hostfile.specs.inside.Edges.{rest_of_edge};
 
 use crate::tree::{AtomTree, AtomTrees, EdgeTree, HostTree, NodeTree};
 use gp_grammar::{ReadError, Tokens, Want, repeated_by, separated_by, stands_before};
@@ -154,6 +155,17 @@ fn read_edge<'t>(tokens: &mut Tokens<'_, 't>, _nothing: ()) -> Result<EdgeTree<'
     tokens.expect(OPEN)?;
     let name = tokens.expect(Want::Item)?;
     tokens.expect(COMMA)?;
+    read_rest_of_edge(tokens, name.text.again())
+}
+
+// Item "," Item "," Label ")", behind the name of an edge
+#[tactic(auto, unfolding(crate::specs::inside::Edges::rest_of_edge))]
+fn read_rest_of_edge<'t>(
+    tokens: &mut Tokens<'_, 't>,
+    name: Slice<'t>,
+) -> Result<EdgeTree<'t>, ReadError>
+    ensures { Reads (reader_of (rest_of_edge name.entry) tokens.old) result tokens.new }
+{
     let source = tokens.expect(Want::Item)?;
     tokens.expect(COMMA)?;
     let target = tokens.expect(Want::Item)?;
@@ -161,7 +173,7 @@ fn read_edge<'t>(tokens: &mut Tokens<'_, 't>, _nothing: ()) -> Result<EdgeTree<'
     let (label, mark) = read_label(tokens)?;
     tokens.expect(CLOSE)?;
     Ok(EdgeTree {
-        name: name.text.again(),
+        name,
         source: source.text.again(),
         target: target.text.again(),
         label,

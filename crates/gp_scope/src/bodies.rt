@@ -11,7 +11,7 @@ ghost use Rattle.gp_scope.specs.inside.Surveys.{declarations_in};
 ghost use Rattle.gp_scope.specs.inside.Declares.{KeepsOnce, Stands};
 ghost use Rattle.gp_scope.specs.inside.Numbering.{Numbers, numbered_of, with_command, with_body, with_bodies};
 
-use crate::declare::level_of;
+use crate::declare::enter;
 use crate::few::declaration_count;
 use crate::level::Level;
 use crate::number::number;
@@ -42,28 +42,16 @@ impl Drop for Bodies {
 }
 
 impl Bodies {
-    // With the body of this name. A second Main is left out.
-    fn with(self, name: &Name, command: Command) -> Result<Bodies, NoMemory>
-        ensures { IfOk result (λ b. numbered_of b ≡ with_command (numbered_of self) name.now (command_of command)) }
+    // Puts the body of this name in. A second Main is left out.
+    fn put(&mut self, name: &Name, command: Command) -> Result<(), NoMemory>
+        ensures { OnOk result (numbered_of self.new ≡ with_command (numbered_of self.old) name.now (command_of command)) }
     {
-        let Bodies {
-            main,
-            mut procedures,
-            sets,
-        } = self;
-        if is_main(name) {
-            return Ok(Bodies {
-                main: main.or(Some(command)),
-                procedures,
-                sets,
-            });
+        if !is_main(name) {
+            self.procedures.push(command)?;
+        } else if self.main.is_none() {
+            self.main = Some(command);
         }
-        procedures.push(command)?;
-        Ok(Bodies {
-            main,
-            procedures,
-            sets,
-        })
+        Ok(())
     }
 
     /// The body of Main, those of procedures, and the sets.
@@ -95,80 +83,79 @@ pub fn bodies_of(alloc: Global, declarations: &[Decl]) -> Result<Bodies, NoMemor
         mains: 0,
     };
     let mut levels = Vec::new(alloc);
-    levels.push(level_of(alloc, declarations, top)?)?;
-    let none = Bodies {
+    enter(alloc, declarations, top, &mut levels)?;
+    let mut all = Bodies {
         main: None,
         procedures: Vec::new(alloc),
         sets: Vec::new(alloc),
     };
-    with_bodies(alloc, declarations, &mut levels, top, none)
+    put_bodies(alloc, declarations, &mut levels, top, &mut all)?;
+    Ok(all)
 }
 
-// With the bodies of these declarations, behind so many.
+// Puts the bodies of these declarations in, behind so many.
 #[cycle(bodies)]
-fn with_bodies(
+fn put_bodies(
     alloc: Global,
     declarations: &[Decl],
     levels: &mut Vec<Level>,
     first: Survey,
-    done: Bodies,
-) -> Result<Bodies, NoMemory>
+    done: &mut Bodies,
+) -> Result<(), NoMemory>
     requires once { doubled_behind [] (outline declarations.now) ≡ None }
     requires few { first.rules + first.procedures + first.mains + declarations_in (outline declarations.now) < 2 ^ 32 }
-    ensures bodies { IfOk result (λ b. numbered_of b ≡ with_bodies (numbered_of done) (bodies (scope_of levels.old.items) first.rules first.procedures (outline declarations.now))) }
+    ensures bodies { OnOk result (numbered_of done.new ≡ with_bodies (numbered_of done.old) (bodies (scope_of levels.old.items) first.rules first.procedures (outline declarations.now))) }
     ensures levels { OnOk result (levels.new.items ≡ levels.old.items) }
 {
     let mut at = first;
-    let mut done = done;
     'each: for declaration in declarations {
-        done = with_own(alloc, declaration, levels, at, done)?;
+        put_own(alloc, declaration, levels, at, done)?;
         at = at.plus(count_one(declaration));
     }
-    Ok(done)
+    Ok(())
 }
 
-// With those of one declaration.
+// Puts those of one declaration in.
 #[cycle(bodies)]
-fn with_own(
+fn put_own(
     alloc: Global,
     declaration: &Decl,
     levels: &mut Vec<Level>,
     at: Survey,
-    done: Bodies,
-) -> Result<Bodies, NoMemory>
+    done: &mut Bodies,
+) -> Result<(), NoMemory>
     requires { Stands declaration.now at }
-    ensures bodies { IfOk result (λ b. Numbers declaration.now (scope_of levels.old.items) at.rules at.procedures (numbered_of done) (numbered_of b)) }
+    ensures bodies { OnOk result (Numbers declaration.now (scope_of levels.old.items) at.rules at.procedures (numbered_of done.old) (numbered_of done.new)) }
     ensures levels { OnOk result (levels.new.items ≡ levels.old.items) }
     ensures once { OnOk result (KeepsOnce declaration.now) }
 {
     match declaration {
-        Decl::Rule(_) => Ok(done),
+        Decl::Rule(_) => Ok(()),
         Decl::Procedure {
             name,
             declarations,
             body,
         } => {
             let within = at.with_procedure(name);
-            levels.push(level_of(alloc, declarations.as_slice(), within)?)?;
-            let done = with_body(alloc, levels.as_slice(), name, body, done)?;
-            let done = with_bodies(alloc, declarations.as_slice(), levels, within, done)?;
+            enter(alloc, declarations.as_slice(), within, levels)?;
+            put_body(alloc, levels.as_slice(), name, body, done)?;
+            put_bodies(alloc, declarations.as_slice(), levels, within, done)?;
             levels.pop();
-            Ok(done)
+            Ok(())
         }
     }
 }
 
-// With one body.
-fn with_body(
+// Puts one body in.
+fn put_body(
     alloc: Global,
     levels: &[Level],
     name: &Name,
     body: &CommandTree,
-    done: Bodies,
-) -> Result<Bodies, NoMemory>
-    ensures { IfOk result (λ b. numbered_of b ≡ with_body (numbered_of done) (record { name = name.now; scope = scope_of levels.now; command = named body.now })) }
+    done: &mut Bodies,
+) -> Result<(), NoMemory>
+    ensures { OnOk result (numbered_of done.new ≡ with_body (numbered_of done.old) (record { name = name.now; scope = scope_of levels.now; command = named body.now })) }
 {
-    let mut done = done;
     let command = number(alloc, levels, body, &mut done.sets)?;
-    done.with(name, command)
+    done.put(name, command)
 }

@@ -6,7 +6,7 @@ ghost use Rattle.gp_scope.specs.Outline.{outline};
 ghost use Rattle.gp_scope.specs.Fault.{Fault, fault_of_names, told, doubled_behind, unknown_name};
 ghost use Rattle.gp_scope.specs.inside.Surveys.{declarations_in};
 
-use crate::declare::level_of;
+use crate::declare::enter;
 use crate::doubled::first_doubled;
 use crate::fault::ScopeFault;
 use crate::few::declaration_count;
@@ -52,6 +52,6 @@ fn unknown_name<'a>(alloc: Global, declarations: &'a [Decl]) -> Result<Option<&'
         mains: 0,
     };
     let mut levels = Vec::new(alloc);
-    levels.push(level_of(alloc, declarations, top)?)?;
+    enter(alloc, declarations, top, &mut levels)?;
     first_unknown(alloc, declarations, &mut levels, top)
 }

@@ -1,6 +1,6 @@
 //! What declarations among one another give names to.
 
-ghost use Rattle.std.specs.Prelude.{◌≡◌, ◌+◌, ◌<◌, ◌^◌, [], false, IfOk, OnOk};
+ghost use Rattle.std.specs.Prelude.{◌≡◌, ◌+◌, ◌<◌, ◌^◌, [], ◌∷◌, ◌++◌, false, IfOk, OnOk};
 ghost use Rattle.gp_values.specs.Names.{has_name};
 ghost use Rattle.gp_scope.specs.Outline.{outline};
 ghost use Rattle.gp_scope.specs.Names.{entries};
@@ -55,12 +55,8 @@ fn declare(
     }
 }
 
-/// The names of these declarations with their meanings, behind so many rules and procedures.
-pub(crate) fn level_of(
-    alloc: Global,
-    declarations: &[Decl],
-    first: Survey,
-) -> Result<Level, NoMemory>
+// The names of these declarations with their meanings, behind so many rules and procedures.
+fn level_of(alloc: Global, declarations: &[Decl], first: Survey) -> Result<Level, NoMemory>
     requires once { doubled_behind [] (outline declarations.now) ≡ None }
     requires few { first.rules + first.procedures + first.mains + declarations_in (outline declarations.now) < 2 ^ 32 }
     ensures { IfOk result (λ l. l ≡ entries first.rules first.procedures (outline declarations.now)) }
@@ -73,4 +69,20 @@ pub(crate) fn level_of(
         at = at.plus(count_one(declaration));
     }
     Ok(level)
+}
+
+/// Puts the level of these declarations behind those that are there.
+pub(crate) fn enter(
+    alloc: Global,
+    declarations: &[Decl],
+    first: Survey,
+    levels: &mut Vec<Level>,
+) -> Result<(), NoMemory>
+    requires once { doubled_behind [] (outline declarations.now) ≡ None }
+    requires few { first.rules + first.procedures + first.mains + declarations_in (outline declarations.now) < 2 ^ 32 }
+    ensures { OnOk result (levels.new.items ≡ levels.old.items ++ entries first.rules first.procedures (outline declarations.now) ∷ []) }
+{
+    let level = level_of(alloc, declarations, first)?;
+    levels.push(level)?;
+    Ok(())
 }

@@ -9,7 +9,7 @@ ghost use Rattle.gp_scope.specs.inside.Levels.{scope_of};
 ghost use Rattle.gp_scope.specs.inside.Surveys.{declarations_in};
 ghost use Rattle.gp_scope.specs.inside.Declares.{KeepsOnce, Stands, TellsUnknown, unknown_of};
 
-use crate::declare::level_of;
+use crate::declare::enter;
 use crate::level::Level;
 use crate::survey::{Survey, count_one};
 use crate::unknown::unknown_in;
@@ -63,7 +63,7 @@ fn unknown_within<'a>(
             body,
         } => {
             let within = at.with_procedure(name);
-            levels.push(level_of(alloc, declarations.as_slice(), within)?)?;
+            enter(alloc, declarations.as_slice(), within, levels)?;
             let found = match first_unknown(alloc, declarations.as_slice(), levels, within)? {
                 None => unknown_in(levels.as_slice(), body),
                 found => found,

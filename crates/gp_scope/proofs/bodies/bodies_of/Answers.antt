@@ -11,11 +11,11 @@ use Rattle.gp_scope.specs.inside.Numbering.{Numbered, numbered_of, with_bodies}
 use Rattle.gp_scope.proofs.All_bodies.{all_sets, all_procedures, all_mains, main_has_body, main_found, names_in_order}
 use Rattle.gp_scope.proofs.bodies.bodies_of.Goals as goal
 
-pub level_of-requires-clause-once : goal.level_of-requires-clause-once
-level_of-requires-clause-once c = (names_in_order (outline c.args.declarations.now) c.requires).1
+pub enter-requires-clause-once : goal.enter-requires-clause-once
+enter-requires-clause-once c = (names_in_order (outline c.args.declarations.now) c.requires).1
 
-pub with_bodies-requires-clause-once : goal.with_bodies-requires-clause-once
-with_bodies-requires-clause-once c = (names_in_order (outline c.args.declarations.now) c.requires).1
+pub put_bodies-requires-clause-once : goal.put_bodies-requires-clause-once
+put_bodies-requires-clause-once c = (names_in_order (outline c.args.declarations.now) c.requires).1
 
 abbrev none : Numbered
 none = record { main = None; procedures = []; sets = [] }
@@ -30,15 +30,10 @@ all_numbered os levels b m l e =
       sets = ap (λ (d : Numbered). d.sets) n ∙ all_sets none (all_bodies os);
     }
 
-if_ok : {E : Type 0} {P Q : Bodies → Type 0} (r : Result Bodies E) → ((b : Bodies) → P b → Q b) → IfOk r P → IfOk r Q
-if_ok (Ok b) f h = f b h
-if_ok (Err e) f h = tt
-
 pub returns : goal.returns
 returns c =
     let os = outline c.args.declarations.now in
-    let level = c.in_ok-level_of.ensures in
-    let levels = c.in_ok-push.ensures.items ∙ ap (λ l. l ++ c.in_ok-level_of.field-0 ∷ []) c.new-levels.ensures.items ∙ ap (λ l. l ∷ []) level in
+    let levels = c.in_ok-enter.ensures ∙ ap (λ l. l ++ entries 0 0 os ∷ []) c.new-levels.ensures.items in
     let start : Numbered = record { main = None; procedures = map command_of c.new.result.items; sets = c.new-2.result.items } in
     let fresh : start ≡ none = ap (λ l. (let x : Numbered = record { main = None; procedures = map command_of l; sets = c.new-2.result.items } in x)) c.new.ensures.items ∙ ap (λ l. (let x : Numbered = record { main = None; procedures = []; sets = l } in x)) c.new-2.ensures.items in
-    if_ok c.with_bodies.result (λ b h. all_numbered os c.push.new.self.items b (names_in_order os c.requires).0 levels (h ∙ ap (λ d. with_bodies d (bodies (scope_of c.push.new.self.items) 0 0 os)) fresh)) c.with_bodies.ensures.bodies
+    all_numbered os c.enter.new.levels.items c.put_bodies.new.done (names_in_order os c.requires).0 levels (c.in_ok-put_bodies.ensures.bodies ∙ ap (λ d. with_bodies d (bodies (scope_of c.enter.new.levels.items) 0 0 os)) fresh)

@@ -56,12 +56,15 @@ pub returns-in-Some-2-clause-err : goal.returns-in-Some-2-clause-err
 returns-in-Some-2-clause-err c = λ f e.
     let os = outline c.args.declarations.now in
     let u : unknown_name os ≡ Some c.in_ok-copy-2.field-0 = sym c.in_ok-name-2.ensures ∙ ap option_copied c.in-Some-2.is ∙ ap Some (sym c.in_ok-copy-2.ensures) in
-    let d : doubled_behind [] os ≡ None = search rules in
+    let d : doubled_behind [] os ≡ None = sym c.in_ok-name.ensures ∙ ap option_copied c.in_default.is in
     name_unknown os c.in_ok-copy-2.field-0 (sym c.if-not-has_main.ensures) (not_several os c.count_declared.result c.count_declared.ensures c.if-count_declared-gt1.false) d u ∙ e
 
 pub returns-clause-ok : goal.returns-clause-ok
 returns-clause-ok c =
     let os = outline c.args.declarations.now in
-    let d : doubled_behind [] os ≡ None = search rules in
-    let u : unknown_name os ≡ None = search rules in
+    let d : doubled_behind [] os ≡ None = sym c.in_ok-name.ensures ∙ ap option_copied c.in_default.is in
+    let u : unknown_name os ≡ None = sym c.in_ok-name-2.ensures ∙ ap option_copied c.in_default-2.is in
     no_fault os (sym c.if-not-has_main.ensures) (not_several os c.count_declared.result c.count_declared.ensures c.if-count_declared-gt1.false) d u
+
+pub unknown_name-requires-clause-once : goal.unknown_name-requires-clause-once
+unknown_name-requires-clause-once c = sym c.in_ok-name.ensures ∙ ap option_copied c.in_default.is

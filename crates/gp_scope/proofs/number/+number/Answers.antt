@@ -1,5 +1,5 @@
 use Rattle.std.proofs.Common.{rules, ◌≡◌, ◌∙◌, ◌+◌, ◌<◌, ◌^◌, ◌++◌, ◌∷◌, [], ap, sym, subst, length, map, take, List, arith, append_assoc, append-nil, length-append}
-use Rattle.std.proofs.lemmas.List.{take_more, map-append}
+use Rattle.std.proofs.lemmas.List.{take_all, take_more, map-append}
 use Rattle.gp_syntax.specs.Tree.{command_of}
 use Rattle.gp_syntax.specs.declared.tree.CommandTree.{CommandTree}
 use Rattle.gp_syntax.specs.declared.tree.CommandTree.TheVariants as tree
@@ -193,3 +193,24 @@ number_rest-each-preserved t c =
           ∙ ap (λ x. resolved_rest (scope_of c.args.levels.now) (length c.args.sets.now.items) (take c.each.command-index c.args.commands.now) ++ x ∷ []) (c.in_ok-number.ensures.command ∙ ap (λ n. resolved (scope_of c.args.levels.now) n (named c.command-item.result)) count) ∙ sym (ap (resolved_rest (scope_of c.args.levels.now) (length c.args.sets.now.items)) more ∙ rest_push (scope_of c.args.levels.now) (length c.args.sets.now.items) (take c.each.command-index c.args.commands.now) c.command-item.result);
       sets = c.in_ok-number.ensures.sets ∙ ap (λ l. l ++ sets_in (scope_of c.args.levels.now) (named c.command-item.result)) c.each.invariant.sets ∙ append_assoc c.args.sets.now.items (sets_in_rest (scope_of c.args.levels.now) (take c.each.command-index c.args.commands.now)) (sets_in (scope_of c.args.levels.now) (named c.command-item.result)) ∙ ap (λ l. c.args.sets.now.items ++ l) (sym (ap (sets_in_rest (scope_of c.args.levels.now)) more ∙ sets_push (scope_of c.args.levels.now) (take c.each.command-index c.args.commands.now) c.command-item.result));
     }
+
+pub number_chain-returns-clause-rest : goal.number_chain-returns-clause-rest
+number_chain-returns-clause-rest t c =
+    let s = scope_of c.args.levels.now in
+    c.in_ok-rest.ensures.commands ∙ ap (λ n. resolved_rest s n c.args.rest.now) (behind_part s c.args.sets.now.items _ c.args.first.now c.in_ok-first.ensures.sets)
+
+pub number_chain-returns-clause-sets : goal.number_chain-returns-clause-sets
+number_chain-returns-clause-sets t c =
+    let s = scope_of c.args.levels.now in
+    let a = sets_in s (named c.args.first.now) in
+    let b = sets_in_rest s c.args.rest.now in
+    c.in_ok-rest.ensures.sets ∙ ap (λ l. l ++ b) c.in_ok-first.ensures.sets ∙ append_assoc c.args.sets.now.items a b
+
+pub number_rest-returns-clause-commands : goal.number_rest-returns-clause-commands
+number_rest-returns-clause-commands t c =
+    ap (map command_of) c.from_vec.ensures ∙ c.each.invariant.commands
+    ∙ ap (resolved_rest (scope_of c.args.levels.now) (length c.args.sets.now.items)) (take_all c.each.command-index c.args.commands.now c.each-test.false)
+
+pub number_rest-returns-clause-sets : goal.number_rest-returns-clause-sets
+number_rest-returns-clause-sets t c =
+    c.each.invariant.sets ∙ ap (λ l. c.args.sets.now.items ++ sets_in_rest (scope_of c.args.levels.now) l) (take_all c.each.command-index c.args.commands.now c.each-test.false)

@@ -1,4 +1,4 @@
-use Rattle.std.proofs.Common.{rules, ◌≡◌, ◌∙◌, ◌+◌, ◌<◌, ◌^◌, ◌++◌, ◌∷◌, [], List, ap, sym, subst, drop, Option, Some, None, option_map, is_some, true, false, refl}
+use Rattle.std.proofs.Common.{arith, rules, ◌≡◌, ◌∙◌, ◌+◌, ◌<◌, ◌^◌, ◌++◌, ◌∷◌, [], List, ap, sym, subst, drop, Option, Some, None, option_map, is_some, true, false, refl}
 use Rattle.std.specs.Option.{option_or, option_copied}
 use Rattle.gp_values.specs.Names.{Name}
 use Rattle.gp_syntax.specs.declared.tree.Decl.{Decl}
@@ -97,11 +97,11 @@ unknown_within-with_procedure-within-requires-clause-procedures t c = (fits_with
 pub unknown_within-with_procedure-within-requires-clause-mains : goal.unknown_within-with_procedure-within-requires-clause-mains
 unknown_within-with_procedure-within-requires-clause-mains t c = (fits_within c.args.declaration.now c.in-Procedure.name c.in-Procedure.declarations c.in-Procedure.body c.args.at c.in-Procedure.is c.requires).mains
 
-pub unknown_within-level_of-requires-clause-once : goal.unknown_within-level_of-requires-clause-once
-unknown_within-level_of-requires-clause-once t c = ap (λ ds. doubled_behind [] (outline ds)) c.as_slice.ensures ∙ (fits_within c.args.declaration.now c.in-Procedure.name c.in-Procedure.declarations c.in-Procedure.body c.args.at c.in-Procedure.is c.requires).once
+pub unknown_within-enter-requires-clause-once : goal.unknown_within-enter-requires-clause-once
+unknown_within-enter-requires-clause-once t c = ap (λ ds. doubled_behind [] (outline ds)) c.as_slice.ensures ∙ (fits_within c.args.declaration.now c.in-Procedure.name c.in-Procedure.declarations c.in-Procedure.body c.args.at c.in-Procedure.is c.requires).once
 
-pub unknown_within-level_of-requires-clause-few : goal.unknown_within-level_of-requires-clause-few
-unknown_within-level_of-requires-clause-few t c =
+pub unknown_within-enter-requires-clause-few : goal.unknown_within-enter-requires-clause-few
+unknown_within-enter-requires-clause-few t c =
     let f = fits_within c.args.declaration.now c.in-Procedure.name c.in-Procedure.declarations c.in-Procedure.body c.args.at c.in-Procedure.is c.requires in
     few_within c.args.at c.with_procedure-within.result c.in-Procedure.name c.in-Procedure.declarations c.as_slice.result.now c.with_procedure-within.ensures c.as_slice.ensures f.few
 
@@ -122,28 +122,39 @@ in_first : {X : Type 0} (f : X → Name) (a b : Option X) (u : Option Name) → 
 in_first f (Some x) b u n e = ap (option_map f) e
 in_first f None b u n e = absurd (n refl)
 
-pub unknown_within-returns-after-branch-4-clause-told : goal.unknown_within-returns-after-branch-4-clause-told
-unknown_within-returns-after-branch-4-clause-told t c =
+pub unknown_within-returns-after-branch-3-clause-told : goal.unknown_within-returns-after-branch-3-clause-told
+unknown_within-returns-after-branch-3-clause-told t c =
     let p = c.in-Procedure in
-    let scope = pushed_scope c.args.at c.with_procedure-within.result p.name p.declarations c.as_slice.result.now c.args.levels.now.items c.push.new.self.items c.in_ok-level_of-in-Procedure.field-0
-    c.with_procedure-within.ensures c.as_slice.ensures c.in_ok-level_of-in-Procedure.ensures c.in_ok-push-in-Procedure.ensures.items in
-    let told = inner_told c.args.at c.with_procedure-within.result p.name p.declarations c.as_slice-in-Procedure.result.now (scope_of c.push.new.self.items) _ (option_copied c.in_ok-found-in-Procedure.found)
+    let scope = pushed_scope c.args.at c.with_procedure-within.result p.name p.declarations c.as_slice.result.now c.args.levels.now.items c.enter.new.levels.items _
+    c.with_procedure-within.ensures c.as_slice.ensures refl c.in_ok-enter-in-Procedure.ensures in
+    let told = inner_told c.args.at c.with_procedure-within.result p.name p.declarations c.as_slice-in-Procedure.result.now (scope_of c.enter.new.levels.items) _ (option_copied c.in_ok-found-in-Procedure.found)
     c.with_procedure-within.ensures c.as_slice-in-Procedure.ensures scope c.in_ok-found-in-Procedure.ensures.told in
     let s = scope_of c.args.levels.now.items in
     let within = scope_within s c.args.at.rules c.args.at.procedures p.name (outline p.declarations) in
     let both = ap (λ o. option_or o (unknown_in within (named p.body))) told in
-    elim c.match-branch-4.branch [
+    elim c.match-branch-3.branch [
       | goal.unknown_within-in-None w ↦
           let here = ap (λ l. unknown_in (scope_of l) (named p.body)) (w.as_slice-in-None.ensures.value ∙ c.in_ok-found-in-Procedure.ensures.levels) ∙ ap (λ x. unknown_in x (named p.body)) scope in
           let f = ap option_copied w.found-is ∙ in_both (λ x. x.now) c.in_ok-found-in-Procedure.found w.unknown_in-found.result _ w.in-None.is (w.unknown_in-found.ensures ∙ here) ∙ both in
-          procedure_tells c.args.declaration.now p.name p.declarations p.body s c.args.at.rules c.args.at.procedures (option_copied c.match-branch-4.found) p.is f
+          procedure_tells c.args.declaration.now p.name p.declarations p.body s c.args.at.rules c.args.at.procedures (option_copied c.match-branch-3.found) p.is f
       | goal.unknown_within-in_default w ↦
-          let f = in_first (λ x. x.now) c.in_ok-found-in-Procedure.found c.match-branch-4.found (unknown_in within (named p.body)) w.in_default.not-None w.found-is ∙ both in
-          procedure_tells c.args.declaration.now p.name p.declarations p.body s c.args.at.rules c.args.at.procedures (option_copied c.match-branch-4.found) p.is f
+          let f = in_first (λ x. x.now) c.in_ok-found-in-Procedure.found c.match-branch-3.found (unknown_in within (named p.body)) w.in_default.not-None w.found-is ∙ both in
+          procedure_tells c.args.declaration.now p.name p.declarations p.body s c.args.at.rules c.args.at.procedures (option_copied c.match-branch-3.found) p.is f
     ]
 
 pub unknown_within-returns-in-Rule-clause-once : goal.unknown_within-returns-in-Rule-clause-once
 unknown_within-returns-in-Rule-clause-once t c = rule_once c.args.declaration.now c.in-Rule.field-0 c.in-Rule.is
 
-pub unknown_within-returns-after-branch-4-clause-once : goal.unknown_within-returns-after-branch-4-clause-once
-unknown_within-returns-after-branch-4-clause-once t c = procedure_once c.args.declaration.now c.in-Procedure.name c.in-Procedure.declarations c.in-Procedure.body c.in-Procedure.is
+pub unknown_within-returns-after-branch-3-clause-once : goal.unknown_within-returns-after-branch-3-clause-once
+unknown_within-returns-after-branch-3-clause-once t c = procedure_once c.args.declaration.now c.in-Procedure.name c.in-Procedure.declarations c.in-Procedure.body c.in-Procedure.is
+
+pub first_unknown-count_one-requires : goal.first_unknown-count_one-requires
+first_unknown-count_one-requires t c =
+    let i = c.each.declaration-index in
+    let ds = c.args.declarations.now in
+    let few = few_here ds i c.declaration-item.result c.each.at c.each-test.true c.declaration-item.is c.each.invariant.few in
+    (outline (drop (i + 1) ds), omega (arith, few))
+
+pub first_unknown-returns-clause-told : goal.first_unknown-returns-clause-told
+first_unknown-returns-clause-told t c =
+    sym (ap (λ o. first_told unknown_of (bodies_in_text (scope_of c.args.levels.now.items) c.each.at.rules c.each.at.procedures o)) (outline_past c.args.declarations.now c.each.declaration-index c.each-test.false)) ∙ c.each.invariant.told

@@ -1,0 +1,16 @@
+use Rattle.std.proofs.Common.{refl}
+use Rattle.std.proofs.lemmas.Result.{err_from_is_err_and}
+use Rattle.gp_hostfile.specs.inside.Stages.{edge_mark_fault}
+use Rattle.gp_hostfile.proofs.Finding.{found_goes_on, found_stops, found_ends}
+use Rattle.gp_hostfile.proofs.check.check_edge_marks.Goals as goal
+
+pub returns-in_err-edge_mark : goal.returns-in_err-edge_mark
+returns-in_err-edge_mark c =
+    let p = err_from_is_err_and c.from_residual.result c.from_residual.ensures.1 in
+    rw (p.1, p.2) (found_stops edge_mark_fault c.args.edges.now c.loop-edge.edge-index c.edge-item.result c.loop-edge-test.true c.edge-item.is _ c.loop-edge.invariant c.in_err-edge_mark.field-0.0 c.in_err-edge_mark.ensures)
+
+pub loop-edge-preserved : goal.loop-edge-preserved
+loop-edge-preserved c = found_goes_on edge_mark_fault c.args.edges.now c.loop-edge.edge-index c.edge-item.result c.loop-edge-test.true c.edge-item.is _ c.loop-edge.invariant (rw c.in_ok-edge_mark.ensures refl)
+
+pub returns : goal.returns
+returns c = found_ends edge_mark_fault c.args.edges.now c.loop-edge.edge-index _ c.loop-edge-test.false c.loop-edge.invariant
