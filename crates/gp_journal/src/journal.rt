@@ -16,11 +16,23 @@ use std::alloc::Global;
 use std::marker::Model;
 
 /// A trail with the items that led to it. Contracts see both, and for how many calls of `back` there is room.
-#[derive(Drop)]
 pub struct Journal {
     trail: Trail,
     items: Vec<Item>,
     backs: u64,
+}
+
+// Written, so that a function that lets a journal go calls it.
+impl Drop for Journal {
+    fn drop(self) {
+        let Journal {
+            trail,
+            items,
+            backs: _,
+        } = self;
+        drop(trail);
+        drop(items);
+    }
 }
 
 impl Model for Journal {

@@ -20,12 +20,25 @@ use std::marker::Model;
 
 /// A graph with the inverses of its live steps. Contracts see the graph, the graphs before its live steps, and how many
 /// items the last catching up made.
-#[derive(Drop)]
 pub struct Trail {
     graph: Graph,
     undos: Vec<Undo>,
     caught: u64,
     alloc: Global,
+}
+
+// Written, so that a function that lets a trail go calls it.
+impl Drop for Trail {
+    fn drop(self) {
+        let Trail {
+            graph,
+            undos,
+            caught: _,
+            alloc: _,
+        } = self;
+        drop(graph);
+        drop(undos);
+    }
 }
 
 impl Model for Trail {
