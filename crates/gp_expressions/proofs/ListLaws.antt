@@ -2,7 +2,7 @@
 use Rattle.std.proofs.Common.{◌≡◌, ℕ, zero, suc, List, [], ◌∷◌, false, refl}
 use Rattle.gp_tokens.specs.Kinds.{same_kind}
 use Rattle.gp_grammar.specs.declared.want.Want.{Want}
-use Rattle.gp_grammar.specs.Signs.{number_sign, colon, dot, plus, minus, star, slash, bar, close_bracket}
+use Rattle.gp_grammar.specs.Signs.{number_sign, colon, dot, plus, minus, star, slash, bar, open_sign, close_bracket}
 use Rattle.gp_grammar.specs.Wants.{excludes, meets}
 use Rattle.gp_grammar.specs.Grammar.{Grammar}
 use Rattle.gp_grammar.specs.Fits.{Fits, enders, nullable, Avoids, AllAvoid, Lacks}
@@ -29,20 +29,41 @@ unfolding name argument leaf nested operand excludes meets same_kind
 operand_avoids zero = search
 operand_avoids (suc n) = search
 
-pub operand_fits : (n : ℕ) → Fits (operand n)
-unfolding unary quotients product differences sum dots joins name argument leaf nested operand excludes meets same_kind
-operand_fits zero = tt
-operand_fits (suc n) = let f = operand_fits n in let a = operand_avoids n in rw (never_empty n, closed n) (search (f, a))
+-- ---- a list fits where its operands do
 
-pub list_fits : (n : ℕ) → Fits (list n)
+leaf_fits : Fits leaf
+unfolding name argument leaf excludes meets same_kind
+leaf_fits = search
+
+leaf_avoids : Avoids minus leaf × Avoids open_sign leaf
+unfolding name argument leaf excludes meets same_kind
+leaf_avoids = search
+
+joins_fits : (g : Grammar (Ranged Tree)) → nullable g ≡ false → enders g ≡ [] → Fits g → Avoids number_sign g → Fits (joins g)
 unfolding unary quotients product differences sum dots joins excludes meets same_kind
-list_fits n = let f = operand_fits n in let a = operand_avoids n in rw (never_empty n, closed n) (search (f, a))
-
--- ---- what is asked of lists where they are parts
+joins_fits g full ends f a = rw (full, ends) (search (f, a))
 
 -- what may come behind an operand of a list, and goes on with it
 abbrev pub list_signs : List Want
 list_signs = colon ∷ dot ∷ plus ∷ minus ∷ star ∷ slash ∷ []
+
+list_ends : (n : ℕ) → enders (list n) ≡ list_signs
+unfolding unary quotients product differences sum dots joins
+list_ends n = rw (never_empty n, closed n) refl
+
+operand_fits : (n : ℕ) → Fits (operand n)
+unfolding nested operand excludes meets same_kind
+operand_fits zero = tt
+operand_fits (suc n) =
+    let f = operand_fits n in
+    let a = (operand_avoids n).0 in
+    let j = joins_fits (operand n) (never_empty n) (closed n) f a in
+    rw (list_ends n) ((tt, ((tt, (f, (refl, a))), tt)), (((tt, ((j, (tt, (refl, (refl, (refl, (refl, (refl, (refl, tt)))))))), tt)), (leaf_fits, (refl, leaf_avoids.1))), (refl, ((refl, tt), leaf_avoids.0))))
+
+pub list_fits : (n : ℕ) → Fits (list n)
+list_fits n = joins_fits (operand n) (never_empty n) (closed n) (operand_fits n) (operand_avoids n).0
+
+-- ---- what is asked of lists where they are parts
 
 pub record IsListPart (l : Grammar (Ranged Tree)) : Type 0 where
   pub fits : Fits l
@@ -55,10 +76,6 @@ pub record IsListPart (l : Grammar (Ranged Tree)) : Type 0 where
 list_full : (n : ℕ) → nullable (list n) ≡ false
 unfolding unary quotients product differences sum dots joins
 list_full n = rw (never_empty n) refl
-
-list_ends : (n : ℕ) → enders (list n) ≡ list_signs
-unfolding unary quotients product differences sum dots joins
-list_ends n = rw (never_empty n, closed n) refl
 
 list_avoids : (n : ℕ) → AllAvoid heads (list n)
 unfolding unary quotients product differences sum dots joins excludes meets same_kind

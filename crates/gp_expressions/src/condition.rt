@@ -163,8 +163,9 @@ fn read_edge_test(tokens: &mut Tokens<'_, '_>, lists: u64) -> Result<Ranged<Cond
     tokens.expect(COMMA)?;
     let target = read_name(tokens, Want::Item)?;
     let label = read_edge_label(tokens, lists)?;
+    let test = joined_by(source, target, label);
     tokens.expect(CLOSE)?;
-    Ok(joined_by(source, target, label))
+    Ok(test)
 }
 
 // List Comparison List

@@ -29,7 +29,7 @@ fn read_row<
     T: Drop,
     U: Drop,
     F: Copy + Fn(&mut Tokens<'_, '_>, C) -> Result<T, ReadError>,
-    G: Copy + Fn(Global, Vec<T>) -> Result<U, ReadError>,
+    G: Copy + FnOnce(Global, Vec<T>) -> Result<U, ReadError>,
 >(tokens: &mut Tokens<'_, '_>, row: Row<C, F, G>) -> Result<U, ReadError>
     requires reads { (ts : _) → F.pre row.read ts row.inside }
     requires makes { (alloc : _) (parts : _) → G.pre row.make alloc parts }
@@ -46,7 +46,7 @@ pub(crate) fn read_rows<
     T: Drop,
     U: Drop,
     F: Copy + Fn(&mut Tokens<'_, '_>, C) -> Result<T, ReadError>,
-    G: Copy + Fn(Global, Vec<T>) -> Result<U, ReadError>,
+    G: Copy + FnOnce(Global, Vec<T>) -> Result<U, ReadError>,
 >(tokens: &mut Tokens<'_, '_>, sign: Want, row: Row<C, F, G>) -> Result<Vec<U>, ReadError>
     requires reads { (ts : _) → F.pre row.read ts row.inside }
     requires makes { (alloc : _) (parts : _) → G.pre row.make alloc parts }

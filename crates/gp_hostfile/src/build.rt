@@ -29,17 +29,23 @@ pub(crate) fn build(
         edges: edge_trees,
     } = tree;
     let mut graph = Graph::new(alloc);
-    graph.reserve(node_trees.len() as u64, edge_trees.len() as u64)?;
-    build_nodes(alloc, &node_trees, &mut graph)?;
+    build_nodes(alloc, &node_trees, edge_trees.len() as u64, &mut graph)?;
     drop(node_trees);
     build_edges(alloc, &edge_trees, nodes, &mut graph)?;
     let _sound = graph.next_numbers();
     Ok(graph)
 }
 
-fn build_nodes(alloc: Global, nodes: &[NodeTree<'_>], graph: &mut Graph) -> Result<(), HostFault>
+// Makes room for all nodes and for so many edges, and adds the nodes.
+fn build_nodes(
+    alloc: Global,
+    nodes: &[NodeTree<'_>],
+    edges: u64,
+    graph: &mut Graph,
+) -> Result<(), HostFault>
     ensures { Makes (λ _. graph.new.graph) result (nodes_made nodes.now graph.old.graph) }
 {
+    graph.reserve(nodes.len() as u64, edges)?;
     for node in nodes {
         build_node(alloc, node, graph)?;
     }

@@ -155,16 +155,16 @@ fn read_edge<'t>(tokens: &mut Tokens<'_, 't>, _nothing: ()) -> Result<EdgeTree<'
     tokens.expect(OPEN)?;
     let name = tokens.expect(Want::Item)?;
     tokens.expect(COMMA)?;
-    read_rest_of_edge(tokens, name.text.again())
+    read_rest_of_edge(tokens, &name.text)
 }
 
 // Item "," Item "," Label ")", behind the name of an edge
 #[tactic(auto, unfolding(crate::specs::inside::Edges::rest_of_edge))]
 fn read_rest_of_edge<'t>(
     tokens: &mut Tokens<'_, 't>,
-    name: Slice<'t>,
+    name: &Slice<'t>,
 ) -> Result<EdgeTree<'t>, ReadError>
-    ensures { Reads (reader_of (rest_of_edge name.entry) tokens.old) result tokens.new }
+    ensures { Reads (reader_of (rest_of_edge name.now) tokens.old) result tokens.new }
 {
     let source = tokens.expect(Want::Item)?;
     tokens.expect(COMMA)?;
@@ -173,7 +173,7 @@ fn read_rest_of_edge<'t>(
     let (label, mark) = read_label(tokens)?;
     tokens.expect(CLOSE)?;
     Ok(EdgeTree {
-        name,
+        name: name.again(),
         source: source.text.again(),
         target: target.text.again(),
         label,

@@ -1,11 +1,12 @@
--- Assignments without values.
-use Rattle.std.proofs.Common.{◌≡◌, ℕ, length, List, ◌∙◌, replicate}
-use Rattle.std.specs.Prelude.{Option, Some, None, slice_get}
-use Rattle.std.proofs.lemmas.List.{length-replicate, get_or-replicate}
+-- Assignments without values, and those with one value more or less.
+use Rattle.std.proofs.Common.{◌≡◌, ℕ, zero, suc, true, length, List, [], ◌∷◌, ◌∙◌, replicate}
+use Rattle.std.specs.Prelude.{Option, Some, None, slice_get, slice_set}
+use Rattle.std.proofs.lemmas.List.{length-replicate, length-set, get_or-replicate}
 use Rattle.std.proofs.lemmas.Option.{slice_get_within, slice_get-get_or}
 use Rattle.gp_values.specs.declared.atom.Atom.{Atom}
 use Rattle.gp_syntax.specs.declared.kinds.VariableType.{VariableType}
-use Rattle.gp_syntax.specs.Assigned.{IsInTypes}
+use Rattle.gp_syntax.specs.Assigned.{IsInTypes, declared_type}
+use Rattle.gp_syntax.specs.Value.{is_of}
 
 none : Option (List Atom)
 none = None
@@ -25,4 +26,20 @@ unfolding none
 made_in_types given types values n same e count = rw (same, e) (record {
   count = length-replicate n none ∙ count;
   in_types = λ x v h. absurd (none_has n x v h);
+})
+
+-- what the places hold, once one is written
+written : (P : ℕ → List Atom → Type 0) (vs : List (Option (List Atom))) (i : ℕ) (o : Option (List Atom)) → ((x : ℕ) (v : List Atom) → slice_get vs x ≡ Some (Some v) → P x v) → ((v : List Atom) → o ≡ Some v → P i v)
+    → (x : ℕ) (v : List Atom) → slice_get (slice_set vs i o) x ≡ Some (Some v) → P x v
+written P [] i o old new x v h = old x v h
+written P (w ∷ vs) zero o old new zero v h = new v cc
+written P (w ∷ vs) zero o old new (suc x) v h = old (suc x) v h
+written P (w ∷ vs) (suc i) o old new zero v h = old zero v h
+written P (w ∷ vs) (suc i) o old new (suc x) v h = written (λ k. P (suc k)) vs i o (λ k. old (suc k)) new x v h
+
+pub still_in_types : (types : List VariableType) (vs now : List (Option (List Atom))) (i : ℕ) (o : Option (List Atom)) → now ≡ slice_set vs i o → IsInTypes (record { types = types; values = vs })
+    → ((v : List Atom) → o ≡ Some v → is_of (declared_type (record { types = types; values = vs }) i) v ≡ true) → IsInTypes (record { types = types; values = now })
+still_in_types types vs now i o e h new = rw e (record {
+  count = length-set vs i o ∙ h.count;
+  in_types = written (λ x v. is_of (declared_type (record { types = types; values = vs }) x) v ≡ true) vs i o h.in_types new;
 })

@@ -1,10 +1,12 @@
 -- What is written for items.
 use Rattle.std.proofs.Common.{◌≡◌, ℕ, suc, zero, ◌+◌, ◌<◌, ◌≤◌, get_or, arith, Bool, List, [], ◌∷◌, ◌++◌, map, take, length, refl, sym, ap, ◌∙◌, decimal, append_assoc, append-nil}
-use Rattle.std.specs.Prelude.{codes, flat_map, Result, Ok, Err, OnOk}
+use Rattle.std.specs.Prelude.{codes, flat_map, Result, Ok, Err, OnOk, OnErr}
 use Rattle.std.specs.List.{join_with_byte}
 use Rattle.gp_syntax.specs.declared.found.EdgeImage.{EdgeImage}
 use Rattle.gp_syntax.specs.Rule.{Found}
-use Rattle.gp_trace.specs.TraceText.{image_word, images_of, found_words, found_line}
+use Rattle.gp_trace.specs.TraceText.{image_word, images_of, found_words, found_line, trace_text}
+use Rattle.gp_syntax.specs.Run.{Item}
+use Rattle.gp_trace.specs.Reading.{BeginsTrace}
 use Rattle.gp_trace.specs.inside.Lines.{spaced}
 
 pub joined_spaced : (w : List ℕ) (ws : List (List ℕ)) → join_with_byte 32 (w ∷ ws) ≡ w ++ spaced ws
@@ -78,3 +80,8 @@ pub step_written : {T E : Type 0} (r : Result T E) (m : Found) (images : List Ed
 step_written r m images rule nodes t0 t1 t2 t3 t4 t5 t6 t7 he hr h hn e1 e2 e3 e4 e5 e6 e7 =
     on_ok r e7 (λ e. behind t7 t1 t0 _ _ (behind t7 t2 t1 _ _ (behind t7 t3 t2 _ _ (behind t7 t4 t3 _ _ (behind t7 t5 t4 _ _ (behind t7 t6 t5 _ _ e e6) e5) e4) e3) e2) e1
     ∙ ap (λ l. t0 ++ l) (line_of_pieces m images rule nodes he hr h hn))
+
+-- what was refused before anything was written
+pub nothing_written : {T E : Type 0} (r : Result T E) (items : List Item) (before after : List ℕ) → after ≡ before → OnErr r (BeginsTrace items before after)
+nothing_written (Ok x) items before after e = tt
+nothing_written (Err y) items before after e = record { piece = []; rest = trace_text items; after_is = e ∙ sym (append-nil before); begins = refl }

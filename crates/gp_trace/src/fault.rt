@@ -2,10 +2,11 @@
 
 use gp_memory::NoMemory;
 use std::alloc::{AllocError, AllocFailed};
+use std::fmt::{Debug, Display, Formatter, Result, Write};
 use thiserror::Error;
 
 /// Why a text is no trace.
-#[derive(Clone, Copy, Debug, Error)]
+#[derive(Clone, Copy, Error)]
 pub enum TraceFault {
     /// The first line, counted from 1, that is not of the form of its place: that of the header, of an item or of the
     /// end. A line that is missing and one behind the end are such lines.
@@ -14,6 +15,13 @@ pub enum TraceFault {
     /// Memory was refused.
     #[error("NoMemory")]
     NoMemory,
+}
+
+// As it is shown to users.
+impl Debug for TraceFault {
+    fn fmt<W: Write>(&self, f: &mut Formatter<W>) -> Result {
+        Display::fmt(self, f)
+    }
 }
 
 impl From<NoMemory> for TraceFault {
