@@ -68,6 +68,10 @@ module _ {System State Found Goal Reason : Type 0} (m : Meaning State Found Goal
   Run c [] d = d ≡ c
   Run c (t ∷ ts) d = (t.before ≡ c) × MayCome m t.before t.event × Answers m t.before t.event t.reply t.after × Run t.after ts d
 
+  -- some events lead from c to d
+  abbrev pub EventsLead : Core System State Found Goal Reason → Core System State Found Goal Reason → Type 0
+  EventsLead c d = (es : List (Answered System State Found Goal Reason)) × Run c es d
+
   -- the state after all entries, from the base
   abbrev pub at_end : Core System State Found Goal Reason → State
   at_end c = reached m c.base c.entries

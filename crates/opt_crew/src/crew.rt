@@ -2,14 +2,13 @@
 
 ghost use Rattle.std.specs.Prelude.{◌≡◌, ◌≤◌, ◌<◌, ◌+◌, ◌^◌, ℕ, [], None, Some, length, vec_len, vec_capacity};
 ghost use Rattle.std.specs.List.{All};
-ghost use Rattle.gp_memory.specs.Free.{Free};
 ghost use Rattle.opt_core.specs.Core.{Legal};
 ghost use Rattle.opt_core.specs.Runs.{SameStart};
 ghost use Rattle.opt_core.specs.declared.event.Ending.{Ending};
-ghost use Rattle.opt_core.specs.declared.event.Ending.TheVariants.{Stopped};
 ghost use Rattle.opt_gate.specs.Pass.{IsPassOf, start_of};
 ghost use Rattle.opt_worker.specs.Replica.{IsReplica};
 ghost use Rattle.opt_crew.specs.Entries.{AreSteps};
+ghost use Rattle.opt_crew.specs.Events.{CameByEvents};
 ghost use Rattle.opt_crew.specs.inside.Jobs.{IsReady, IsBack};
 
 use opt_core::{Core, Event};
@@ -24,6 +23,7 @@ use std::thread::Threads;
 fn stopped<S: System>(s: &S, mut core: Core<S>) -> Core<S>
     requires system { s.now ≡ core.system }
     requires running { core.ending ≡ None }
+    ensures events { CameByEvents (S.means s.now) core result }
     ensures legal { Legal (S.means s.now) result }
     ensures start { SameStart core result }
     ensures ended { (x : Ending S.Reason) × (result.ending ≡ Some x) }
@@ -132,10 +132,10 @@ where
     requires some { 0 < vec_len replicas }
     requires few { vec_len replicas < 2 ^ 32 }
     requires base { All (λ at. at ≡ core.base) replicas.items }
+    ensures events { CameByEvents (S.means s.now) core result.0 }
     ensures legal { Legal (S.means s.now) result.0 }
     ensures start { SameStart core result.0 }
     ensures ended { (x : Ending S.Reason) × (result.0.ending ≡ Some x) }
-    ensures stopped { result.0.ending ≡ Some Stopped → Free }
     ensures steps { AreSteps (S.means s.now) core.goal core.base result.0.entries }
     ensures len { vec_len result.1 ≡ vec_len replicas }
     ensures follow { All (λ at. IsReplica (S.means s.now) core.base result.0.entries at) result.1.items }

@@ -69,6 +69,26 @@ module _ {A : Type 0} where
   pub begins_with_both : (a b : List A) → StartsWith (longer a b) (shorter a b) → StartsWith (longer a b) a × StartsWith (longer a b) b
   begins_with_both a b s = both_by a b (nat_le (length b) (length a)) s
 
+-- what the pass that knew an ending knows after a join
+module _ {F R : Type 0} (a b : List F) (x y : Option (Ending R)) (z : Ending R) where
+  abbrev Both : Bool → Type 0
+  Both t = cond t y x ≡ Some z → (either_of (cond t x y) (cond t y x) ≡ Some z) × (cond t b a ≡ cond t a b)
+
+  first_by : (t : Bool) → Both t → x ≡ Some z → (either_of (cond t x y) (cond t y x) ≡ Some z) × (cond t a b ≡ a)
+  first_by true h e = (ap (λ (o : Option (Ending R)). either_of o y) e, refl)
+  first_by false h e = let s = h e in (s.0, sym s.1)
+
+  second_by : (t : Bool) → Both t → y ≡ Some z → (either_of (cond t x y) (cond t y x) ≡ Some z) × (cond t a b ≡ b)
+  second_by true h e = let s = h e in (s.0, sym s.1)
+  second_by false h e = (ap (λ (o : Option (Ending R)). either_of o x) e, refl)
+
+module _ {K F R : Type 0} (v w : View K F R) (z : Ending R) where
+  pub stays_joined : ((joined v w).other_ending ≡ Some z → ((joined v w).ending ≡ Some z) × ((joined v w).other ≡ (joined v w).knows)) → v.ending ≡ Some z → ((joined v w).ending ≡ Some z) × ((joined v w).knows ≡ v.knows)
+  stays_joined h e = first_by v.knows w.knows v.ending w.ending z (nat_le (length w.knows) (length v.knows)) h e
+
+  pub other_stays : ((joined v w).other_ending ≡ Some z → ((joined v w).ending ≡ Some z) × ((joined v w).other ≡ (joined v w).knows)) → w.ending ≡ Some z → ((joined v w).ending ≡ Some z) × ((joined v w).knows ≡ w.knows)
+  other_stays h e = second_by v.knows w.knows v.ending w.ending z (nat_le (length w.knows) (length v.knows)) h e
+
 module _ {K F R : Type 0} (id : ℕ) (v : View K F R) (idle : v.ticket ≡ None) (calm : v.served ≡ false)
     (other : ℕ) (w : View K F R) (idle' : w.ticket ≡ None) (calm' : w.served ≡ false) (apart : ¬ (other ≡ id)) (some_room : 0 < v.room) where
   both : View K F R

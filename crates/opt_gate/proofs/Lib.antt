@@ -8,7 +8,8 @@ pub mod Watches
 pub mod Passes
 pub mod Splits
 pub mod Joins
+pub mod Led
 pub mod Rests
-mod Follows
+pub mod Follows
 mod Taking
 mod Turned

@@ -47,7 +47,7 @@ module _ {C : Type 0} where
 module _ {K F R C : Type 0} (entries : C → List F) (ended : C → Option (Ending R)) (Same : K → C → Type 0) (passes : K → ℕ) (key : K) where
   module _ (id : ℕ) (v : View K F R) (on : v.served ≡ true) (stops : ℕ) (c : C) (may : MayFollow entries ended Same stops v c) where
     w : View K F R
-    w = passed entries ended Same passes stops v c
+    w = passed entries ended stops v c
 
     module _ (served drawn n : ℕ) (ws : List ℕ) (views : List (View K F R)) (turns : Turns served drawn n ws views) (at : At views id v) where
       only : (i : ℕ) (u : View K F R) → At views i u → u.ticket ≡ Some served → i ≡ id
@@ -142,7 +142,7 @@ module _ {K F R C : Type 0} (entries : C → List F) (ended : C → Option (Endi
       pass_knowing i u e = ⊎_elim (λ z. subst (λ (x : View K F R). Knows key (entries c) (ended c) x) z.1 (pass_knows log end (knowing id v at) room))
           (λ z. still_knows log end el ee u (knowing i u z.1)) (at_set views id i w u e)
 
-      pass_shows : Shows passes (passed entries ended Same passes stops v c)
+      pass_shows : Shows passes (passed entries ended stops v c)
       unfolding w
       pass_shows = told passes key (served + 1) drawn (set ws 0 ((get_or ws 0 0 + 1) % 2 ^ 64)) (entries c) (ended c) (set views id w) (pass_turns served drawn (passes key) ws views turns at)
           pass_knowing (pass_tally log end views at el ee tally) id w (set_here views id w (at_below views id v at)) room
@@ -165,7 +165,7 @@ module _ {K F R C : Type 0} (entries : C → List F) (ended : C → Option (Endi
             knowing = pass_knowing r.served r.drawn s.words r.log r.end s.views r.turns r.knowing r.tally at all.0 all.1;
             tally = pass_tally r.log r.end s.views at all.0 all.1 r.tally;
           },
-          λ c' is. subst (λ (x : C). (◌≡◌ {A = Me (Option C) (View K F R)} (w, no_slots) (passed entries ended Same passes stops v x, no_slots)) × Shows passes (passed entries ended Same passes stops v x)) (same_core c c' is)
+          λ c' is. subst (λ (x : C). (◌≡◌ {A = Me (Option C) (View K F R)} (w, no_slots) (passed entries ended stops v x, no_slots)) × Shows passes (passed entries ended stops v x)) (same_core c c' is)
               (refl, pass_shows r.served r.drawn s.words r.log r.end s.views r.turns r.knowing r.tally at all.0 all.1),
         )
 
@@ -176,6 +176,6 @@ module _ {K F R C : Type 0} (entries : C → List F) (ended : C → Option (Endi
 module _ {K F R C : Type 0} (entries : C → List F) (ended : C → Option (Ending R)) (Same : K → C → Type 0) (passes : K → ℕ) where
   -- what a passed turn shows, by whether it asked to stop
   pub shown_of : (b is_stop : Bool) (st : Step (Option C)) (m n : Me (Option C) (View K F R)) (v : View K F R) (c : C) (r : ℕ) → is_stop ≡ b → m ≡ (v, (0, Some c) ∷ []) → Passed entries ended Same passes (if b then 1 else 0) st m r n
-      → Shows passes (passed entries ended Same passes (if is_stop then 1 else 0) v c)
-  shown_of b is_stop st m n v c r is me told = subst (λ (s : Bool). Shows passes (passed entries ended Same passes (if s then 1 else 0) v c)) (sym is)
-      (subst (λ (x : Me (Option C) (View K F R)). Shows passes (passed entries ended Same passes (if b then 1 else 0) x.0 c)) me (told c (ap (λ (x : Me (Option C) (View K F R)). x.1) me)).1)
+      → Shows passes (passed entries ended (if is_stop then 1 else 0) v c)
+  shown_of b is_stop st m n v c r is me told = subst (λ (s : Bool). Shows passes (passed entries ended (if s then 1 else 0) v c)) (sym is)
+      (subst (λ (x : Me (Option C) (View K F R)). Shows passes (passed entries ended (if b then 1 else 0) x.0 c)) me (told c (ap (λ (x : Me (Option C) (View K F R)). x.1) me)).1)

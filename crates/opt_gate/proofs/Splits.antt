@@ -11,6 +11,7 @@ use Rattle.opt_gate.specs.declared.view.View.{View}
 use Rattle.opt_gate.specs.Lists.{times, once_below}
 use Rattle.opt_gate.specs.inside.Rule.{view, has_ticket, At, Turns, Knows, Placed, Ruled}
 use Rattle.opt_gate.specs.inside.Plays.{split_left, split_right}
+use Rattle.opt_system.specs.Meaning.{Meaning}
 use Rattle.opt_core.specs.Core.{Core}
 use Rattle.opt_core.specs.Runs.{SameStart}
 use Rattle.opt_gate.specs.declared.key.Key.{Key}
@@ -99,10 +100,10 @@ module _ {K F R C : Type 0} (entries : C → List F) (ended : C → Option (Endi
     tally = record { once = λ p. none_below p; stopped = λ no. absurd (no_ending ending.Stopped no) };
   }
 
-module _ {System State Found Goal Reason : Type 0} where
+module _ {System State Found Goal Reason : Type 0} (means : System → Meaning State Found Goal Reason) where
   pub opens_at : (key : Key (Core System State Found Goal Reason)) (c : Core System State Found Goal Reason) (slots : List (Option (Core System State Found Goal Reason))) → key.core.value ≡ c → slots ≡ Some c ∷ [] → c.entries ≡ [] → c.ending ≡ None
-      → 0 < key.passes → key.passes < 2 ^ 64 → Ruled entries_of ended_of IsOfKey passes_of key (opening (0 ∷ 0 ∷ []) slots (first_view key))
+      → 0 < key.passes → key.passes < 2 ^ 64 → Ruled entries_of ended_of (IsOfKey means) passes_of key (opening (0 ∷ 0 ∷ []) slots (first_view key))
   opens_at key c slots is one none open_ some few =
-      let same : IsOfKey key c = subst (λ (x : Core System State Found Goal Reason). SameStart x c) (sym is) record { system = refl; base = refl; goal = refl; given = refl } in
-      let P : List (Option (Core System State Found Goal Reason)) → Type 0 = λ l. Ruled entries_of ended_of IsOfKey passes_of key (opening (0 ∷ 0 ∷ []) l (first_view key)) in
-      subst P (sym one) (opens entries_of ended_of IsOfKey passes_of key c same none open_ some few)
+      let same : IsOfKey means key c = (subst (λ (x : Core System State Found Goal Reason). SameStart x c) (sym is) record { system = refl; base = refl; goal = refl; given = refl }, ([], sym is)) in
+      let P : List (Option (Core System State Found Goal Reason)) → Type 0 = λ l. Ruled entries_of ended_of (IsOfKey means) passes_of key (opening (0 ∷ 0 ∷ []) l (first_view key)) in
+      subst P (sym one) (opens entries_of ended_of (IsOfKey means) passes_of key c same none open_ some few)

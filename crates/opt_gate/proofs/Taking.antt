@@ -12,11 +12,12 @@ use Rattle.opt_core.specs.Core.{Core, Legal}
 use Rattle.opt_core.specs.Steps.{Answers, MayCome}
 use Rattle.opt_gate.specs.declared.key.Key.{Key}
 use Rattle.opt_gate.specs.inside.Plays.{waiting, serving, passed, Takes, Took, Shows}
-use Rattle.opt_gate.specs.inside.Cores.{entries_of, ended_of, IsOfKey, passes_of}
+use Rattle.opt_gate.specs.inside.Cores.{entries_of, ended_of, IsOf, IsOfKey, passes_of}
 use Rattle.opt_gate.specs.inside.Follow.{MayFollow}
 use Rattle.opt_gate.specs.Turn.{stops_of}
 use Rattle.opt_gate.specs.inside.Seats.{Acts, is_stop}
 use Rattle.opt_gate.proofs.Follows.{follows}
+use Rattle.opt_gate.proofs.Led.{one_key, led_on}
 
 module _ {C : Type 0} where
   value_in : Option C → List (ℕ × Option C) → Option C
@@ -42,7 +43,7 @@ module _ {K F R C : Type 0} (entries : C → List F) (ended : C → Option (Endi
       let taken' : Takes entries ended Same passes (waiting v t, []) m2 = subst P e1 taken in
       let d = taken'.0 in
       let same : d ≡ c = sym (same_value r c d m2.1 e2 (ap (λ (x : Me (Option C) (View K F R)). x.1) taken'.1) is) in
-      let me : m3 ≡ (serving entries ended Same passes (waiting v t) d, (0, None) ∷ []) = e3 ∙ ap (λ (x : Me (Option C) (View K F R)). (x.0, (0, None) ∷ rest x.1)) taken'.1 in
+      let me : m3 ≡ (serving entries ended (waiting v t) d, (0, None) ∷ []) = e3 ∙ ap (λ (x : Me (Option C) (View K F R)). (x.0, (0, None) ∷ rest x.1)) taken'.1 in
       let l = taken'.2 in
       subst (λ (x : C). Took entries ended Same passes v x m3) same record {
         ticket = t;
@@ -60,42 +61,56 @@ stop_count (event.Fault told f) = refl
 stop_count (event.Quiet told j) = refl
 stop_count event.Stop = refl
 
-module _ {System State Found Goal Reason : Type 0} (m : Meaning State Found Goal Reason) (v : View (Key (Core System State Found Goal Reason)) Found Reason) (b a : Core System State Found Goal Reason)
+module _ {System State Found Goal Reason : Type 0} (means : System → Meaning State Found Goal Reason) (s : System) (key : Key (Core System State Found Goal Reason))
+    (v : View (Key (Core System State Found Goal Reason)) Found Reason) (keyed : v.key ≡ Some key) (own : s ≡ key.core.value.system) (b a : Core System State Found Goal Reason)
     (e : Event Found) (r : Reply Found Reason) (stop : Bool) (is : stop ≡ is_stop e)
-    (n : Me (Option (Core System State Found Goal Reason)) (View (Key (Core System State Found Goal Reason)) Found Reason)) (t : Took entries_of ended_of IsOfKey passes_of v b n) (goes : Answers m b e r a) where
+    (n : Me (Option (Core System State Found Goal Reason)) (View (Key (Core System State Found Goal Reason)) Found Reason)) (t : Took entries_of ended_of (IsOfKey means) passes_of v b n)
+    (came : MayCome (means s) b e) (goes : Answers (means s) b e r a) where
   seen : View (Key (Core System State Found Goal Reason)) Found Reason
-  seen = serving entries_of ended_of IsOfKey passes_of (waiting v t.ticket) b
+  seen = serving entries_of ended_of (waiting v t.ticket) b
 
   count : (if stop then 1 else 0) ≡ stops_of e
   count = ap (λ (x : Bool). if x then 1 else 0) is ∙ stop_count e
 
-  sight : n.0 ≡ serving entries_of ended_of IsOfKey passes_of (waiting v t.ticket) b
+  sight : n.0 ≡ serving entries_of ended_of (waiting v t.ticket) b
   sight = ap (λ (x : Me (Option (Core System State Found Goal Reason)) (View (Key (Core System State Found Goal Reason)) Found Reason)). x.0) t.me
 
-  pub may_follow : MayFollow entries_of ended_of IsOfKey (if stop then 1 else 0) n.0 a
-  may_follow = let f = follows m b a e r b.ending refl goes in
-      subst (λ (k : ℕ). MayFollow entries_of ended_of IsOfKey k n.0 a) (sym count)
-      (subst (λ (w : View (Key (Core System State Found Goal Reason)) Found Reason). MayFollow entries_of ended_of IsOfKey (stops_of e) w a) (sym sight) record {
-        same = λ k has_it. let s = t.learns.same k has_it in record { system = f.system ∙ s.system; base = f.base ∙ s.base; goal = f.goal ∙ s.goal; given = f.given ∙ s.given };
+  -- both cores are of the key, with one event between them
+  was_of : (k : Key (Core System State Found Goal Reason)) → v.key ≡ Some k → IsOf (means s) k.core.value b
+  was_of k has_it = subst (λ (x : Key (Core System State Found Goal Reason)). IsOf (means s) x.core.value b) (one_key v.key key k keyed has_it)
+      (subst (λ (x : System). IsOf (means x) key.core.value b) (sym own) (t.learns.same key keyed))
+
+  is_of : (k : Key (Core System State Found Goal Reason)) → v.key ≡ Some k → IsOfKey means k a
+  is_of k has_it =
+      let f = follows (means s) b a e r b.ending refl goes in
+      let w = was_of key keyed in
+      let now : IsOf (means s) key.core.value a = (record { system = f.system ∙ w.0.system; base = f.base ∙ w.0.base; goal = f.goal ∙ w.0.goal; given = f.given ∙ w.0.given }, led_on (means s) key.core.value b a e r w.1 came goes) in
+      subst (λ (x : Key (Core System State Found Goal Reason)). IsOfKey means x a) (one_key v.key key k keyed has_it) (subst (λ (x : System). IsOf (means x) key.core.value a) own now)
+
+  pub may_follow : MayFollow entries_of ended_of (IsOfKey means) (if stop then 1 else 0) n.0 a
+  may_follow = let f = follows (means s) b a e r b.ending refl goes in
+      subst (λ (k : ℕ). MayFollow entries_of ended_of (IsOfKey means) k n.0 a) (sym count)
+      (subst (λ (w : View (Key (Core System State Found Goal Reason)) Found Reason). MayFollow entries_of ended_of (IsOfKey means) (stops_of e) w a) (sym sight) record {
+        same = is_of;
         further = f.further;
         stands = f.stands;
         stopped = f.stopped;
       })
 
   module _ (n' : Me (Option (Core System State Found Goal Reason)) (View (Key (Core System State Found Goal Reason)) Found Reason)) where
-    pub acted : n' ≡ (passed entries_of ended_of IsOfKey passes_of (if stop then 1 else 0) n.0 a, []) → Shows passes_of (passed entries_of ended_of IsOfKey passes_of (if stop then 1 else 0) n.0 a) → MayCome m b e → Legal m b → Legal m a → Acts m v e r n'
-    acted me shows came legal legal_after = record {
+    pub acted : n' ≡ (passed entries_of ended_of (if stop then 1 else 0) n.0 a, []) → Shows passes_of (passed entries_of ended_of (if stop then 1 else 0) n.0 a) → Legal (means s) b → Legal (means s) a → Acts (means s) v e r n'
+    acted me shows legal legal_after = record {
       before = b;
       after = a;
-      of_key = t.learns.same;
+      of_key = was_of;
       may_come = came;
       answers = goes;
       legal = legal;
       legal_after = legal_after;
       knew = t.learns.further;
       stood = t.learns.stands;
-      me = me ∙ (ap (λ (k : ℕ). (passed entries_of ended_of IsOfKey passes_of k n.0 a, none_out)) count
-          ∙ ap (λ (w : View (Key (Core System State Found Goal Reason)) Found Reason). (passed entries_of ended_of IsOfKey passes_of (stops_of e) w a, none_out)) sight);
-      shows = subst (λ (k : ℕ). Shows passes_of (passed entries_of ended_of IsOfKey passes_of k (serving entries_of ended_of IsOfKey passes_of v b) a)) count
-          (subst (λ (w : View (Key (Core System State Found Goal Reason)) Found Reason). Shows passes_of (passed entries_of ended_of IsOfKey passes_of (if stop then 1 else 0) w a)) sight shows);
+      me = me ∙ (ap (λ (k : ℕ). (passed entries_of ended_of k n.0 a, none_out)) count
+          ∙ ap (λ (w : View (Key (Core System State Found Goal Reason)) Found Reason). (passed entries_of ended_of (stops_of e) w a, none_out)) sight);
+      shows = subst (λ (k : ℕ). Shows passes_of (passed entries_of ended_of k (serving entries_of ended_of v b) a)) count
+          (subst (λ (w : View (Key (Core System State Found Goal Reason)) Found Reason). Shows passes_of (passed entries_of ended_of (if stop then 1 else 0) w a)) sight shows);
     }

@@ -9,7 +9,7 @@ use Rattle.opt_core.specs.declared.event.Event.{Event}
 use Rattle.opt_core.specs.declared.event.Event.TheVariants as event
 use Rattle.opt_core.specs.declared.event.Reply.{Reply}
 use Rattle.opt_core.specs.declared.event.Reply.TheVariants as reply
-use Rattle.opt_core.specs.Core.{Core, Legal, reached, at_first}
+use Rattle.opt_core.specs.Core.{Core, Legal, AllApply, reached, at_first}
 use Rattle.opt_core.specs.Steps.{Answers, AnswersWith, MayCome}
 use Rattle.opt_core.specs.Runs.{SameStart, Says, commits_of, matches_of}
 use Rattle.opt_core.proofs.Events.{event_does}
@@ -19,12 +19,13 @@ use Rattle.opt_gate.specs.declared.key.Key.{Key}
 use Rattle.opt_gate.specs.declared.view.View.{View}
 use Rattle.opt_gate.specs.Lists.{StartsWith}
 use Rattle.opt_gate.specs.inside.Totals.{placed_from}
-use Rattle.opt_gate.specs.inside.Cores.{entries_of, ended_of, IsOfKey, passes_of}
+use Rattle.opt_gate.specs.inside.Cores.{entries_of, ended_of, passes_of}
 use Rattle.opt_gate.specs.inside.Plays.{resting, serving, passed, Shows}
-use Rattle.opt_gate.specs.Pass.{PassView, IsWhole}
+use Rattle.opt_gate.specs.Pass.{PassView, IsWhole, OwnsRightly}
 use Rattle.opt_gate.specs.Turn.{event_of, stops_of, news_of, entries_told, pass_after, told_after, MayAsk, IsTrueEnding, IsOneEvent}
 use Rattle.opt_gate.specs.inside.Seats.{told_and_handed, Acts}
 use Rattle.opt_gate.proofs.Owns.{rest_is}
+use Rattle.opt_gate.proofs.Led.{one_key}
 use Rattle.opt_gate.proofs.Taking.{none_out}
 use Rattle.opt_gate.proofs.Prefixes.{starts_trans}
 
@@ -146,11 +147,8 @@ module _ {K F R : Type 0} where
   abbrev pub seen_as : View K F R → TableId → ℕ → ℕ → ℕ → PassView K F R
   seen_as v table number told room = record { table = table; key = v.key; number = number; told = told; room = room; knows = v.knows; ending = v.ending; own = v.own; stops = v.stops }
 
-one_key : {K : Type 0} (o : Option K) (a b : K) → o ≡ Some a → o ≡ Some b → a ≡ b
-one_key o a b e f = cc
-
 module _ {System State Found Goal Reason : Type 0} where
-  pub of_its_key : (o : Option (Key (Core System State Found Goal Reason))) (k key : Key (Core System State Found Goal Reason)) (c : Core System State Found Goal Reason) → o ≡ Some k → o ≡ Some key → IsOfKey k c → SameStart key.core.value c
+  pub of_its_key : (o : Option (Key (Core System State Found Goal Reason))) (k key : Key (Core System State Found Goal Reason)) (c : Core System State Found Goal Reason) → o ≡ Some k → o ≡ Some key → SameStart k.core.value c → SameStart key.core.value c
   of_its_key o k key c e f same = subst (λ (x : Key (Core System State Found Goal Reason)). SameStart x.core.value c) (one_key o k key e f) same
 
   pub whole_pass : (key : Key (Core System State Found Goal Reason)) (v : View (Key (Core System State Found Goal Reason)) Found Reason) (table : TableId) (number told room : ℕ)
@@ -180,7 +178,7 @@ module _ {System State Found Goal Reason : Type 0} (m : Meaning State Found Goal
   longer_after = let t = event_does m acts.before acts.after e r lawful acts.legal acts.may_come acts.answers in
       let x = ap (λ (l : List Found). length l) t.adds in let y = length-append acts.before.entries (matches_of (commits_of e r)) in omega arith
 
-  sight : n.0 ≡ passed entries_of ended_of IsOfKey passes_of (stops_of e) (serving entries_of ended_of IsOfKey passes_of v acts.before) acts.after
+  sight : n.0 ≡ passed entries_of ended_of (stops_of e) (serving entries_of ended_of v acts.before) acts.after
   sight = ap (λ (x : Me (Option (Core System State Found Goal Reason)) (View (Key (Core System State Found Goal Reason)) Found Reason)). x.0) acts.me
 
   -- the number that was told lies within what is known, and fits in a word
@@ -207,6 +205,28 @@ module _ {System State Found Goal Reason : Type 0} (m : Meaning State Found Goal
   ended_is : n.0.ending ≡ acts.after.ending
   ended_is = ap (λ (w : View (Key (Core System State Found Goal Reason)) Found Reason). w.ending) sight
 
+  -- an answer that the goal has ended names the ending that the pass knows then
+  pub closed_then : (x : Ending Reason) → r ≡ reply.Closed x → n.0.ending ≡ Some x
+  closed_then x closed =
+      let t = event_does m acts.before acts.after e r lawful acts.legal acts.may_come acts.answers in
+      ended_is ∙ (subst (λ (y : Reply Found Reason). Says m acts.before e y acts.after) closed t.says).0
+
+  -- an ending that the pass knew stays
+  stays_seen : (x : Ending Reason) → v.ending ≡ Some x → (r ≡ reply.Closed x) × (n.0.ending ≡ Some x) × (n.0.knows ≡ v.knows)
+  stays_seen x end =
+      let b = acts.stood x end in
+      let h : AnswersWith m (Some x) acts.before e r acts.after = subst (λ (o : Option (Ending Reason)). AnswersWith m o acts.before e r acts.after) b.0 acts.answers in
+      (h.0, ended_is ∙ (ap (λ (c : Core System State Found Goal Reason). c.ending) h.1 ∙ b.0), known_is ∙ (ap (λ (c : Core System State Found Goal Reason). c.entries) h.1 ∙ b.1))
+
+  -- all that the pass knows then applies
+  pub applies_then : AllApply m key.core.value.goal key.core.value.base n.0.knows
+  applies_then =
+      let t = event_does m acts.before acts.after e r lawful acts.legal acts.may_come acts.answers in
+      let o = (acts.of_key key keyed).0 in
+      subst (λ (l : List Found). AllApply m key.core.value.goal key.core.value.base l) (sym known_is)
+      (subst (λ (g : Goal). AllApply m g key.core.value.base acts.after.entries) (t.start.goal ∙ o.goal)
+      (subst (λ (b : State). AllApply m acts.after.goal b acts.after.entries) (t.start.base ∙ o.base) acts.legal_after.each_applies))
+
   -- the facts of a turn, over the pass p before it and whatever is equal to what is seen after it
   module _ (p : PassView (Key (Core System State Found Goal Reason)) Found Reason) (table' : TableId) (told' : ℕ) (is_p : seen_as v table number told room ≡ p) (is_table : table' ≡ table) (is_told : told' ≡ told_and_handed told r) where
     same_after : seen_as n.0 table' number told' room ≡ seen_as n.0 table number (told_and_handed told r) room
@@ -220,7 +240,8 @@ module _ {System State Found Goal Reason : Type 0} (m : Meaning State Found Goal
     one_event = subst (λ (p : PassView (Key (Core System State Found Goal Reason)) Found Reason). IsOneEvent m key.core.value p a r (seen_as n.0 table' number told' room)) is_p record {
       before = acts.before;
       after = acts.after;
-      of_start = acts.of_key key keyed;
+      of_start = (acts.of_key key keyed).0;
+      led = (acts.of_key key keyed).1;
       may_come = may;
       answers = answered;
       legal = acts.legal;
@@ -238,12 +259,17 @@ module _ {System State Found Goal Reason : Type 0} (m : Meaning State Found Goal
         now ∙ (told_more m acts.before acts.after told told_b a r (adds m acts.before acts.after e r lawful acts.legal acts.may_come acts.answers) answered
         ∙ (ap (λ (l : List Found). l ++ news_of r) kept ∙ ap (λ (q : PassView (Key (Core System State Found Goal Reason)) Found Reason). entries_told q ++ news_of r) is_p))
 
+    pub stays_then : (x : Ending Reason) → p.ending ≡ Some x → (r ≡ reply.Closed x) × (n.0.ending ≡ Some x) × (n.0.knows ≡ p.knows)
+    stays_then x end =
+        let s = stays_seen x (ap (λ (q : PassView (Key (Core System State Found Goal Reason)) Found Reason). q.ending) is_p ∙ end) in
+        (s.0, s.1, s.2 ∙ ap (λ (q : PassView (Key (Core System State Found Goal Reason)) Found Reason). q.knows) is_p)
+
   -- the ending that the pass knows then is true
   pub ending_known : (x : Ending Reason) → n.0.ending ≡ Some x → IsTrueEnding m key.core.value n.0.knows x
   ending_known x end =
       let known : n.0.knows ≡ acts.after.entries = ap (λ (w : View (Key (Core System State Found Goal Reason)) Found Reason). w.knows) sight in
       let ended : acts.after.ending ≡ Some x = sym (ap (λ (w : View (Key (Core System State Found Goal Reason)) Found Reason). w.ending) sight) ∙ end in
-      let t = event_does m acts.before acts.after e r lawful acts.legal acts.may_come acts.answers in let o = acts.of_key key keyed in
+      let t = event_does m acts.before acts.after e r lawful acts.legal acts.may_come acts.answers in let o = (acts.of_key key keyed).0 in
       let same : SameStart key.core.value acts.after = record { system = t.start.system ∙ o.system; base = t.start.base ∙ o.base; goal = t.start.goal ∙ o.goal; given = t.start.given ∙ o.given } in
       subst (λ (l : List Found). IsTrueEnding m key.core.value l x) (sym known) (true_ending m key.core.value acts.after same acts.legal_after x ended)
 
@@ -254,7 +280,10 @@ module _ {System State Found Goal Reason : Type 0} (m : Meaning State Found Goal
 
   pub whole_then : (table' : TableId) (told' : ℕ) → room ≡ v.room → IsWhole key (seen_as n.0 table' number told' room)
   whole_then table' told' same = subst (λ (w : View (Key (Core System State Found Goal Reason)) Found Reason). IsWhole key (seen_as w table' number told' room)) (sym sight)
-      (whole_pass key (passed entries_of ended_of IsOfKey passes_of (stops_of e) (serving entries_of ended_of IsOfKey passes_of v acts.before) acts.after) table' number told' room acts.shows keyed same)
+      (whole_pass key (passed entries_of ended_of (stops_of e) (serving entries_of ended_of v acts.before) acts.after) table' number told' room acts.shows keyed same)
+
+  pub own_then : (table' : TableId) (told' : ℕ) → OwnsRightly (seen_as n.0 table' number told' room)
+  own_then table' told' = subst (λ (w : View (Key (Core System State Found Goal Reason)) Found Reason). OwnsRightly (seen_as w table' number told' room)) (sym sight) record { at_places = acts.shows.own; once = acts.shows.once }
 
   pub room_stays : n.0.room ≡ v.room
   room_stays = ap (λ (w : View (Key (Core System State Found Goal Reason)) Found Reason). w.room) sight

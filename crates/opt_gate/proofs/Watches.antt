@@ -34,9 +34,9 @@ module _ {K F R : Type 0} (id : ℕ) (v : View K F R) (calm : v.served ≡ false
   module _ {C : Type 0} (entries : C → List F) (ended : C → Option (Ending R)) (Same : K → C → Type 0) (passes : K → ℕ) (key : K) where
     -- the turns, where a view begins to be served
     serve_turns : (c : C) (served drawn n : ℕ) (ws : List ℕ) (views : List (View K F R)) → Turns served drawn n ws views → At views id v → served ≡ t
-        → Turns served drawn n (set ws 0 (get_or ws 0 0)) (set views id (serving entries ended Same passes v c))
+        → Turns served drawn n (set ws 0 (get_or ws 0 0)) (set views id (serving entries ended v c))
     serve_turns c served drawn n ws views turns at now =
-        let w = serving entries ended Same passes v c in
+        let w = serving entries ended v c in
         let same = total_same has_ticket views id v w at refl in let queue = turns.queue in record {
           words_are = same_words served drawn (2 ^ 64) ws turns.words_are;
           few = turns.few;
@@ -59,7 +59,7 @@ module _ {K F R : Type 0} (id : ℕ) (v : View K F R) (calm : v.served ≡ false
         (λ h. let its : h.1.ticket ≡ Some served = turns.is_served h.0 h.1 h.2 h.3 in
         absurd (not_served views h.0 id h.1 v h.2 at h.3 calm (turns.apart h.0 id served h.1 v h.2 at its (mine ∙ ap Some (sym now))))) p
 
-    serve_knows : (c : C) (log : List F) (end : Option (Ending R)) → Knows key log end v → entries c ≡ log → ended c ≡ end → Knows key log end (serving entries ended Same passes v c)
+    serve_knows : (c : C) (log : List F) (end : Option (Ending R)) → Knows key log end v → entries c ≡ log → ended c ≡ end → Knows key log end (serving entries ended v c)
     serve_knows c log end k el ee = record {
       keyed = k.keyed;
       known = starts_self log (entries c) (sym el);
@@ -73,12 +73,12 @@ module _ {K F R : Type 0} (id : ℕ) (v : View K F R) (calm : v.served ≡ false
     module _ (c : C) (served drawn : ℕ) (ws : List ℕ) (log : List F) (end : Option (Ending R)) (views : List (View K F R))
         (turns : Turns served drawn (passes key) ws views) (knowing : (i : ℕ) (u : View K F R) → At views i u → Knows key log end u) (tally : Tally log end views) (at : At views id v)
         (now : served ≡ t) (same : Same key c) (el : entries c ≡ log) (ee : ended c ≡ end) where
-      serve_knowing : (i : ℕ) (u : View K F R) → At (set views id (serving entries ended Same passes v c)) i u → Knows key log end u
+      serve_knowing : (i : ℕ) (u : View K F R) → At (set views id (serving entries ended v c)) i u → Knows key log end u
       serve_knowing i u e = ⊎_elim (λ z. subst (λ (x : View K F R). Knows key log end x) z.1 (serve_knows c log end (knowing id v at) el ee)) (λ z. knowing i u z.1)
-          (at_set views id i (serving entries ended Same passes v c) u e)
+          (at_set views id i (serving entries ended v c) u e)
 
-      serve_tally : Tally log end (set views id (serving entries ended Same passes v c))
-      serve_tally = let w = serving entries ended Same passes v c in record {
+      serve_tally : Tally log end (set views id (serving entries ended v c))
+      serve_tally = let w = serving entries ended v c in record {
         once = λ p. total_same (λ (x : View K F R). times p x.own) views id v w at refl ∙ tally.once p;
         stopped = λ e. rw (total_same (λ (x : View K F R). x.stops) views id v w at refl) (tally.stopped e);
       }
@@ -90,15 +90,15 @@ module _ {K F R : Type 0} (id : ℕ) (v : View K F R) (calm : v.served ≡ false
             same = λ k' is. subst (λ (x : K). Same x c) (⊎_elim (λ e. some_key key k' (sym e ∙ is)) (λ none. absurd (omega arith)) k.keyed) same;
             further = (k.known.0, el ∙ k.known.1);
             stands = λ x e. let s = k.ended x e in (ee ∙ s.0, el ∙ sym s.1);
-            shows = told passes key served drawn (set ws 0 (get_or ws 0 0)) log end (set views id (serving entries ended Same passes v c)) (serve_turns c served drawn (passes key) ws views turns at now)
-                serve_knowing serve_tally id (serving entries ended Same passes v c) (set_here views id (serving entries ended Same passes v c) (at_below views id v at)) room;
+            shows = told passes key served drawn (set ws 0 (get_or ws 0 0)) log end (set views id (serving entries ended v c)) (serve_turns c served drawn (passes key) ws views turns at now)
+                serve_knowing serve_tally id (serving entries ended v c) (set_here views id (serving entries ended v c) (at_below views id v at)) room;
           }
 
     pub watches : (slots : ℕ) → Allows (Ruled entries ended Same passes key) slots id (v, []) 0 (λ n. n) (Watched entries ended Same passes (step slots 0 0 0 core.none) (v, []))
     watches slots s r long at wide = dite (ℕ_discrete (t % 2 ^ 64) (get_or s.words 0 0))
         (λ hit. let now : r.served ≡ t = is_mine r.served r.drawn (passes key) s.words s.views r.turns id t v at mine (hit ∙ served_word r.served r.drawn (2 ^ 64) s.words r.turns.words_are) in
         let h = at_home r.served r.drawn (passes key) s.words r.log r.end s.homes s.views r.turns at now r.placed in
-        let c = h.0 in let w = serving entries ended Same passes v c in (
+        let c = h.0 in let w = serving entries ended v c in (
           w,
           takes 0 (Some c),
           h.1,

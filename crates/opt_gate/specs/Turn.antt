@@ -8,7 +8,7 @@ use Rattle.opt_core.specs.declared.event.Reply.{Reply}
 use Rattle.opt_core.specs.declared.event.Reply.TheVariants as reply
 use Rattle.opt_core.specs.Core.{Core, Legal, reached}
 use Rattle.opt_core.specs.Steps.{Answers, MayCome}
-use Rattle.opt_core.specs.Runs.{SameStart, commits_of}
+use Rattle.opt_core.specs.Runs.{SameStart, EventsLead, commits_of}
 use Rattle.opt_gate.specs.declared.ask.Ask.{Ask}
 use Rattle.opt_gate.specs.declared.ask.Ask.TheVariants as ask
 use Rattle.opt_gate.specs.declared.key.Key.{Key}
@@ -87,6 +87,8 @@ module _ {System State Found Goal Reason : Type 0} (m : Meaning State Found Goal
     pub after : Core System State Found Goal Reason
     -- it is of the system, base, goal and items given that the gate was started with
     pub of_start : SameStart start before
+    -- and events led to it from that core
+    pub led : EventsLead m start before
     pub may_come : MayCome m before (event_of p.told a)
     pub answers : Answers m before (event_of p.told a) r after
     pub legal : Legal m before

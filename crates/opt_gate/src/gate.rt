@@ -2,7 +2,7 @@
 
 ghost use Rattle.std.specs.Prelude.{◌≡◌, ◌<◌, ◌^◌, ℕ, [], ◌∷◌, ◌++◌, None, Some, length, IfOk, IfErr};
 ghost use Rattle.opt_core.specs.Core.{Legal, AllApply};
-ghost use Rattle.opt_core.specs.Runs.{SameStart};
+ghost use Rattle.opt_core.specs.Runs.{SameStart, EventsLead};
 ghost use Rattle.opt_core.specs.declared.event.Ending.{Ending};
 ghost use Rattle.opt_core.specs.declared.event.Ending.TheVariants.{Stopped};
 ghost use Rattle.opt_core.specs.declared.event.Reply.TheVariants.{Closed};
@@ -125,6 +125,7 @@ impl<S: System> GateOf<Core<S>, S::Found, S::Reason, GateRule<S>, S::Goal> {
     pub fn close<R: Wait>(self, rt: &R, pass: Pass<S>) -> Core<S>
         requires { IsPassOf self pass }
         ensures start { SameStart (start_of self) result }
+        ensures led { EventsLead (S.means (start_of self).system) (start_of self) result }
         ensures legal { Legal (S.means (start_of self).system) result }
         ensures knew { StartsWith result.entries pass.knows }
         ensures stands { (x : Ending S.Reason) → pass.ending ≡ Some x → (result.ending ≡ Some x) × (result.entries ≡ pass.knows) }

@@ -18,7 +18,7 @@ pub struct GateRule<S> {
 
 impl<S: System> TableRule<Option<Core<S>>, View<Key<Core<S>>, S::Found, S::Reason>, Key<Core<S>>>
     for GateRule<S> {
-    ghost holds = { Ruled entries_of ended_of IsOfKey passes_of };
+    ghost holds = { Ruled entries_of ended_of (IsOfKey S.means) passes_of };
 
     ghost first = { first_view };
 }
@@ -45,7 +45,7 @@ pub struct Watch<S> {
 }
 
 impl<S: System> Play<Option<Core<S>>, View<Key<Core<S>>, S::Found, S::Reason>> for Watch<S> {
-    ghost then = { Watched entries_of ended_of IsOfKey passes_of };
+    ghost then = { Watched entries_of ended_of (IsOfKey S.means) passes_of };
 }
 
 // The turn goes to the next ticket, and the core into its slot.
@@ -54,7 +54,7 @@ pub struct PassOn<S> {
 }
 
 impl<S: System> Play<Option<Core<S>>, View<Key<Core<S>>, S::Found, S::Reason>> for PassOn<S> {
-    ghost then = { Passed entries_of ended_of IsOfKey passes_of 0 };
+    ghost then = { Passed entries_of ended_of (IsOfKey S.means) passes_of 0 };
 }
 
 // The same after a turn that asked to stop.
@@ -63,7 +63,7 @@ pub struct PassOnStop<S> {
 }
 
 impl<S: System> Play<Option<Core<S>>, View<Key<Core<S>>, S::Found, S::Reason>> for PassOnStop<S> {
-    ghost then = { Passed entries_of ended_of IsOfKey passes_of 1 };
+    ghost then = { Passed entries_of ended_of (IsOfKey S.means) passes_of 1 };
 }
 
 // A pass is split.

@@ -44,7 +44,7 @@ fn watch<S: System, R: Wait>(rt: &R, shared: &GateTable<S>, seat: &mut GateSeat<
     requires table { (seat.old.table_id ≡ shared.now.table_id) × (shared.now.table_id.words ≡ 2) }
     requires drawn { (seat.old.me.0.served ≡ false) × (seat.old.me.1 ≡ []) × ((t : ℕ) × (seat.old.me.0.ticket ≡ Some t) × (t % 2 ^ 64 ≡ ticket)) }
     ensures same { seat.new.table_id ≡ seat.old.table_id }
-    ensures takes { Takes entries_of ended_of IsOfKey passes_of seat.old.me seat.new.me }
+    ensures takes { Takes entries_of ended_of (IsOfKey S.means) passes_of seat.old.me seat.new.me }
 {
     let mut looks = 0;
     for _ in rt.forever() {
@@ -65,10 +65,10 @@ fn watch<S: System, R: Wait>(rt: &R, shared: &GateTable<S>, seat: &mut GateSeat<
 fn hand_on<S: System>(shared: &GateTable<S>, seat: &mut GateSeat<S>, core: Core<S>, is_stop: bool)
     requires table { (seat.old.table_id ≡ shared.now.table_id) × (shared.now.table_id.words ≡ 2) × (shared.now.table_id.slots ≡ 1) }
     requires served { (seat.old.me.0.served ≡ true) × ((held : _) × (seat.old.me.1 ≡ (0, held) ∷ [])) }
-    requires core { MayFollow entries_of ended_of IsOfKey (if is_stop then 1 else 0) seat.old.me.0 core }
+    requires core { MayFollow entries_of ended_of (IsOfKey S.means) (if is_stop then 1 else 0) seat.old.me.0 core }
     ensures same { seat.new.table_id ≡ seat.old.table_id }
-    ensures me { seat.new.me ≡ (passed entries_of ended_of IsOfKey passes_of (if is_stop then 1 else 0) seat.old.me.0 core, []) }
-    ensures shows { Shows passes_of (passed entries_of ended_of IsOfKey passes_of (if is_stop then 1 else 0) seat.old.me.0 core) }
+    ensures me { seat.new.me ≡ (passed entries_of ended_of (if is_stop then 1 else 0) seat.old.me.0 core, []) }
+    ensures shows { Shows passes_of (passed entries_of ended_of (if is_stop then 1 else 0) seat.old.me.0 core) }
 {
     drop(shared.exchange(seat, 0, Some(core)));
     if is_stop {
@@ -97,7 +97,7 @@ pub(crate) fn take<S: System, R: Wait>(
     requires table { (seat.old.table_id ≡ shared.now.table_id) × (shared.now.table_id.words ≡ 2) }
     requires idle { (seat.old.me ≡ (resting seat.old.me.0, [])) × (0 < seat.old.me.0.room) }
     ensures same { seat.new.table_id ≡ seat.old.table_id }
-    ensures took { Took entries_of ended_of IsOfKey passes_of seat.old.me.0 result seat.new.me }
+    ensures took { Took entries_of ended_of (IsOfKey S.means) passes_of seat.old.me.0 result seat.new.me }
     ensures legal { Legal (S.means result.system) result }
 {
     let ticket = draw(shared, seat);

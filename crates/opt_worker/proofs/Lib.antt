@@ -1,2 +1,3 @@
 mod Replicas
 mod News
+mod Later

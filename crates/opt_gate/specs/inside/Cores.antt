@@ -1,7 +1,8 @@
 -- The rule's words at cores.
 use Rattle.std.specs.Prelude.{ℕ, List, [], Option, Some, None, false}
+use Rattle.opt_system.specs.Meaning.{Meaning}
 use Rattle.opt_core.specs.Core.{Core}
-use Rattle.opt_core.specs.Runs.{SameStart}
+use Rattle.opt_core.specs.Runs.{SameStart, EventsLead}
 use Rattle.opt_core.specs.declared.event.Ending.{Ending}
 use Rattle.opt_gate.specs.declared.key.Key.{Key}
 use Rattle.opt_gate.specs.declared.view.View.{View}
@@ -14,9 +15,12 @@ module _ {System State Found Goal Reason : Type 0} where
   abbrev pub ended_of : Core System State Found Goal Reason → Option (Ending Reason)
   ended_of c = c.ending
 
-  -- the core is of the system, base, goal and items given that the gate was made with
-  abbrev pub IsOfKey : Key (Core System State Found Goal Reason) → Core System State Found Goal Reason → Type 0
-  IsOfKey key c = SameStart key.core.value c
+  -- the core is of the system, base, goal and items given that the gate was made with, and events led to it
+  abbrev pub IsOf : Meaning State Found Goal Reason → Core System State Found Goal Reason → Core System State Found Goal Reason → Type 0
+  IsOf m start c = SameStart start c × EventsLead m start c
+
+  abbrev pub IsOfKey : (System → Meaning State Found Goal Reason) → Key (Core System State Found Goal Reason) → Core System State Found Goal Reason → Type 0
+  IsOfKey means key c = IsOf (means key.core.value.system) key.core.value c
 
   abbrev pub passes_of : Key (Core System State Found Goal Reason) → ℕ
   passes_of key = key.passes

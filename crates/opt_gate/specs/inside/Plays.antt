@@ -63,33 +63,34 @@ module _ {K F R : Type 0} where
       abbrev pub Shown : Step (Option C) → Me (Option C) (View K F R) → ℕ → Me (Option C) (View K F R) → Type 0
       Shown st m r n = (n ≡ (resting m.0, m.1)) × Shows m.0
 
-  module _ {C : Type 0} (entries : C → List F) (ended : C → Option (Ending R)) (Same : K → C → Type 0) (passes : K → ℕ) where
+  module _ {C : Type 0} (entries : C → List F) (ended : C → Option (Ending R)) where
     -- the turn has come, and the core is c
     abbrev pub serving : View K F R → C → View K F R
     serving v c = view v.key v.room (entries c) (ended c) v.own v.stops v.ticket true
-
-    -- what the pass learns when its turn comes
-    pub record Learns (v : View K F R) (c : C) : Type 0 where
-      pub same : (k : K) → v.key ≡ Some k → Same k c
-      pub further : StartsWith (entries c) v.knows
-      pub stands : (x : Ending R) → v.ending ≡ Some x → (ended c ≡ Some x) × (entries c ≡ v.knows)
-      pub shows : Shows passes (serving v c)
-
-    abbrev pub Takes : Me (Option C) (View K F R) → Me (Option C) (View K F R) → Type 0
-    Takes m n = (c : C) × (n ≡ (serving m.0 c, (0, Some c) ∷ m.1)) × Learns m.0 c
-
-    abbrev pub Watched : Step (Option C) → Me (Option C) (View K F R) → ℕ → Me (Option C) (View K F R) → Type 0
-    Watched st m r n = (t : ℕ) → m.0.ticket ≡ Some t → (t % 2 ^ 64 ≡ r → Takes m n) × (t % 2 ^ 64 ≢ r → n ≡ m)
 
     -- after a turn that left the core c: the entries past those that were there are its own
     abbrev pub passed : ℕ → View K F R → C → View K F R
     passed stops v c = view v.key v.room (entries c) (ended c) (v.own ++ placed_from (length v.knows) (drop (length v.knows) (entries c))) (v.stops + stops) None false
 
-    abbrev pub Passed : ℕ → Step (Option C) → Me (Option C) (View K F R) → ℕ → Me (Option C) (View K F R) → Type 0
-    Passed stops st m r n = (c : C) → m.1 ≡ (0, Some c) ∷ [] → (n ≡ (passed stops m.0 c, [])) × Shows passes (passed stops m.0 c)
+    module _ (Same : K → C → Type 0) (passes : K → ℕ) where
+      -- what the pass learns when its turn comes
+      pub record Learns (v : View K F R) (c : C) : Type 0 where
+        pub same : (k : K) → v.key ≡ Some k → Same k c
+        pub further : StartsWith (entries c) v.knows
+        pub stands : (x : Ending R) → v.ending ≡ Some x → (ended c ≡ Some x) × (entries c ≡ v.knows)
+        pub shows : Shows passes (serving v c)
 
-    -- the core is out with the view, whose ticket was t
-    pub record Took (v : View K F R) (c : C) (n : Me (Option C) (View K F R)) : Type 0 where
-      pub ticket : ℕ
-      pub me : n ≡ (serving (waiting v ticket) c, (0, None) ∷ [])
-      pub learns : Learns v c
+      abbrev pub Takes : Me (Option C) (View K F R) → Me (Option C) (View K F R) → Type 0
+      Takes m n = (c : C) × (n ≡ (serving m.0 c, (0, Some c) ∷ m.1)) × Learns m.0 c
+
+      abbrev pub Watched : Step (Option C) → Me (Option C) (View K F R) → ℕ → Me (Option C) (View K F R) → Type 0
+      Watched st m r n = (t : ℕ) → m.0.ticket ≡ Some t → (t % 2 ^ 64 ≡ r → Takes m n) × (t % 2 ^ 64 ≢ r → n ≡ m)
+
+      abbrev pub Passed : ℕ → Step (Option C) → Me (Option C) (View K F R) → ℕ → Me (Option C) (View K F R) → Type 0
+      Passed stops st m r n = (c : C) → m.1 ≡ (0, Some c) ∷ [] → (n ≡ (passed stops m.0 c, [])) × Shows passes (passed stops m.0 c)
+
+      -- the core is out with the view, whose ticket was t
+      pub record Took (v : View K F R) (c : C) (n : Me (Option C) (View K F R)) : Type 0 where
+        pub ticket : ℕ
+        pub me : n ≡ (serving (waiting v ticket) c, (0, None) ∷ [])
+        pub learns : Learns v c

@@ -9,10 +9,11 @@ use Rattle.opt_core.specs.declared.event.Reply.{Reply}
 use Rattle.opt_core.specs.declared.event.Reply.TheVariants as reply
 use Rattle.opt_core.specs.Core.{Core, Legal}
 use Rattle.opt_core.specs.Steps.{Answers, MayCome}
+use Rattle.opt_core.specs.Runs.{SameStart}
 use Rattle.opt_gate.specs.declared.key.Key.{Key}
 use Rattle.opt_gate.specs.declared.view.View.{View}
 use Rattle.opt_gate.specs.Lists.{StartsWith}
-use Rattle.opt_gate.specs.inside.Cores.{entries_of, ended_of, IsOfKey, passes_of}
+use Rattle.opt_gate.specs.inside.Cores.{entries_of, ended_of, IsOf, passes_of}
 use Rattle.opt_gate.specs.inside.Plays.{serving, passed, Shows}
 use Rattle.opt_gate.specs.Turn.{stops_of}
 
@@ -33,19 +34,19 @@ module _ {Found Reason : Type 0} where
 module _ {System State Found Goal Reason : Type 0} (m : Meaning State Found Goal Reason) where
   -- the event may come to any core of the gate's start that begins with what the view knows
   abbrev pub MayComeTo : View (Key (Core System State Found Goal Reason)) Found Reason → Event Found → Type 0
-  MayComeTo v e = (k : Key (Core System State Found Goal Reason)) (c : Core System State Found Goal Reason) → v.key ≡ Some k → IsOfKey k c → StartsWith c.entries v.knows → MayCome m c e
+  MayComeTo v e = (k : Key (Core System State Found Goal Reason)) (c : Core System State Found Goal Reason) → v.key ≡ Some k → SameStart k.core.value c → StartsWith c.entries v.knows → MayCome m c e
 
   -- one turn of a seat
   pub record Acts (v : View (Key (Core System State Found Goal Reason)) Found Reason) (e : Event Found) (r : Reply Found Reason)
       (n : Me (Option (Core System State Found Goal Reason)) (View (Key (Core System State Found Goal Reason)) Found Reason)) : Type 0 where
     pub before : Core System State Found Goal Reason
     pub after : Core System State Found Goal Reason
-    pub of_key : (k : Key (Core System State Found Goal Reason)) → v.key ≡ Some k → IsOfKey k before
+    pub of_key : (k : Key (Core System State Found Goal Reason)) → v.key ≡ Some k → IsOf m k.core.value before
     pub may_come : MayCome m before e
     pub answers : Answers m before e r after
     pub legal : Legal m before
     pub legal_after : Legal m after
     pub knew : StartsWith before.entries v.knows
     pub stood : (x : Ending Reason) → v.ending ≡ Some x → (before.ending ≡ Some x) × (before.entries ≡ v.knows)
-    pub me : n ≡ (passed entries_of ended_of IsOfKey passes_of (stops_of e) (serving entries_of ended_of IsOfKey passes_of v before) after, [])
-    pub shows : Shows passes_of (passed entries_of ended_of IsOfKey passes_of (stops_of e) (serving entries_of ended_of IsOfKey passes_of v before) after)
+    pub me : n ≡ (passed entries_of ended_of (stops_of e) (serving entries_of ended_of v before) after, [])
+    pub shows : Shows passes_of (passed entries_of ended_of (stops_of e) (serving entries_of ended_of v before) after)

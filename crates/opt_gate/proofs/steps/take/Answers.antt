@@ -15,5 +15,5 @@ pub returns-clause-took : goal.returns-clause-took
 returns-clause-took g c =
     let v = c.args.seat.now.me.0 in
     let d = c.draw-ticket.ensures.drew in
-    took entries_of ended_of IsOfKey passes_of v d.0 c.draw-ticket.new.seat.me c.watch.new.seat.me c.exchange.new.seat.me c.exchange.result c.unwrap-core.result
+    took entries_of ended_of (IsOfKey g.S.System.means) passes_of v d.0 c.draw-ticket.new.seat.me c.watch.new.seat.me c.exchange.new.seat.me c.exchange.result c.unwrap-core.result
     (d.2 ∙ ap (λ m. (waiting v d.0, m.1)) c.requires.idle.0) c.watch.ensures.takes c.exchange.ensures.2 c.exchange.ensures.3 c.unwrap-core.ensures

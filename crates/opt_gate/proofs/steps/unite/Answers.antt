@@ -16,7 +16,7 @@ join_seat-requires g c =
       t.1,
       ap (λ m. m.1) o,
       omega arith,
-      joins_at entries_of ended_of IsOfKey passes_of c.args.shared.now.key c.args.seat.now.id c.args.other.id c.args.seat.now.me.0 c.args.other.me.0
+      joins_at entries_of ended_of (IsOfKey g.S.System.means) passes_of c.args.shared.now.key c.args.seat.now.id c.args.other.id c.args.seat.now.me.0 c.args.other.me.0
           (ap (λ m. m.0.ticket) i.0) (ap (λ m. m.0.served) i.0) (ap (λ m. m.0.ticket) o) (ap (λ m. m.0.served) o) i.1,
     )
 
@@ -28,7 +28,7 @@ load-requires g c =
     let me = c.join_seat.ensures.2 ∙ ap (λ m. (joined c.args.seat.now.me.0 c.args.other.me.0, m.1)) i.0 in (
       c.join_seat.ensures.0 ∙ t.0,
       omega arith,
-      rests_at entries_of ended_of IsOfKey passes_of c.args.shared.now.key c.join_seat.new.seat.id c.args.shared.now.table_id.slots j c.join_seat.new.seat.me me refl refl (omega arith),
+      rests_at entries_of ended_of (IsOfKey g.S.System.means) passes_of c.args.shared.now.key c.join_seat.new.seat.id c.args.shared.now.table_id.slots j c.join_seat.new.seat.me me refl refl (omega arith),
     )
 
 pub returns-clause-me : goal.returns-clause-me

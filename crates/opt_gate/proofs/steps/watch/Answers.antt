@@ -10,7 +10,7 @@ load-requires g c =
     let size = c.requires.table in (
       c.loop.invariant.0 ∙ size.0,
       omega arith,
-      watches_at entries_of ended_of IsOfKey passes_of c.args.shared.now.key c.loop.seat.id t.0 c.args.shared.now.table_id.slots c.args.seat.now.me c.loop.seat.me c.loop.invariant.1 d.0 d.1 t.1,
+      watches_at entries_of ended_of (IsOfKey g.S.System.means) passes_of c.args.shared.now.key c.loop.seat.id t.0 c.args.shared.now.table_id.slots c.args.seat.now.me c.loop.seat.me c.loop.invariant.1 d.0 d.1 t.1,
     )
 
 pub returns-then-load-ticket-clause-takes : goal.returns-then-load-ticket-clause-takes

@@ -1,6 +1,6 @@
 use Rattle.std.proofs.Common.{◌∙◌, sym, ap, arith, subst}
 use Rattle.opt_gate.specs.Lists.{StartsWith}
-use Rattle.opt_gate.proofs.Turned.{asks_come, of_its_key, told_known, rests_again, room_stays, one_event, pass_then, told_then, ending_known, further_then, whole_then}
+use Rattle.opt_gate.proofs.Turned.{asks_come, of_its_key, told_known, rests_again, room_stays, one_event, pass_then, told_then, ending_known, further_then, whole_then, closed_then, stays_then, applies_then, own_then}
 use Rattle.opt_gate.proofs.gate.GateOf+Core+S+S+Found+S+Reason+GateRule+S+S+Goal.turn.Goals as goal
 
 pub act-reply-requires-clause-system : goal.act-reply-requires-clause-system
@@ -77,3 +77,35 @@ returns-clause-further g c =
     subst (λ l. StartsWith c.act-reply.new.seat.me.0.knows l) (ap (λ p. p.knows) c.pass.view_is)
     (further_then m (g.met.S.System.lawful c.args.s.now) c.args.self.now.key v c.pass.inside.seat.table_id c.pass.inside.number c.pass.inside.told c.pass.inside.room c.args.ask c.into_event-event.result c.act-reply.result c.act-reply.new.seat.me c.act-reply.ensures.acts
     c.into_event-event.ensures c.pass.invariant.3 keyed)
+
+pub returns-clause-applies : goal.returns-clause-applies
+returns-clause-applies g c =
+    let m = g.S.System.means c.args.s.now in
+    let v = c.pass.inside.seat.me.0 in
+    let keyed = ap (λ p. p.key) c.pass.view_is ∙ c.requires.gate.1 in
+    applies_then m (g.met.S.System.lawful c.args.s.now) c.args.self.now.key v c.pass.inside.seat.table_id c.pass.inside.number c.pass.inside.told c.pass.inside.room c.args.ask c.into_event-event.result c.act-reply.result c.act-reply.new.seat.me c.act-reply.ensures.acts
+    c.into_event-event.ensures c.pass.invariant.3 keyed
+
+pub returns-clause-closed : goal.returns-clause-closed
+returns-clause-closed g c =
+    let m = g.S.System.means c.args.s.now in
+    let v = c.pass.inside.seat.me.0 in
+    let keyed = ap (λ p. p.key) c.pass.view_is ∙ c.requires.gate.1 in
+    closed_then m (g.met.S.System.lawful c.args.s.now) c.args.self.now.key v c.pass.inside.seat.table_id c.pass.inside.number c.pass.inside.told c.pass.inside.room c.args.ask c.into_event-event.result c.act-reply.result c.act-reply.new.seat.me c.act-reply.ensures.acts
+    c.into_event-event.ensures c.pass.invariant.3 keyed
+
+pub returns-clause-stays : goal.returns-clause-stays
+returns-clause-stays g c =
+    let m = g.S.System.means c.args.s.now in
+    let v = c.pass.inside.seat.me.0 in
+    let keyed = ap (λ p. p.key) c.pass.view_is ∙ c.requires.gate.1 in
+    stays_then m (g.met.S.System.lawful c.args.s.now) c.args.self.now.key v c.pass.inside.seat.table_id c.pass.inside.number c.pass.inside.told c.pass.inside.room c.args.ask c.into_event-event.result c.act-reply.result c.act-reply.new.seat.me c.act-reply.ensures.acts
+    c.into_event-event.ensures c.pass.invariant.3 keyed c.args.pass.now c.act-reply.new.seat.table_id c.told_then-pass-inside.result c.pass.view_is c.act-reply.ensures.same c.told_then-pass-inside.ensures
+
+pub returns-clause-own : goal.returns-clause-own
+returns-clause-own g c =
+    let m = g.S.System.means c.args.s.now in
+    let v = c.pass.inside.seat.me.0 in
+    let keyed = ap (λ p. p.key) c.pass.view_is ∙ c.requires.gate.1 in
+    own_then m (g.met.S.System.lawful c.args.s.now) c.args.self.now.key v c.pass.inside.seat.table_id c.pass.inside.number c.pass.inside.told c.pass.inside.room c.args.ask c.into_event-event.result c.act-reply.result c.act-reply.new.seat.me c.act-reply.ensures.acts
+    c.into_event-event.ensures c.pass.invariant.3 keyed c.act-reply.new.seat.table_id c.told_then-pass-inside.result

@@ -12,5 +12,5 @@ split_seat-seat-requires g c =
     let two : 2 ≤ v.room = (let r = c.requires.room in let s = i.1 in omega arith) in (
       ap (λ x. x.table) c.self.view_is ∙ (c.requires.gate.0 ∙ sym (ap (λ x. x.table) c.gate.view_is)),
       omega arith,
-      splits c.self.inside.seat.id v (ap (λ m. m.0.ticket) i.0) (ap (λ m. m.0.served) i.0) two entries_of ended_of IsOfKey passes_of c.gate.inside.table.shared.key,
+      splits c.self.inside.seat.id v (ap (λ m. m.0.ticket) i.0) (ap (λ m. m.0.served) i.0) two entries_of ended_of (IsOfKey g.S.System.means) passes_of c.gate.inside.table.shared.key,
     )
