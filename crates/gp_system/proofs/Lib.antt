@@ -6,4 +6,6 @@ pub mod Systems
 pub mod Pursuits
 pub mod Endings
 pub mod Crews
+mod Pursues
 pub mod Crossing
+pub mod Costs

@@ -23,8 +23,9 @@ use Rattle.gp_journal.specs.Leads.{AppliesBy, Goes, Leads}
 use Rattle.gp_journal.specs.Journal.{items_of, noted}
 use Rattle.gp_system.specs.declared.goal.CallGoal.{CallGoal}
 use Rattle.gp_system.specs.Gp.{RuleSystem, rules_of, has, judged_by, judged_in, gp_means}
+use Rattle.gp_system.specs.Laws.{EntriesAreCalls}
 use Rattle.gp_system.specs.inside.Pursued.{HasUsed, turns_first, noted_but_last_turn}
-use Rattle.gp_system.proofs.Systems.{contains_has, step_of, by_set, well_formed_at}
+use Rattle.gp_system.proofs.Systems.{contains_has, step_of, by_set, some_same, well_formed_at}
 
 -- ---- one entry
 
@@ -187,6 +188,12 @@ module _ (s : RuleSystem) (goal : CallGoal) (w : All IsWellFormed (rules_of s)) 
   calls_at : (t : Trail) (m : Found) (e : (gp_means s).judged goal t m ≡ applies) → IsNumbered t.graph → CallsTo (rules_of s) (step_at t m e).set t.graph m (advanced (rules_of s) t m).graph
   calls_at t m e n = let a = step_at t m e in record { in_set = a.in_set; rule = a.step.rule; is_rule = a.step.is_rule; step = stepped_by (rules_of s) t.graph m a.step w n }
 
+  -- an entry, with those before it
+  entry_calls : (t : Trail) (before rest : List Found) (m : Found) (set : List ℕ) → AllApply (gp_means s) goal t (before ++ m ∷ rest) → IsNumbered t.graph → slice_get s.sets goal.call ≡ Some set
+      → CallsTo (rules_of s) set (reached (gp_means s) t before).graph m (reached (gp_means s) t (before ++ m ∷ [])).graph
+  entry_calls t [] rest m set a n is = subst (λ (l : List ℕ). CallsTo (rules_of s) l t.graph m (advanced (rules_of s) t m).graph) (some_same (sym (step_at t m a.0).is_set ∙ is)) (calls_at t m a.0 n)
+  entry_calls t (f ∷ fs) rest m set a n is = entry_calls (advanced (rules_of s) t f) fs rest m set a.1 (next_numbered t f a.0 n) is
+
   pub called_once : (program : Program) (t : Trail) (m : Found) → program.rules ≡ rules_of s → program.sets ≡ s.sets → (gp_means s).judged goal t m ≡ applies → IsNumbered t.graph → meant.Run program (Call goal.call) t.graph [] (Stepped m ∷ []) (meant.Gives (advanced (rules_of s) t m).graph)
   called_once program t m f h e n =
       let a = step_at t m e in
@@ -206,3 +213,6 @@ module _ (s : RuleSystem) (goal : CallGoal) (w : All IsWellFormed (rules_of s)) 
 
   pub has_applying : (t : Trail) (m : Found) → (gp_means s).judged goal t m ≡ applies → (set : List ℕ) × (slice_get s.sets goal.call ≡ Some set) × HasApplying (rules_of s) set t.graph
   has_applying t m e = let a = step_at t m e in (a.set, a.is_set, record { found = m; in_set = a.in_set; rule = a.step.rule; is_rule = a.step.is_rule; applies = a.step.applies })
+
+pub entries_call : EntriesAreCalls
+entries_call s c set w n is legal before m rest e = entry_calls s c.goal w c.base before rest m set (subst (λ (es : List Found). AllApply (gp_means s) c.goal c.base es) e legal.each_applies) n is

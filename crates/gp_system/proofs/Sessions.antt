@@ -199,14 +199,19 @@ sought_here p q s j l set rules c g x e f h i k w =
 
 -- ---- plans
 
-pub one_plan_more : (rules : List RuleParts) (n : ℕ) (r : RuleParts) (plans more : List (List Operation)) (p : List Operation) → n < length rules → r ≡ slice_index_or rules n r → plans ≡ map plan_of (map rule_of_tree (take n rules)) → All IsWellFormed (map rule_of_tree (take n rules))
-    → p ≡ plan_of (rule_of_tree r) → IsWellFormed (rule_of_tree r) → more ≡ plans ++ p ∷ [] → (more ≡ map plan_of (map rule_of_tree (take (n + 1) rules))) × All IsWellFormed (map rule_of_tree (take (n + 1) rules))
-one_plan_more rules n r plans more p l e a w f v h =
+taken_trees : (rules : List RuleParts) (n : ℕ) (r : RuleParts) → n < length rules → r ≡ slice_index_or rules n r → map rule_of_tree (take (n + 1) rules) ≡ map rule_of_tree (take n rules) ++ rule_of_tree r ∷ []
+taken_trees rules n r l e =
     let taken : take (n + 1) rules ≡ take n rules ++ r ∷ [] = rw add-one (take-suc rules n r l ∙ ap (λ z. take n rules ++ z ∷ []) (sym e)) in
-    let trees : map rule_of_tree (take (n + 1) rules) ≡ map rule_of_tree (take n rules) ++ rule_of_tree r ∷ [] = ap (map rule_of_tree) taken ∙ map-append rule_of_tree (take n rules) (r ∷ []) in (
-      h ∙ ap (λ (ps : List (List Operation)). ps ++ p ∷ []) a ∙ ap (λ (o : List Operation). map plan_of (map rule_of_tree (take n rules)) ++ o ∷ []) f ∙ sym (ap (map plan_of) trees ∙ map-append plan_of (map rule_of_tree (take n rules)) (rule_of_tree r ∷ [])),
-      subst (All IsWellFormed) (sym trees) (All-push IsWellFormed (map rule_of_tree (take n rules)) (rule_of_tree r) w v),
-    )
+    ap (map rule_of_tree) taken ∙ map-append rule_of_tree (take n rules) (r ∷ [])
+
+pub one_plan_more : (rules : List RuleParts) (n : ℕ) (r : RuleParts) (plans more : List (List Operation)) (p : List Operation) → n < length rules → r ≡ slice_index_or rules n r → plans ≡ map plan_of (map rule_of_tree (take n rules))
+    → p ≡ plan_of (rule_of_tree r) → more ≡ plans ++ p ∷ [] → more ≡ map plan_of (map rule_of_tree (take (n + 1) rules))
+one_plan_more rules n r plans more p l e a f h =
+    h ∙ ap (λ (ps : List (List Operation)). ps ++ p ∷ []) a ∙ ap (λ (o : List Operation). map plan_of (map rule_of_tree (take n rules)) ++ o ∷ []) f
+    ∙ sym (ap (map plan_of) (taken_trees rules n r l e) ∙ map-append plan_of (map rule_of_tree (take n rules)) (rule_of_tree r ∷ []))
+
+pub one_rule_more : (rules : List RuleParts) (n : ℕ) (r : RuleParts) → n < length rules → r ≡ slice_index_or rules n r → All IsWellFormed (map rule_of_tree (take n rules)) → IsWellFormed (rule_of_tree r) → All IsWellFormed (map rule_of_tree (take (n + 1) rules))
+one_rule_more rules n r l e w v = subst (All IsWellFormed) (sym (taken_trees rules n r l e)) (All-push IsWellFormed (map rule_of_tree (take n rules)) (rule_of_tree r) w v)
 
 -- ---- a turn whose call is blocked
 

@@ -34,7 +34,7 @@ use Rattle.gp_system.specs.inside.Planned.{verdict_of, sought_of}
 use Rattle.gp_system.proofs.Searches.{rule_here}
 use Rattle.gp_system.proofs.Sessions.{set_within}
 
-some_same : {X : Type 0} {x y : X} → Some x ≡ Some y → x ≡ y
+pub some_same : {X : Type 0} {x y : X} → Some x ≡ Some y → x ≡ y
 some_same e = cc
 
 pub same_back : (s : RuleSystem) (k : ℕ) (t : Trail) → back_by k t ≡ undone_by (gp_means s) k t

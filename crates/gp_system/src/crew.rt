@@ -6,7 +6,7 @@ pub struct Crew {
     /// How many workers there are. With none or one, each call is searched where the run stands, and nothing waits.
     pub workers: u32,
     /// How many candidates the search of a call has to begin with, for some rule of it, so that all workers search.
-    pub fan: u64,
+    pub fan: u32,
     /// How many steps and turns may be made.
     pub bound: u64,
 }

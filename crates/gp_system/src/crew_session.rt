@@ -2,6 +2,7 @@
 
 ghost use Rattle.std.specs.Prelude.{◌≡◌, ◌<◌, IfOk, length, map};
 ghost use Rattle.gp_syntax.specs.Tree.{rule_of_tree};
+ghost use Rattle.gp_plan.specs.Plan.{plan_of};
 ghost use Rattle.gp_journal.specs.Journal.{IsJournalOf};
 ghost use Rattle.gp_run.specs.Engine.{HasCalled, HasRepeated};
 ghost use Rattle.gp_system.specs.inside.Viewed.{view_of, begun};
@@ -15,6 +16,7 @@ use crate::session::Session;
 use gp_graph::Graph;
 use gp_journal::{Journal, Mode, Trail};
 use gp_memory::NoMemory;
+use gp_plan::Plan;
 use gp_run::{Called, Engine, Repeated, Turned};
 use gp_syntax::Program;
 use opt_core::Ending;
@@ -80,27 +82,28 @@ impl<'a> CrewSession<'a> {
 }
 
 impl<'a> CrewSession<'a> {
-    /// At the beginning of a run of the program on the host by this crew.
+    /// At the beginning of a run of the program on the host by this crew, with the plans of its rules.
     pub fn new(
         alloc: Global,
         program: &'a Program,
+        plans: &'a [Plan],
         host: Graph,
         crew: Crew,
         pace: &'a Pacing,
-    ) -> Result<CrewSession<'a>, NoMemory>
-        requires { 0 < crew.workers }
-        ensures { IfOk result (λ s. s ≡ begun program.now host.graph crew.bound) }
+    ) -> CrewSession<'a>
+        requires plans { plans.now ≡ map plan_of (map rule_of_tree program.now.rules) }
+        requires workers { 0 < crew.workers }
+        ensures { result ≡ begun program.now host.graph crew.bound }
     {
         let _sound = host.next_numbers();
-        let system = Gp::new(alloc, program, shares_for(crew.workers))?;
-        Ok(CrewSession {
-            session: Session::new(alloc, program, host, crew.bound)?,
-            system,
+        CrewSession {
+            session: Session::new(alloc, program, plans, host, crew.bound),
+            system: Gp::new(alloc, program, plans, shares_for(crew.workers)),
             crew,
             pace,
             replicas: Vec::new(alloc),
             had: 0,
-        })
+        }
     }
 
     /// The journal of what was made.
@@ -155,7 +158,8 @@ impl<'a> CrewSession<'a> {
             Ok(Ending::Blocked) => self.session.end(),
             Ok(Ending::Bound) => Repeated::Bound,
             Ok(Ending::Fault(fault)) => Repeated::Fault(fault.rule, fault.kind),
-            Ok(Ending::Committed | Ending::Stopped) | Err(NoMemory) => Repeated::NoMemory,
+            Ok(Ending::Committed) => unreachable!(),
+            Ok(Ending::Stopped) | Err(NoMemory) => Repeated::NoMemory,
         }
     }
 

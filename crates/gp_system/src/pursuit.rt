@@ -138,16 +138,14 @@ pub(crate) fn pursue_goal<P: Pace + Sync, R: Threads + Wait + Sync>(
     let (core, mut replicas) = pursue(rt, system, core, replicas, pace);
     let (trail, entries, left, ending) = core.into_parts();
     level(system, &entries, &trail, &mut replicas)?;
-    match ending {
-        None => Err(NoMemory),
-        Some(ending) => Ok(Pursued {
-            trail,
-            entries,
-            left,
-            ending,
-            replicas,
-        }),
-    }
+    let Some(ending) = ending else { unreachable!() };
+    Ok(Pursued {
+        trail,
+        entries,
+        left,
+        ending,
+        replicas,
+    })
 }
 
 // Puts the items of matches at the end, but for the turn after the last step.

@@ -1,16 +1,18 @@
 //! A run of a program on a host graph.
 
-ghost use Rattle.std.specs.Prelude.{◌≡◌};
-ghost use Rattle.gp_syntax.specs.Tree.{program_of_tree};
+ghost use Rattle.std.specs.Prelude.{◌≡◌, map};
+ghost use Rattle.gp_syntax.specs.Tree.{rule_of_tree, program_of_tree};
+ghost use Rattle.gp_plan.specs.Plan.{plan_of};
 ghost use Rattle.gp_system.specs.Ended.{HasEnded};
 ghost use Rattle.gp_system.specs.inside.Finishing.{outcome_of};
 
 use crate::crew::Crew;
 use crate::crew_session::CrewSession;
 use crate::outcome::Outcome;
-use crate::session::Session;
+use crate::session::{Session, plans_of};
 use gp_graph::Graph;
 use gp_journal::Journal;
+use gp_plan::Plan;
 use gp_run::{Chooser, Finish, run};
 use gp_syntax::Program;
 use opt_worker::Pacing;
@@ -35,16 +37,15 @@ fn outcome(finish: Finish, journal: Journal) -> Outcome
 fn execute_alone<C: Chooser>(
     alloc: Global,
     program: &Program,
+    plans: &[Plan],
     host: Graph,
     bound: u64,
     chooser: &mut C,
 ) -> Outcome
+    requires { plans.now ≡ map plan_of (map rule_of_tree program.now.rules) }
     ensures { HasEnded C.answer C.next (program_of_tree program.now) host.graph bound (C.state chooser.old) (C.state chooser.new) result }
 {
-    let mut session = match Session::new(alloc, program, host, bound) {
-        Ok(session) => session,
-        Err(_) => return Outcome::NoMemory,
-    };
+    let mut session = Session::new(alloc, program, plans, host, bound);
     let finish = run(&(), program, &mut session, chooser);
     outcome(finish, session.into_journal())
 }
@@ -62,13 +63,13 @@ pub fn execute<C: Chooser, R: Threads + Wait + Sync>(
 ) -> Outcome
     ensures { HasEnded C.answer C.next (program_of_tree program.now) host.graph crew.bound (C.state chooser.old) (C.state chooser.new) result }
 {
-    if crew.workers < 2 {
-        return execute_alone(alloc, program, host, crew.bound, chooser);
-    }
-    let mut crewed = match CrewSession::new(alloc, program, host, crew, pace) {
-        Ok(crewed) => crewed,
-        Err(_) => return Outcome::NoMemory,
+    let Ok(plans) = plans_of(alloc, program.parts().rules.as_slice()) else {
+        return Outcome::NoMemory;
     };
+    if crew.workers < 2 {
+        return execute_alone(alloc, program, &plans, host, crew.bound, chooser);
+    }
+    let mut crewed = CrewSession::new(alloc, program, &plans, host, crew, pace);
     let finish = run(rt, program, &mut crewed, chooser);
     outcome(finish, crewed.into_journal())
 }

@@ -13,7 +13,7 @@ pub struct RunCommand<'a> {
     pub seed: u64,
     pub journal: bool,
     pub workers: u32,
-    pub fan: u64,
+    pub fan: u32,
 }
 
 /// `demo KIND SIZE SEED` with its options: the workload, and workers and candidates as for `run`.
@@ -23,7 +23,7 @@ pub struct DemoCommand {
     pub size: u64,
     pub seed: u64,
     pub workers: u32,
-    pub fan: u64,
+    pub fan: u32,
 }
 
 /// What the words ask for.

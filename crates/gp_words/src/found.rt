@@ -52,10 +52,13 @@ fn workers_of(matches: &ArgMatches<'_>) -> Option<u32>
     }
 }
 
-fn fan_of(matches: &ArgMatches<'_>) -> Option<u64>
+fn fan_of(matches: &ArgMatches<'_>) -> Option<u32>
     ensures { result ≡ spec.fan_of (rows_of (found_of matches.now)) }
 {
-    value_or(USUAL_FAN, 1, GREATEST_FAN, text_of(matches, "fan"))
+    match value_or(USUAL_FAN, 1, GREATEST_FAN, text_of(matches, "fan")) {
+        None => None,
+        Some(fan) => Some(fan as u32),
+    }
 }
 
 // The run of these files, with the values that clap found.

@@ -8,5 +8,5 @@ use Rattle.gp_system.proofs.running.execute_alone.Goals as goal
 pub returns : goal.returns
 returns g c =
     subst (λ (o : Outcome). HasEnded g.C.Chooser.answer g.C.Chooser.next (program_of_tree c.args.program.now) c.args.host.graph c.args.bound (g.C.Chooser.state c.args.chooser.now) (g.C.Chooser.state c.run-finish.new.chooser) o) (sym c.outcome.ensures)
-    (ends_so g.C.Chooser.answer g.C.Chooser.next c.args.program.now c.args.host.graph c.args.bound (g.C.Chooser.state c.args.chooser.now) (g.C.Chooser.state c.run-finish.new.chooser) c.run-finish.result c.in-Ok.session c.run-finish.new.engine c.into_journal.result c.in-Ok.ensures
+    (ends_so g.C.Chooser.answer g.C.Chooser.next c.args.program.now c.args.host.graph c.args.bound (g.C.Chooser.state c.args.chooser.now) (g.C.Chooser.state c.run-finish.new.chooser) c.run-finish.result c.new-session.result c.run-finish.new.engine c.into_journal.result c.new-session.ensures
     c.into_journal.ensures.journal c.into_journal.ensures.of_rules c.run-finish.ensures)

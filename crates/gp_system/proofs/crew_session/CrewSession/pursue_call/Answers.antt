@@ -7,6 +7,7 @@ use Rattle.gp_journal.specs.Leads.{Leads}
 use Rattle.gp_journal.specs.Journal.{items_of, noted, Kept}
 use Rattle.gp_system.specs.inside.Viewed.{Shown}
 use Rattle.gp_system.proofs.Crews.{way_all, led_on, settled_on, crewed_put, used_now}
+use Rattle.gp_system.proofs.Pursues.{pursued_put}
 use Rattle.gp_system.proofs.crew_session.CrewSession.pursue_call.Goals as goal
 
 pub brought-requires-clause-way : goal.brought-requires-clause-way
@@ -33,3 +34,9 @@ invariant_of-self-2 g c =
     (settled_on c.self.inside.session c.self.inside.system c.args.goal c.take_apart-trail.result.0 c.in_ok-pursued.pursued.trail c.left-left.result c.in_ok-pursued.pursued.left (c.left-left.result - c.in_ok-pursued.pursued.left) c.in_ok-pursued.pursued.entries.items c.in_ok-pursued.pursued.ending c.note_used.new.items.items c.self.invariant.system c.in_ok-pursued.ensures.pursued c.take_apart-trail.ensures.trail
     c.take_apart-trail.ensures.of_rules c.take_apart-trail.ensures.well_formed c.take_apart-trail.ensures.numbered (c.in_ok-note_used.ensures.items ∙ ap (λ (k : Kept). k.items ++ take (c.left-left.result - c.in_ok-pursued.pursued.left) (noted c.args.goal.mode c.in_ok-pursued.pursued.entries.items)) c.take_apart-trail.ensures.items) refl c.self.invariant.settled)
     c.in_ok-pursued.ensures.there (omega (arith, c.in_ok-pursued.ensures.few, c.in_ok-pursued.pursued.replicas.ok.0)) (ap (λ (l : List Item). length l) c.as_slice-2.ensures)
+
+pub returns : goal.returns
+returns g c =
+    pursued_put c.args.self.now c.self.inside.session c.put_together.new.self c.take_apart-trail.new.self.program c.self.inside.system c.args.goal c.in_ok-pursued.pursued.ending c.take_apart-trail.result.0 c.in_ok-pursued.pursued.trail c.note_used.new.items.items c.note_used.new.items.backs c.left-left.result c.in_ok-pursued.pursued.left c.in_ok-pursued.pursued.entries.items
+    c.self.view_is c.self.invariant.system c.in_ok-pursued.ensures.pursued c.take_apart-trail.ensures.trail c.take_apart-trail.ensures.well_formed c.take_apart-trail.ensures.numbered c.left-left.ensures (ap (λ (s : Shown). s.program) c.take_apart-trail.ensures.empty) c.put_together.ensures
+    (c.in_ok-note_used.ensures.items ∙ ap (λ (k : Kept). k.items ++ take (c.left-left.result - c.in_ok-pursued.pursued.left) (noted c.args.goal.mode c.in_ok-pursued.pursued.entries.items)) c.take_apart-trail.ensures.items) (c.note_used.ensures.backs ∙ ap (λ (k : Kept). k.backs) c.take_apart-trail.ensures.items)

@@ -1,0 +1,32 @@
+-- What the crew made of a call, as two moments of a run.
+use Rattle.std.proofs.Common.{◌≡◌, ℕ, ◌-◌, List, ◌++◌, map, take, All, sym, ap, subst, ◌∙◌}
+use Rattle.gp_syntax.specs.declared.command.ProgramParts.{ProgramParts}
+use Rattle.gp_syntax.specs.declared.found.Item.{Item}
+use Rattle.gp_syntax.specs.Rule.{Found}
+use Rattle.gp_syntax.specs.Tree.{rule_of_tree}
+use Rattle.gp_syntax.specs.WellFormed.{IsWellFormed}
+use Rattle.gp_step.specs.Laws.{IsNumbered}
+use Rattle.gp_journal.specs.Trail.{Trail}
+use Rattle.gp_journal.specs.Journal.{noted}
+use Rattle.opt_core.specs.declared.event.Ending.{Ending}
+use Rattle.gp_system.specs.declared.goal.CallGoal.{CallGoal}
+use Rattle.gp_system.specs.declared.goal.Fault.{Fault}
+use Rattle.gp_system.specs.Gp.{RuleSystem}
+use Rattle.gp_system.specs.inside.Viewed.{Shown}
+use Rattle.gp_system.specs.inside.Pursued.{IsPursued, HasPursued, system_of}
+use Rattle.gp_system.proofs.Crews.{put}
+
+pub pursued_put : (v s w : Shown) (p : ProgramParts) (gp : RuleSystem) (goal : CallGoal) (x : Ending Fault) (base t : Trail) (is : List Item) (backs given left : ℕ) (entries : List Found) → s ≡ v → gp ≡ system_of s.program gp.further → IsPursued gp goal base given t entries left x → base ≡ s.journal.trail → All IsWellFormed (map rule_of_tree s.program.rules) → IsNumbered s.journal.trail.graph → given ≡ s.left → p ≡ s.program → w ≡ put p t is backs left
+    → is ≡ s.journal.items ++ take (given - left) (noted goal.mode entries) → backs ≡ s.journal.backs → HasPursued goal x v w
+pursued_put v s w p gp goal x base t is backs given left entries view system pursued based well_formed numbered left_is program put_is items_are backs_are =
+    subst (λ (u : Shown). HasPursued goal x u w) view (subst (λ (u : Shown). HasPursued goal x s u) (sym put_is) record {
+      further = gp.further;
+      well_formed = well_formed;
+      numbered = numbered;
+      entries = entries;
+      pursued = subst (λ (n : ℕ). IsPursued (system_of s.program gp.further) goal s.journal.trail n t entries left x) left_is
+          (subst (λ (b : Trail). IsPursued (system_of s.program gp.further) goal b given t entries left x) based (subst (λ (g : RuleSystem). IsPursued g goal base given t entries left x) system pursued));
+      program = program;
+      items = items_are ∙ ap (λ (n : ℕ). s.journal.items ++ take (n - left) (noted goal.mode entries)) left_is;
+      room = backs_are;
+    })
