@@ -32,7 +32,7 @@ pub(crate) fn words_of(alloc: Global, lines: (&str, &str)) -> Result<Vec<String>
 /// was refused for them, and after how many bytes a write on out, which one, and the first on err may fail.
 #[derive(Clone, Copy)]
 pub(crate) struct Call<'a> {
-    pub(crate) program: &'a str,
+    pub(crate) program: &'a [u8],
     pub(crate) host: &'a str,
     pub(crate) words: Option<(&'a str, &'a str)>,
     pub(crate) read: Option<u64>,
@@ -45,7 +45,7 @@ impl<'a> Call<'a> {
     /// A call whose reads and writes succeed.
     pub(crate) fn new(program: &'a str, host: &'a str, words: (&'a str, &'a str)) -> Call<'a> {
         Call {
-            program,
+            program: program.as_bytes(),
             host,
             words: Some(words),
             read: None,
@@ -57,19 +57,19 @@ impl<'a> Call<'a> {
 }
 
 // Adds a file of that name and text, unless memory is refused for it.
-fn add(alloc: Global, files: &mut Vec<(String, Vec<u8>)>, name: &str, text: &str) {
+fn add(alloc: Global, files: &mut Vec<(String, Vec<u8>)>, name: &str, text: &[u8]) {
     if let Ok(name) = String::from_str(alloc, name) {
-        if let Ok(text) = Vec::from_slice(alloc, text.as_bytes()) {
+        if let Ok(text) = Vec::from_slice(alloc, text) {
             let _ = files.push((name, text));
         }
     }
 }
 
 /// Files p and h of these texts, of which the read of that number fails.
-pub(crate) fn two_files(alloc: Global, program: &str, host: &str, read: Option<u64>) -> MemFiles {
+pub(crate) fn two_files(alloc: Global, program: &[u8], host: &str, read: Option<u64>) -> MemFiles {
     let mut files = Vec::new(alloc);
     add(alloc, &mut files, "p", program);
-    add(alloc, &mut files, "h", host);
+    add(alloc, &mut files, "h", host.as_bytes());
     let mut failing = Vec::new(alloc);
     if let Some(read) = read {
         let _ = failing.push(read);

@@ -52,7 +52,7 @@ fn failing<'a>(
     read: Option<u64>,
 ) -> Call<'a> {
     Call {
-        program: MAKE,
+        program: MAKE.as_bytes(),
         host: "[ | ]",
         words,
         read,

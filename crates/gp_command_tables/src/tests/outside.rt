@@ -50,7 +50,7 @@ fn is_right(told: &Answer, faults: u64, row: &str) -> bool {
 
 #[test]
 fn files_in_memory_answer_by_name_limit_and_call(rt: HostRuntime) -> Result<(), Fail> {
-    let mut files = two_files(rt.alloc(), "four", "host", Some(4));
+    let mut files = two_files(rt.alloc(), b"four", "host", Some(4));
     for row in HELD.split('\n') {
         let told = told_of_read(rt.alloc(), &mut files, row);
         if !is_right(&told, files.faults(), row) {

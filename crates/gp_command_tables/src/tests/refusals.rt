@@ -1,8 +1,13 @@
 //! What the top call refuses: words, programs and hosts, with the line of each.
 
-use crate::tests::calls::{Call, check_rows, expect_line};
+use crate::tests::answers::expect;
+use crate::tests::calls::{Call, check_rows, expect_line, told_of};
 use crate::tests::words::OTHER_WORDS;
+use opt_worker::Pacing;
+use std::alloc::AllocGlobal;
+use std::sync::Wait;
 use std::test::Fail;
+use std::thread::Threads;
 
 const PROGRAMS: &str = "
 % [ | ]
@@ -105,6 +110,40 @@ program: Unknown g";
 #[test]
 fn refused_programs_have_their_lines(rt: HostRuntime) -> Result<(), Fail> {
     check_rows(&rt, PROGRAMS, "")
+}
+
+// How the answer to a program of these bytes begins.
+fn check_head<R: AllocGlobal + Threads + Wait + Sync>(
+    rt: &R,
+    program: &[u8],
+    head: &str,
+) -> Result<(), Fail> {
+    let mut call = Call::new("", "[ | ]", ("run p h", ""));
+    call.program = program;
+    expect(told_of(rt, &call, &Pacing::Free).begins(head), head)
+}
+
+#[test]
+fn each_program_of_one_byte_is_refused(rt: HostRuntime) -> Result<(), Fail> {
+    for byte in 0..=255u8 {
+        let head = match byte {
+            9 | 10 | 13 | 32 => "3 err\nprogram: NoMain\n",
+            0 => "3 err\nprogram: BadByte 0\n",
+            _ => "3 err\nprogram: ",
+        };
+        check_head(&rt, &[byte], head)?;
+    }
+    Ok(())
+}
+
+const DELETE: &[u8; 61] = b"Main = del! del(x:list) [ (n0, x) | ] => [ | ] interface = {}";
+
+#[test]
+fn each_beginning_of_a_program_is_refused(rt: HostRuntime) -> Result<(), Fail> {
+    for count in 0..61 {
+        check_head(&rt, &DELETE[..count], "3 err\nprogram: ")?;
+    }
+    Ok(())
 }
 
 // 64 parentheses, and 65.

@@ -70,7 +70,7 @@ fn put_run(c: &RunCommand<'_>, told: &mut Answer) {
     told.numbers(&[
         u64::from(c.workers),
         c.bound,
-        c.fan,
+        u64::from(c.fan),
         c.seed,
         u64::from(c.journal),
     ]);
@@ -83,7 +83,7 @@ fn put_demo(c: &DemoCommand, told: &mut Answer) {
         Kind::Colour => "colour",
         Kind::Tree => "tree",
     });
-    told.numbers(&[c.size, c.seed, u64::from(c.workers), c.fan]);
+    told.numbers(&[c.size, c.seed, u64::from(c.workers), u64::from(c.fan)]);
 }
 
 // What the command of a line of words is.

@@ -1,6 +1,6 @@
 //! Cores over cells and traps, and over the rules of programs: events of senders who were told of few entries, and their answers.
 
-mod rules;
+pub(crate) mod rules;
 mod sending;
 
 ghost use Rattle.std.specs.Prelude.{◌≡◌, [], IfOk};

@@ -1,5 +1,7 @@
 //! Crews over Cells: orders that a pace forces, and many workers at the same time.
 
+mod on_rules;
+
 use super::answers::Answer;
 use super::spelled::word_of;
 use super::starting::{core_of, opened, rows, true_cells};
@@ -123,6 +125,11 @@ fn a_goal_of_one_match_gets_one_by_any_number_of_workers(rt: HostRuntime) -> Res
     Ok(())
 }
 
+// Tells whether two workers searched at the same time, as the pace that held them heard.
+fn put_held(pace: &Held, told: &mut Answer) {
+    told.put(if pace.met() { ", met" } else { ", apart" });
+}
+
 // What is told of two workers that are held to search at the same time and whether they did; and whether the first report
 // of worker 0 committed its match, if it made one.
 fn held<R: Threads + Wait + Sync>(
@@ -131,20 +138,16 @@ fn held<R: Threads + Wait + Sync>(
     count: usize,
     items: u64,
 ) -> Result<(Answer, Option<bool>), NoMemory> {
-    let pace = Held::new(100_000_000);
+    let pace = Held::new(1_000_000_000);
     let mut told = pursued(rt, alloc, (2, Mode::Saturate), count, items, &pace)?;
-    told.put(if pace.was_late() {
-        ", late"
-    } else {
-        ", in time"
-    });
+    put_held(&pace, &mut told);
     Ok((told, pace.first_of_zero()))
 }
 
 #[test]
 fn two_workers_search_at_the_same_time(rt: HostRuntime) -> Result<(), Fail> {
     let (told, _) = held(&rt, rt.alloc(), 2, 10)?;
-    told.expect("2 of all, 6 left, blocked, all follow, in time")
+    told.expect("2 of all, 6 left, blocked, all follow, met")
 }
 
 #[test]
@@ -153,7 +156,7 @@ fn a_worker_whose_share_is_barren_is_given_the_other_share(rt: HostRuntime) -> R
     if first == Some(false) {
         told.put(", first stale");
     }
-    told.expect("1 of all, 0 left, blocked, all follow, in time, first stale")
+    told.expect("1 of all, 0 left, blocked, all follow, met, first stale")
 }
 
 #[test]

@@ -6,6 +6,7 @@ ghost use Rattle.opt_gate.specs.Turn.{MayAsk};
 ghost use Rattle.opt_cells.specs.Cells.{cells_means};
 
 mod joined;
+mod shared;
 
 use super::answers::Answer;
 use super::spelled::{put_core, put_founds, put_reply};

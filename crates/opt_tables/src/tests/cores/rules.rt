@@ -5,13 +5,13 @@ use crate::tests::answers::Answer;
 use gp_journal::Trail;
 use gp_reader::read_program;
 use gp_samples::host_of;
-use gp_system::{CallGoal, Gp};
+use gp_system::{CallGoal, Gp, plans_of};
 use opt_core::Core;
 use opt_system::Mode;
 use std::alloc::Global;
 use std::test::Fail;
 
-const DEL: &str = "Main = del! del(x:list) [ (n0, x) | ] => [ | ] interface = {}";
+pub(crate) const DEL: &str = "Main = del! del(x:list) [ (n0, x) | ] => [ | ] interface = {}";
 
 const INC: &str = "Main = inc! inc(n:int) [ (n0, n) | ] => [ (n0, n+1) | ] interface = {n0}";
 
@@ -20,7 +20,7 @@ const BOTH: &str =
 
 const NONE: &str = "[ | ]";
 
-const ONE: &str = "[ (a, 1) | ]";
+pub(crate) const ONE: &str = "[ (a, 1) | ]";
 
 const TWO: &str = "[ (a, 1) (b, 2) | ]";
 
@@ -117,7 +117,8 @@ fn told_of_rules(alloc: Global, row: &Row) -> Result<Answer, Fail> {
     let base = Trail::new(alloc, host_of(alloc, host)?);
     let mut at = base.copy()?;
     let program = read_program(alloc, program.as_bytes())?;
-    let system = Gp::new(alloc, &program, 2)?;
+    let plans = plans_of(alloc, program.parts().rules.as_slice())?;
+    let system = Gp::new(alloc, &program, &plans, 2);
     match Core::start(alloc, &system, base.copy()?, goal, items) {
         Ok(core) => Ok(told_by(alloc, &system, core, &base, &mut at, events)),
         Err(_) => Err(Fail::new("no core was made")),
