@@ -1,4 +1,5 @@
 pub mod Plan
 pub mod Order
 pub mod Laws
+pub mod Round
 pub mod inside
