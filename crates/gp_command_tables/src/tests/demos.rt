@@ -2,7 +2,7 @@
 
 use crate::tests::answers::expect;
 use crate::tests::calls::check_rows;
-use gp_demo::summary;
+use gp_cli::summary;
 use gp_gen::Kind;
 use gp_samples::host_of;
 use gp_trace::read_trace;

@@ -3,7 +3,7 @@
 ghost use Rattle.std.specs.Prelude.{◌≡◌, ◌++◌, IfOk, map};
 ghost use Rattle.gp_syntax.specs.Tree.{item_of};
 ghost use Rattle.gp_words.specs.CommandLine.{kind_name};
-ghost use Rattle.gp_demo.specs.Summary.{count_line, summary_text};
+ghost use Rattle.gp_cli.specs.Summary.{count_line, summary_text};
 
 use crate::counts::{count_edges, count_live, count_marked};
 use gp_gen::Kind;

@@ -4,8 +4,8 @@ ghost use Rattle.std.specs.Prelude.{◌≡◌, ◌<◌, ◌^◌, false, is_some,
 ghost use Rattle.std.specs.Option.{option_map_or};
 ghost use Rattle.gp_values.specs.Graph.{node_at, edge_at};
 ghost use Rattle.gp_syntax.specs.Tree.{item_of};
-ghost use Rattle.gp_demo.specs.Summary.{same_mark, edge_count, marked_count, live_count};
-ghost use Rattle.gp_demo.specs.inside.Depth.{depth_after};
+ghost use Rattle.gp_cli.specs.Summary.{same_mark, edge_count, marked_count, live_count};
+ghost use Rattle.gp_cli.specs.inside.Depth.{depth_after};
 
 use gp_graph::Graph;
 use gp_syntax::Item;

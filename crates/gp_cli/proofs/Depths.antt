@@ -6,7 +6,7 @@ use Rattle.gp_syntax.specs.declared.found.Item.TheVariants.{Step, Turn, Back}
 use Rattle.gp_syntax.specs.Rule.{Found}
 use Rattle.gp_syntax.specs.Run.{live_after, live_from}
 use Rattle.gp_syntax.specs.Tree.{item_of}
-use Rattle.gp_demo.specs.inside.Depth.{depth_after, depth_from}
+use Rattle.gp_cli.specs.inside.Depth.{depth_after, depth_from}
 
 after : (ms : List Found) (i : Item) → length (live_after ms (item_of i)) ≡ depth_after (length ms) i
 after ms (Step m) = length-append ms (m ∷ [])

@@ -1,8 +1,8 @@
 use Rattle.std.proofs.Common.{ℕ, true, sym, ap, ◌∙◌, arith}
 use Rattle.gp_values.specs.Graph.{edge_at}
-use Rattle.gp_demo.proofs.Counting.{counted_none, counted_all, counted_len, goes_on, always}
-use Rattle.gp_demo.proofs.counts.count_edges.Goals.{then-has_edge, else-has_edge}
-use Rattle.gp_demo.proofs.counts.count_edges.Goals as goal
+use Rattle.gp_cli.proofs.Counting.{counted_none, counted_all, counted_len, goes_on, always}
+use Rattle.gp_cli.proofs.counts.count_edges.Goals.{then-has_edge, else-has_edge}
+use Rattle.gp_cli.proofs.counts.count_edges.Goals as goal
 
 pub loop-e-init : goal.loop-e-init
 loop-e-init c = (sym (counted_none (λ x. true) c.args.graph.now.graph.edges), omega arith)

@@ -1,8 +1,8 @@
 use Rattle.std.proofs.Common.{◌∙◌, [], arith, sym}
 use Rattle.std.proofs.lemmas.List.{at_drop_all}
-use Rattle.gp_demo.specs.inside.Depth.{depth_from}
-use Rattle.gp_demo.proofs.Depths.{depth-live}
-use Rattle.gp_demo.proofs.counts.count_live.Goals as goal
+use Rattle.gp_cli.specs.inside.Depth.{depth_from}
+use Rattle.gp_cli.proofs.Depths.{depth-live}
+use Rattle.gp_cli.proofs.counts.count_live.Goals as goal
 
 pub returns : goal.returns
 returns c =

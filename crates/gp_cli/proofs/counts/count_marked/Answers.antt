@@ -1,8 +1,8 @@
 use Rattle.std.proofs.Common.{ℕ, sym, ap, ◌∙◌, arith}
-use Rattle.gp_demo.specs.Summary.{same_mark}
-use Rattle.gp_demo.proofs.Counting.{counted_none, counted_all, goes_on}
-use Rattle.gp_demo.proofs.counts.count_marked.Goals.{then-has_mark, else-has_mark}
-use Rattle.gp_demo.proofs.counts.count_marked.Goals as goal
+use Rattle.gp_cli.specs.Summary.{same_mark}
+use Rattle.gp_cli.proofs.Counting.{counted_none, counted_all, goes_on}
+use Rattle.gp_cli.proofs.counts.count_marked.Goals.{then-has_mark, else-has_mark}
+use Rattle.gp_cli.proofs.counts.count_marked.Goals as goal
 
 pub loop-n-init : goal.loop-n-init
 loop-n-init c = (sym (counted_none (λ x. same_mark x.mark c.args.mark) c.args.graph.now.graph.nodes), omega arith)
