@@ -2,9 +2,9 @@
 
 use super::told_by;
 use crate::tests::answers::Answer;
+use gp_hostfile::read_host;
 use gp_journal::Trail;
 use gp_reader::read_program;
-use gp_samples::host_of;
 use gp_system::{CallGoal, Gp, plans_of};
 use opt_core::Core;
 use opt_system::Mode;
@@ -114,7 +114,7 @@ const ON_RULES: [Row; 8] = [
 fn told_of_rules(alloc: Global, row: &Row) -> Result<Answer, Fail> {
     let (program, host, mode, items, events, _) = *row;
     let goal = CallGoal { call: 0, mode };
-    let base = Trail::new(alloc, host_of(alloc, host)?);
+    let base = Trail::new(alloc, read_host(alloc, host.as_bytes())?);
     let mut at = base.copy()?;
     let program = read_program(alloc, program.as_bytes())?;
     let plans = plans_of(alloc, program.parts().rules.as_slice())?;
