@@ -103,7 +103,6 @@ HasTurned turned.NoMemory v w = Free
 -- the number of the live steps is told, and there is room for one Back more
 pub record HasMarked (m : ℕ) (v w : View) : Type 0 where
   pub live_steps : m ≡ length (live v.items)
-  pub replays : IsReplay v
   pub view : w ≡ record v { room = v.room + 1 }
 
 -- the live steps but for the first m are taken back, and the graph is what the items then lead to

@@ -134,11 +134,14 @@ one_end rules (m ∷ ms) g h k w a b =
     let same : b.0 ≡ a.0 = one_step a.1 g m b.0 a.0 (well_formed_at rules m.rule a.1 w a.2) step a.3 in
     one_end rules ms a.0 h k w a.4 (subst (λ (x : Graph). StepsTo rules x ms k) same b.4)
 
-pub replays_here : (p : ProgramParts) (j : Journal) (l : ℕ) → IsJournalOf (map rule_of_tree p.rules) j → IsReplay (view_of (shown p j l))
+replays_here : (p : ProgramParts) (j : Journal) (l : ℕ) → IsJournalOf (map rule_of_tree p.rules) j → IsReplay (view_of (shown p j l))
 replays_here p j l w = (all_replay.journals (map rule_of_tree p.rules) j w).whole
 
+pub replays_shown : (s : Shown) (p : ProgramParts) (j : Journal) (l : ℕ) → shown p j l ≡ s → IsJournalOf (map rule_of_tree p.rules) j → IsReplay (view_of s)
+replays_shown s p j l e w = subst (λ (x : Shown). IsReplay (view_of x)) e (replays_here p j l w)
+
 marked_here : (p : ProgramParts) (j : Journal) (l n : ℕ) → IsJournalOf (map rule_of_tree p.rules) j → n ≡ length j.trail.before → HasMarked n (view_of (shown p j l)) (view_of (shown p (with_mark j) l))
-marked_here p j l n w e = record { live_steps = e ∙ sym (live_depth (map rule_of_tree p.rules) j w); replays = replays_here p j l w; view = refl }
+marked_here p j l n w e = record { live_steps = e ∙ sym (live_depth (map rule_of_tree p.rules) j w); view = refl }
 
 pub marks : {E : Type 0} (r : Result ℕ E) (s : Shown) (p : ProgramParts) (j k : Journal) (l : ℕ) → shown p j l ≡ s → IsJournalOf (map rule_of_tree p.rules) j → OnOk r (k ≡ with_mark j) → IfOk r (λ n. n ≡ length j.trail.before)
     → IfOk r (λ n. HasMarked n (view_of s) (view_of (shown p k l)))
