@@ -49,12 +49,14 @@ pub stands_here : (c : ℕ) (s : Shown) → MakesCall (Call c) (view_of s) (view
 stands_here c s = record { trace = []; makes = record { run = call_stands; adds = adds-nothing (view_of s) }; room = refl }
 
 pub spent_here : (c : ℕ) (s : Shown) (m : Found) → AppliesForCall (program_of_tree s.program) c s.journal.trail.graph m → s.left ≡ 0 → IsSpent c (view_of s)
-spent_here c s m a e = record {
-  set = a.set;
-  is_set = a.is_set;
-  none_left = e;
-  applies = record { found = m; in_set = a.found.in_set; rule = a.found.rule; is_rule = a.found.is_rule; applies = a.found.holds };
-}
+spent_here c s m a e = (
+  record {
+    set = a.set;
+    is_set = a.is_set;
+    applies = record { found = m; in_set = a.found.in_set; rule = a.found.rule; is_rule = a.found.is_rule; applies = a.found.holds };
+  },
+  e,
+)
 
 well_formed_at : (rules : List Rule) (i : ℕ) (r : Rule) → All IsWellFormed rules → slice_get rules i ≡ Some r → IsWellFormed r
 well_formed_at rules i r w e = subst IsWellFormed (get_or_from_slice_get rules i r r e) (w i r (slice_get_within rules i r e))
