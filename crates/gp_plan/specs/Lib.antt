@@ -1,4 +1,4 @@
 pub mod Plan
 pub mod Order
 pub mod Laws
-pub mod inside
+pub mod Places

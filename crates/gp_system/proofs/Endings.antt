@@ -29,7 +29,7 @@ use Rattle.gp_run.specs.Engine.{View, Adds, MakesCall, IsSpent, HasFaulty, HasCa
 use Rattle.gp_run.specs.declared.engine.Turned.TheVariants as turned
 use Rattle.gp_run.specs.declared.engine.Repeated.{Repeated}
 use Rattle.gp_run.specs.declared.engine.Repeated.TheVariants as repeated
-use Rattle.gp_run.specs.inside.Ended.{HasEnded}
+use Rattle.gp_run.specs.Ended.{HasEnded}
 use Rattle.gp_run.proofs.Leads.{adds-nothing, counted-append}
 use Rattle.gp_run.proofs.Turns.{Turns, turns_none, turns_bound, turns_spent, turns_faulty, turns_end}
 use Rattle.gp_system.specs.declared.goal.CallGoal.{CallGoal}
