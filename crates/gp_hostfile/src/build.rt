@@ -9,7 +9,7 @@ use crate::check::{edge_mark, end, integer, node_mark};
 use crate::fault::HostFault;
 use crate::tree::{AtomTree, EdgeTree, HostTree, NodeTree};
 use gp_graph::Graph;
-use gp_names::NameTable;
+use gp_values::NameTable;
 use gp_values::{Atom, List};
 use std::alloc::Global;
 

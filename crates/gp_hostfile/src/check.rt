@@ -13,7 +13,7 @@ ghost use Rattle.gp_hostfile.specs.declared.tree.EdgeTree.{EdgeTree};
 use crate::fault::HostFault;
 use crate::tree::{AtomTree, EdgeTree, HostTree, NodeTree};
 use gp_grammar::Numeral;
-use gp_names::NameTable;
+use gp_values::NameTable;
 use gp_tokens::Slice;
 use gp_values::{EdgeMark, NodeMark};
 use std::alloc::Global;

@@ -1,5 +1,5 @@
 pub mod Plan
 pub mod Order
 pub mod Laws
+pub mod Places
 pub mod Round
-pub mod inside

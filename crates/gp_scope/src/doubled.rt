@@ -8,7 +8,7 @@ ghost use Rattle.gp_scope.specs.Fault.{doubled_behind};
 ghost use Rattle.gp_scope.specs.inside.Doubles.{TellsDoubled, StopsDoubled, name_of};
 
 use gp_memory::NoMemory;
-use gp_names::NameTable;
+use gp_values::NameTable;
 use gp_syntax::{Decl, Name};
 use std::alloc::Global;
 

@@ -24,7 +24,6 @@ pub use assignment::Assignment;
 pub use command::{Command, Program, ProgramParts};
 pub use expression::{Cond, Expr, ProductSign, Signed, SumSign};
 pub use found::{EdgeImage, Found, INLINE_EDGES, INLINE_NODES, Item};
-pub use gp_names::NameTable;
 pub use kinds::{Comparison, NumberKind, VariableType};
 pub use label::SimpleLabel;
 pub use name::Name;

@@ -9,7 +9,7 @@ ghost use Rattle.gp_syntax.specs.Simple.{strings_of, lists_of};
 ghost use Rattle.gp_syntax.specs.Typing.{type_in};
 ghost use Rattle.gp_syntax.specs.Value.{is_of};
 ghost use Rattle.gp_unify.specs.inside.Reading.{Begins};
-ghost use Rattle.gp_unify.specs.inside.Unify.{span};
+ghost use Rattle.gp_unify.specs.Unify.{span};
 
 use gp_memory::NoMemory;
 use gp_syntax::VariableType;

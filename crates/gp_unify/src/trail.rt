@@ -8,8 +8,8 @@ ghost use Rattle.gp_syntax.specs.Typing.{type_in};
 ghost use Rattle.gp_syntax.specs.Value.{is_of};
 ghost use Rattle.gp_unify.specs.Extension.{known_of};
 ghost use Rattle.gp_unify.specs.inside.Reading.{Tells};
-ghost use Rattle.gp_unify.specs.inside.Trail.{cleared, Grown};
-ghost use Rattle.gp_unify.specs.inside.Unify.{tell, with_value};
+ghost use Rattle.gp_unify.specs.Trail.{cleared, Grown};
+ghost use Rattle.gp_unify.specs.Unify.{tell, with_value};
 
 use crate::mismatch::Mismatch;
 use crate::pieces::{is_of, is_text, list_of, takes_text, text_of, type_at};

@@ -8,7 +8,7 @@ use Rattle.gp_syntax.specs.Rule.{Rule, Found}
 use Rattle.gp_syntax.specs.Typing.{type_in}
 use Rattle.gp_syntax.specs.WellFormed.{left_labels}
 use Rattle.gp_unify.specs.Known.{Known, nothing_known}
-use Rattle.gp_unify.specs.inside.Unify.{unify_all}
+use Rattle.gp_unify.specs.Unify.{unify_all}
 
 -- the labels of nodes, and of edges, of these numbers
 abbrev pub node_labels : Graph → List ℕ → List (Option (List Atom))

@@ -8,7 +8,7 @@ use Rattle.gp_clauses.specs.declared.condition_shape.Connective.{Connective}
 use Rattle.gp_clauses.specs.declared.condition_shape.Connective.TheVariants as connectives
 use Rattle.gp_clauses.specs.declared.condition_shape.ConditionShape.{ConditionShape}
 use Rattle.gp_clauses.specs.declared.condition_shape.ConditionShape.TheVariants as shapes
-use Rattle.gp_clauses.specs.inside.Size.{condition_size}
+use Rattle.gp_clauses.specs.Size.{condition_size}
 
 abbrev pub NamedCondition : Type 0
 NamedCondition = Condition Name (Option Name)

@@ -3,7 +3,7 @@ use Rattle.std.specs.Prelude.{◌≡◌, List, Option, Some, Result, Ok, Err}
 use denote.Ref.{MutBor}
 use Rattle.gp_tokens.specs.declared.token.Token.{Token}
 use Rattle.gp_grammar.specs.declared.error.ReadError.{ReadError}
-use Rattle.gp_grammar.specs.inside.Reading.{Fails}
+use Rattle.gp_grammar.specs.Reading.{Fails}
 
 -- What is read is the result, before the tokens that are left. Behind an error nothing is said of these.
 abbrev pub ReadsAs : {X Y : Type 0} → (X → Y) → Option (Y × List Token) → Result X ReadError → List Token → Type 0

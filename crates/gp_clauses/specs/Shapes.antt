@@ -15,7 +15,7 @@ use Rattle.gp_clauses.specs.declared.shape.Links.{Links}
 use Rattle.gp_clauses.specs.declared.shape.Links.TheVariants as links
 use Rattle.gp_clauses.specs.declared.shape.Shape.{Shape}
 use Rattle.gp_clauses.specs.declared.shape.Shape.TheVariants as shapes
-use Rattle.gp_clauses.specs.inside.Size.{size}
+use Rattle.gp_clauses.specs.Size.{size}
 
 abbrev pub sum_operation : SumSign → Operation
 sum_operation sums.Plus = operations.Plus

@@ -10,6 +10,7 @@ use Rattle.gp_grammar.specs.declared.error.ReadError.TheVariants as error
 use Rattle.gp_grammar.specs.declared.want.Want.{Want}
 use Rattle.gp_grammar.specs.declared.want.Want.TheVariants as want
 use Rattle.gp_grammar.specs.Wants.{meets}
+use Rattle.gp_grammar.specs.Ahead.{◌>>=◌}
 use Rattle.gp_grammar.specs.Shape.{second_of, list_of}
 use Rattle.gp_grammar.specs.Grammar.{Grammar, One, Number, NumberAt, String, Then, Made, At, If, Absent, Repeated, Separated, Never}
 use Rattle.gp_memory.specs.Free.{Free}
@@ -17,11 +18,6 @@ use Rattle.gp_memory.specs.Free.{Free}
 -- a tree and the tokens behind it, or nothing where the tokens begin with no such tree
 abbrev pub Reader : Type 0 → Type 0
 Reader A = List Token → Option (A × List Token)
-
-infixl 10 ◌>>=◌
-abbrev pub ◌>>=◌ : {A B : Type 0} → Option A → (A → Option B) → Option B
-None >>= f = None
-(Some x) >>= f = f x
 
 -- Want of memory may come at any tokens, and the other error where nothing is read.
 abbrev pub Fails : {Y : Type 0} → ReadError → Option Y → Type 0
@@ -93,11 +89,6 @@ repeated want r = λ ts. many want r (length ts) ts
 -- r {sign r}
 abbrev pub separated : {A : Type 0} → Want → Reader A → Reader (List A)
 separated sign r = made list_of (r and repeated sign (made second_of (token sign and r)))
-
--- such a token stands before the next one that stops the search
-abbrev pub stands_before : Want → Want → List Token → Bool
-stands_before want stop [] = false
-stands_before want stop (t ∷ ts) = if meets stop t then false else (if meets want t then true else stands_before want stop ts)
 
 -- ---- the reader of a grammar
 

@@ -1,6 +1,6 @@
 use Rattle.std.proofs.Common.{ℕ, List, map, Vec, Global, ◌∙◌, ap, not}
-use Rattle.gp_names.proofs.Keys.{has_key, with_key}
-use Rattle.gp_names.proofs.table.NameTable.add.Goals as goal
+use Rattle.gp_values.proofs.Keys.{has_key, with_key}
+use Rattle.gp_values.proofs.names.NameTable.add.Goals as goal
 
 pub returns-clause-new : goal.returns-clause-new
 returns-clause-new c = c.in_ok-added.ensures.added ∙ ap not (has_key _ c.self.inside.places.keys c.args.self.now c.self.view_is c.in_ok-name.name.items c.args.name.now c.in_ok-name.ensures.items)
