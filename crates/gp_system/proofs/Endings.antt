@@ -133,8 +133,7 @@ module _ (goal : CallGoal) (x : Ending Fault) (v w : Shown) (h : HasPursued goal
 
   spent_now : (set : List ℕ) → slice_get v.program.sets goal.call ≡ Some set → w.left ≡ 0 → (m : Found) → (gp_means s).judged goal w.journal.trail m ≡ applies → IsSpent goal.call (view_of w)
   spent_now set e l m j =
-      let a = has_applying s goal h.well_formed w.journal.trail m j in
-      (
+      let a = has_applying s goal h.well_formed w.journal.trail m j in (
         record {
           set = a.0;
           is_set = ap (λ (p : ProgramParts). slice_get p.sets goal.call) h.program ∙ a.1;
