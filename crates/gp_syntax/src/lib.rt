@@ -24,7 +24,7 @@ pub use assignment::Assignment;
 pub use command::{Command, Program, ProgramParts};
 pub use expression::{Cond, Expr, ProductSign, Signed, SumSign};
 pub use found::{EdgeImage, Found, INLINE_EDGES, INLINE_NODES, Item};
-pub use kinds::{Comparison, NumberKind, VariableType};
+pub use kinds::{Comparison, NumberKind, VariableType, is_of};
 pub use label::SimpleLabel;
 pub use name::Name;
 pub use rule::{LeftEdge, LeftNode, MarkPattern, RightEdge, RightNode, Rule, RuleParts};

@@ -112,20 +112,6 @@ pub(crate) fn behind_codes<'v>(text: &[u8], codes: &'v [u8]) -> Option<&'v [u8]>
     if text == front { Some(left) } else { None }
 }
 
-/// Whether a list is a value of the type.
-pub fn is_of(declared: VariableType, atoms: &[Atom]) -> bool
-    ensures { result ≡ is_of declared atoms.now }
-{
-    match (declared, atoms) {
-        (VariableType::List, _) => true,
-        (VariableType::Atom, [_]) => true,
-        (VariableType::Int, [Atom::Int(_)]) => true,
-        (VariableType::String, [Atom::Str(_)]) => true,
-        (VariableType::Char, [Atom::Str(text)]) => text.as_bytes().len() == 1,
-        _ => false,
-    }
-}
-
 /// Whether the list of a string is a value of the type.
 pub(crate) fn takes_text(declared: VariableType, codes: &[u8]) -> bool
     ensures { result ≡ is_of declared (Str codes.now ∷ []) }
