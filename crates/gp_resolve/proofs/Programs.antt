@@ -6,7 +6,7 @@ use Rattle.gp_values.specs.Names.{Name}
 use Rattle.gp_syntax.specs.Run as meant
 use Rattle.gp_syntax.specs.Scoped.{calls_in}
 use Rattle.gp_syntax.specs.Scoped as there
-use Rattle.gp_calls.specs.Procedures.{Called, InRange}
+use Rattle.gp_resolve.specs.inside.Procedures.{Called, InRange}
 use Rattle.gp_scope.specs.Outline.{Outline, is_main, rules_in, procedures_in}
 use Rattle.gp_scope.specs.Names.{Body, entries, all_bodies}
 use Rattle.gp_scope.specs.Resolved.{ResolvedBody, called_sets, rule_number, resolved_from, resolved_bodies, others, main_of, sets_of}
