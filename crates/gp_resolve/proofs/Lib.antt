@@ -17,3 +17,6 @@ pub mod Faults
 pub mod Own_names
 pub mod Joined
 pub mod Takes
+pub mod Rows
+pub mod Visible
+pub mod Visible_calls
