@@ -8,7 +8,7 @@ use Rattle.std.specs.Borrow.{Bor}
 use Rattle.gp_clauses.specs.declared.shape.Shape.{Shape}
 use Rattle.gp_clauses.specs.declared.shape.Shape.TheVariants as shapes
 use Rattle.gp_clauses.specs.declared.shape.Links.{Links}
-use Rattle.gp_clauses.specs.inside.Facts.{is_numeral}
+use Rattle.gp_clauses.specs.Facts.{is_numeral}
 use Rattle.gp_syntax.specs.Expression.{Expression, Number, Negated, Condition, MarkPattern, renamed}
 use Rattle.gp_syntax.specs.Fault.{has_no_operation}
 use Rattle.gp_syntax.specs.Tree.{expression_of}
@@ -21,8 +21,8 @@ use Rattle.gp_clauses.specs.declared.condition_shape.ConditionShape.{ConditionSh
 use Rattle.gp_clauses.specs.declared.condition_shape.ConditionShape.TheVariants as conditions
 use Rattle.gp_clauses.specs.declared.condition_shape.Connective.{Connective}
 use Rattle.gp_clauses.specs.declared.condition_shape.Connective.TheVariants as connectives
-use Rattle.gp_clauses.specs.inside.Shapes.{applied, with_operand, chain, expression_in}
-use Rattle.gp_clauses.specs.inside.ConditionShapes.{NamedCondition, named_condition, connected, with_part, condition_chain}
+use Rattle.gp_clauses.specs.Shapes.{applied, with_operand, chain, expression_in}
+use Rattle.gp_clauses.specs.ConditionShapes.{NamedCondition, named_condition, connected, with_part, condition_chain}
 use Rattle.gp_check.specs.declared.places.Places.{Places}
 use Rattle.gp_check.specs.inside.Placed.{placed_in, placed_condition_in, numeral, IsJoining, IsTest}
 

@@ -18,10 +18,10 @@ use crate::places::{Places, edge_origin, node_origin, node_place};
 use gp_clauses::{Scope, edge_named, is_among};
 use gp_memory::NoMemory;
 use gp_syntax::{
-    Cond, EdgeDecl, Items, LeftEdge, LeftNode, MarkPattern, Name, NameTable, NodeDecl, RightEdge,
-    RightNode, RuleDecl, RuleParts, VariableType,
+    Cond, EdgeDecl, Items, LeftEdge, LeftNode, MarkPattern, Name, NodeDecl, RightEdge, RightNode,
+    RuleDecl, RuleParts, VariableType,
 };
-use gp_values::EdgeMark;
+use gp_values::{EdgeMark, NameTable};
 use std::alloc::Global;
 
 fn left_node(

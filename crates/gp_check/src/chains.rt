@@ -3,8 +3,8 @@
 ghost use Rattle.std.specs.Prelude.{◌≡◌, IfOk};
 ghost use Rattle.gp_syntax.specs.Expression.{Dot, Join, And, Or};
 ghost use Rattle.gp_syntax.specs.Tree.{expression_of, label_of, condition_of, added, multiplied, pattern_of};
-ghost use Rattle.gp_clauses.specs.inside.Shapes.{applied};
-ghost use Rattle.gp_clauses.specs.inside.ConditionShapes.{connected};
+ghost use Rattle.gp_clauses.specs.Shapes.{applied};
+ghost use Rattle.gp_clauses.specs.ConditionShapes.{connected};
 ghost use Rattle.gp_check.specs.inside.Grown.{IsGrown};
 
 use gp_clauses::{Connective, Operation};

@@ -2,7 +2,7 @@
 
 ghost use Rattle.std.specs.Prelude.{◌≡◌, IfOk};
 ghost use Rattle.gp_syntax.specs.Tree.{condition_of, condition_or_true, pattern_of};
-ghost use Rattle.gp_clauses.specs.inside.ConditionShapes.{named_condition, condition_in};
+ghost use Rattle.gp_clauses.specs.ConditionShapes.{named_condition, condition_in};
 ghost use Rattle.gp_check.specs.inside.Placed.{placed_condition_in, IsTest};
 
 use crate::chains::with_part;

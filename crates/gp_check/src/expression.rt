@@ -2,10 +2,10 @@
 
 ghost use Rattle.std.specs.Prelude.{◌≡◌, true, IfOk};
 ghost use Rattle.gp_syntax.specs.Expression.{Number, Negated};
-ghost use Rattle.gp_clauses.specs.inside.Facts.{is_numeral};
+ghost use Rattle.gp_clauses.specs.Facts.{is_numeral};
 ghost use Rattle.gp_syntax.specs.Fault.{has_no_operation};
 ghost use Rattle.gp_syntax.specs.Tree.{expression_of, label_of};
-ghost use Rattle.gp_clauses.specs.inside.Shapes.{applied};
+ghost use Rattle.gp_clauses.specs.Shapes.{applied};
 ghost use Rattle.gp_check.specs.inside.Placed.{placed_in, numeral, IsJoining};
 
 use crate::chains::{dotted_label, joined_label, with_operand};

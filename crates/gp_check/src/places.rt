@@ -7,7 +7,8 @@ ghost use Rattle.gp_syntax.specs.Declaration.{node_names, edge_names, place_in};
 ghost use Rattle.gp_syntax.specs.Tree.{side_of, pattern_of};
 
 use gp_memory::NoMemory;
-use gp_syntax::{GraphDecl, Name, NameTable};
+use gp_syntax::{GraphDecl, Name};
+use gp_values::NameTable;
 
 /// Where the variables of left labels and the left nodes stand.
 #[derive(Clone, Copy)]

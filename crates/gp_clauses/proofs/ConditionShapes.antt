@@ -8,8 +8,8 @@ use Rattle.gp_syntax.specs.declared.expression.Cond.TheFolds.{fold-roll-Cond}
 use Rattle.gp_syntax.specs.Expression.{And, Or}
 use Rattle.gp_syntax.specs.Tree.{ands, ors}
 use Rattle.gp_clauses.specs.declared.condition_shape.Connective.TheVariants as connectives
-use Rattle.gp_clauses.specs.inside.Size.{condition_step, condition_size, condition_sizes}
-use Rattle.gp_clauses.specs.inside.ConditionShapes.{NamedCondition, named_condition, condition_chain}
+use Rattle.gp_clauses.specs.Size.{condition_step, condition_size, condition_sizes}
+use Rattle.gp_clauses.specs.ConditionShapes.{NamedCondition, named_condition, condition_chain}
 
 pub and_chain : (c : NamedCondition) (ds : List (Cond Name (Option Name))) → ands c (map named_condition ds) ≡ condition_chain connectives.And c ds
 and_chain c [] = refl

@@ -14,10 +14,10 @@ use Rattle.gp_clauses.specs.declared.shape.Operation.{Operation}
 use Rattle.gp_clauses.specs.declared.shape.Operation.TheVariants as operations
 use Rattle.gp_clauses.specs.declared.known.Known.{Known}
 use Rattle.gp_clauses.specs.declared.known.Known.TheVariants as known
-use Rattle.gp_clauses.specs.inside.Shapes.{applied, with_operand, chain}
+use Rattle.gp_clauses.specs.Shapes.{applied, with_operand, chain}
 use Rattle.gp_clauses.specs.declared.condition_shape.Connective.{Connective}
 use Rattle.gp_clauses.specs.declared.condition_shape.Connective.TheVariants as connectives
-use Rattle.gp_clauses.specs.inside.ConditionShapes.{NamedCondition, named_condition, connected, with_part, condition_chain}
+use Rattle.gp_clauses.specs.ConditionShapes.{NamedCondition, named_condition, connected, with_part, condition_chain}
 use Rattle.gp_clauses.specs.inside.Known.{names_known, references, references_in_condition, unknown_in, unknown_in_condition}
 
 pub or_none : {A : Type 0} (a : Option A) → option_or a None ≡ a

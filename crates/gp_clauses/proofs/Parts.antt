@@ -13,7 +13,7 @@ use Rattle.gp_syntax.specs.Fault.{is_well_typed_condition, is_edge_mark, marks_i
 use Rattle.gp_syntax.specs.Tree.{expression_of, node_of, edge_of, side_of}
 use Rattle.gp_clauses.specs.declared.condition_shape.Connective.{Connective}
 use Rattle.gp_clauses.specs.declared.condition_shape.Connective.TheVariants as connectives
-use Rattle.gp_clauses.specs.inside.ConditionShapes.{NamedCondition, named_condition, connected, with_part, condition_chain}
+use Rattle.gp_clauses.specs.ConditionShapes.{NamedCondition, named_condition, connected, with_part, condition_chain}
 
 pub and_true : (a : Bool) → (a && true) ≡ a
 and_true true = refl

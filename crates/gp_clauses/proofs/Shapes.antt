@@ -14,8 +14,8 @@ use Rattle.gp_syntax.specs.Expression.{Expression, Dot, Join}
 use Rattle.gp_syntax.specs.Tree.{expression_of, operands_of, sum, product, dots, joins, added, multiplied}
 use Rattle.gp_clauses.specs.declared.shape.Operation.{Operation}
 use Rattle.gp_clauses.specs.declared.shape.Operation.TheVariants as operations
-use Rattle.gp_clauses.specs.inside.Size.{total, size_step, size, sizes, operand_sizes}
-use Rattle.gp_clauses.specs.inside.Shapes.{sum_operation, product_operation, applied, chain}
+use Rattle.gp_clauses.specs.Size.{total, size_step, size, sizes, operand_sizes}
+use Rattle.gp_clauses.specs.Shapes.{sum_operation, product_operation, applied, chain}
 
 -- ---- what chains stand for
 

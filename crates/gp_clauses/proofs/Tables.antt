@@ -20,7 +20,7 @@ use Rattle.gp_syntax.proofs.Declarations.{has_append, once_head, same_name_told}
 use Rattle.gp_clauses.specs.declared.shape.Operation.{Operation}
 use Rattle.gp_clauses.specs.declared.shape.Operation.TheVariants as operations
 use Rattle.gp_clauses.specs.declared.variables.Variables.{Variables}
-use Rattle.gp_clauses.specs.inside.Shapes.{applied, with_operand, chain}
+use Rattle.gp_clauses.specs.Shapes.{applied, with_operand, chain}
 use Rattle.gp_clauses.specs.inside.Tables.{with_name, with_names, with_variables_in, with_operand_names, with_variable, is_kept, with_kept}
 
 -- ---- folds

@@ -12,8 +12,8 @@ use Rattle.gp_syntax.specs.Tree.{expression_of}
 use Rattle.gp_clauses.specs.declared.shape.Operation.{Operation}
 use Rattle.gp_clauses.specs.declared.shape.Operation.TheVariants as operations
 use Rattle.gp_clauses.specs.declared.facts.Facts.{Facts}
-use Rattle.gp_clauses.specs.inside.Shapes.{applied, with_operand, chain}
-use Rattle.gp_clauses.specs.inside.Facts.{few, is_numeral, facts_of, negated, dotted, joined, combined}
+use Rattle.gp_clauses.specs.Shapes.{applied, with_operand, chain}
+use Rattle.gp_clauses.specs.Facts.{few, is_numeral, facts_of, negated, dotted, joined, combined}
 
 pub few_small : (n : ℕ) → few n ≤ 2
 few_small n = grind (arith, nat_tests)

@@ -2,8 +2,8 @@
 
 ghost use Rattle.std.specs.Prelude.{◌≡◌};
 ghost use Rattle.gp_syntax.specs.Tree.{condition_of};
-ghost use Rattle.gp_clauses.specs.inside.ConditionShapes.{condition_in, IsSmallerCondition};
-ghost use Rattle.gp_clauses.specs.inside.Size.{condition_size};
+ghost use Rattle.gp_clauses.specs.ConditionShapes.{condition_in, IsSmallerCondition};
+ghost use Rattle.gp_clauses.specs.Size.{condition_size};
 
 use gp_syntax::{Comparison, Cond, Expr, Name, VariableType};
 

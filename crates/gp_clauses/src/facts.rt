@@ -6,7 +6,7 @@ ghost use Rattle.gp_syntax.specs.Tree.{expression_of};
 ghost use Rattle.gp_syntax.specs.Typing.{is_subtype};
 ghost use Rattle.gp_syntax.specs.Fault.{is_well_typed, is_of_type, is_simple};
 ghost use Rattle.gp_syntax.specs.declared.kinds.VariableType.TheVariants as types;
-ghost use Rattle.gp_clauses.specs.inside.Facts.{facts_of, negated, arithmetic, dotted, joined, combined, few};
+ghost use Rattle.gp_clauses.specs.Facts.{facts_of, negated, arithmetic, dotted, joined, combined, few};
 ghost use Rattle.gp_clauses.specs.inside.Tables.{type_by};
 
 use crate::shape::{Operation, Shape, shape_of};

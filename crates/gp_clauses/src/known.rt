@@ -6,12 +6,13 @@ ghost use Rattle.gp_values.specs.Names.{has_name};
 ghost use Rattle.gp_syntax.specs.Declaration.{node_names};
 ghost use Rattle.gp_syntax.specs.Expression.{Variable, In_degree};
 ghost use Rattle.gp_syntax.specs.Tree.{side_of, expression_of};
-ghost use Rattle.gp_clauses.specs.inside.ConditionShapes.{named_condition};
+ghost use Rattle.gp_clauses.specs.ConditionShapes.{named_condition};
 ghost use Rattle.gp_clauses.specs.inside.Known.{unknown_in, unknown_in_condition};
 
 use crate::condition_shape::{ConditionShape, condition_shape_of};
 use crate::shape::{Shape, shape_of};
-use gp_syntax::{Cond, Expr, GraphDecl, Name, NameTable};
+use gp_syntax::{Cond, Expr, GraphDecl, Name};
+use gp_values::NameTable;
 
 /// Which names are asked for, and which of them are known: the nodes of a side, or variables.
 #[derive(Clone, Copy)]

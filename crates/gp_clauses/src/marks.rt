@@ -8,7 +8,7 @@ ghost use Rattle.gp_values.specs.Marks.{node_mark_named, edge_mark_named};
 ghost use Rattle.gp_syntax.specs.Declaration.{DeclaredNode, DeclaredEdge, edge_named};
 ghost use Rattle.gp_syntax.specs.Fault.{is_any, is_node_mark, is_edge_mark, node_named, keeps_node_mark, keeps_edge_mark, marks_in_condition, has_marks, joins_the_same, keeps_direction, bad_mark, bad_bidi};
 ghost use Rattle.gp_syntax.specs.Tree.{node_of, edge_of, side_of, declaration_of, condition_or_true};
-ghost use Rattle.gp_clauses.specs.inside.ConditionShapes.{named_condition};
+ghost use Rattle.gp_clauses.specs.ConditionShapes.{named_condition};
 
 use crate::condition_shape::{ConditionShape, condition_shape_of};
 use gp_syntax::{Cond, EdgeDecl, GraphDecl, Name, NodeDecl, RuleDecl};

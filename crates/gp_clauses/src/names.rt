@@ -11,7 +11,8 @@ ghost use Rattle.gp_clauses.specs.inside.Known.{unknown_in_condition};
 
 use crate::known::{Known, has_node, unknown_in, unknown_in_condition};
 use gp_memory::NoMemory;
-use gp_syntax::{Cond, EdgeDecl, GraphDecl, Name, NameTable, NodeDecl, RuleDecl, VariableGroup};
+use gp_syntax::{Cond, EdgeDecl, GraphDecl, Name, NodeDecl, RuleDecl, VariableGroup};
+use gp_values::NameTable;
 use std::alloc::Global;
 
 fn is_large(side: &GraphDecl) -> bool

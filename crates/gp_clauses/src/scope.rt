@@ -15,7 +15,8 @@ use crate::names::unknown_in_tests;
 use crate::typed::{LabelClause, is_well_typed_condition, labels_pass};
 use crate::variables::{Variables, add_side};
 use gp_memory::NoMemory;
-use gp_syntax::{Cond, GraphDecl, Name, NameTable, RuleDecl, VariableType};
+use gp_syntax::{Cond, GraphDecl, Name, RuleDecl, VariableType};
+use gp_values::NameTable;
 use sqlite_items::Items;
 use std::alloc::Global;
 

@@ -2,8 +2,8 @@
 
 ghost use Rattle.std.specs.Prelude.{◌≡◌, ◌<◌, Some, length, slice_get};
 ghost use Rattle.gp_syntax.specs.Tree.{expression_of};
-ghost use Rattle.gp_clauses.specs.inside.Shapes.{sum_operation, product_operation, operands, expression_in, IsSmaller};
-ghost use Rattle.gp_clauses.specs.inside.Size.{size};
+ghost use Rattle.gp_clauses.specs.Shapes.{sum_operation, product_operation, operands, expression_in, IsSmaller};
+ghost use Rattle.gp_clauses.specs.Size.{size};
 
 use gp_syntax::{Expr, Name, ProductSign, Signed, SumSign};
 use gp_values::Chars;

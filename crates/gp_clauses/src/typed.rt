@@ -6,7 +6,7 @@ ghost use Rattle.gp_syntax.specs.declared.kinds.VariableType.TheVariants as type
 ghost use Rattle.gp_syntax.specs.Declaration.{labels};
 ghost use Rattle.gp_syntax.specs.Fault.{is_order, is_of_type, is_well_typed, is_well_typed_condition, is_simple};
 ghost use Rattle.gp_syntax.specs.Tree.{expression_of, side_of};
-ghost use Rattle.gp_clauses.specs.inside.ConditionShapes.{named_condition};
+ghost use Rattle.gp_clauses.specs.ConditionShapes.{named_condition};
 ghost use Rattle.gp_clauses.specs.inside.Labels.{passes};
 ghost use Rattle.gp_clauses.specs.inside.Tables.{type_by};
 

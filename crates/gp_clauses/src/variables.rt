@@ -8,7 +8,8 @@ ghost use Rattle.gp_clauses.specs.inside.Tables.{with_name, no_variables, with_v
 
 use crate::shape::{Shape, shape_of};
 use gp_memory::NoMemory;
-use gp_syntax::{Expr, GraphDecl, Name, NameTable, RuleDecl, VariableGroup, VariableType};
+use gp_syntax::{Expr, GraphDecl, Name, RuleDecl, VariableGroup, VariableType};
+use gp_values::NameTable;
 use sqlite_items::Items;
 use std::alloc::Global;
 

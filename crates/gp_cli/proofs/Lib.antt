@@ -1,5 +1,7 @@
 pub mod Bits
 pub mod Completeness
+pub mod Counting
+pub mod Depths
 pub mod Faults
 pub mod Loads
 pub mod Pieces

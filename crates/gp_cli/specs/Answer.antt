@@ -6,8 +6,7 @@ use Rattle.gp_values.specs.Names.{Name}
 use Rattle.gp_values.specs.Graph.{Graph}
 use Rattle.gp_syntax.specs.declared.kinds.NumberKind.{NumberKind}
 use Rattle.gp_syntax.specs.Declaration.{Declaration}
-use Rattle.gp_syntax.specs.Run.{Program, Item, Ending, Gives, Fails, At, Run, counted}
-use Rattle.gp_system.specs.Ended.{MayGoOn, HasFaultyCall}
+use Rattle.gp_syntax.specs.Run.{Program, Item, Ending, Gives, Fails, At, Run, counted, MayGoOn, HasFaultyCall}
 use Rattle.gp_reader.specs.declared.fault.ProgramFault.{ProgramFault}
 use Rattle.gp_reader.specs.Program.{IsProgramText, IsFaultyText, declared_rules}
 use Rattle.gp_hostfile.specs.declared.fault.HostFault.{HostFault}

@@ -12,7 +12,7 @@ use Rattle.gp_reader.specs.FaultLines.{line_of}
 use Rattle.gp_hostfile.specs.declared.fault.HostFault.{HostFault}
 use Rattle.gp_hostfile.specs.GraphText.{IsGraphText}
 use Rattle.gp_gen.specs.declared.kind.Kind.{Kind}
-use Rattle.gp_demo.specs.Summary.{summary_text}
+use Rattle.gp_cli.specs.Summary.{summary_text}
 use Rattle.gp_cli.specs.HostLines.{IsHostLine}
 
 -- an answer, apart from its text

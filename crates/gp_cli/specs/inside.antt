@@ -1,4 +1,5 @@
 -- Stepping stones that bodies and proofs alone need.
+pub mod Depth
 pub mod Parts
 pub mod Statuses
 pub mod Told

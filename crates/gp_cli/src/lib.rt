@@ -1,14 +1,17 @@
 //! The program as one call: words, files, the run, and what is written.
 //!
 //! Call `gp2_main`. It is handed the words of the command line, or that memory was refused for them, any files and sinks
-//! (`gp_io`), and a pace that may hold workers (`opt_worker::Pacing::Free` holds nobody); it answers the status of the process. What it may write, with which status and why, is
-//! `specs/Answer`, over the command line of gp_words, the texts of `specs/Texts` and the lines of `specs/HostLines`.
+//! (`gp_io`), and a pace that may hold workers (`opt_worker::Pacing::Free` holds nobody); it answers the status of the
+//! process. What it may write, with which status and why, is `specs/Answer`, over the command line of gp_words, the texts
+//! of `specs/Texts` and the lines of `specs/HostLines`.
 //! Inside it: `gp_words` reads the words, `files` the two files, or `demo` makes what stands in their place, `parsed`
 //! understands them, `run` runs the program, `texts` makes the texts of the answer, and `deliver` writes. All text is made
-//! before the first write.
+//! before the first write. Of a demo `summary` makes the text: what `counts` counts of the graph that it ends with and of
+//! its trace, in the seven lines of `specs/Summary`.
 #![tactic(auto)]
 
 mod choices;
+mod counts;
 mod deliver;
 mod demo;
 mod files;
@@ -18,7 +21,9 @@ mod reply;
 mod run;
 mod said;
 mod status;
+mod summary_lines;
 mod texts;
 mod top;
 
+pub use summary_lines::summary;
 pub use top::gp2_main;

@@ -13,7 +13,7 @@ use crate::host_line::host_line;
 use crate::reply::Reply;
 use crate::said::Said;
 use crate::status::Status;
-use gp_demo::summary;
+use crate::summary_lines::summary;
 use gp_gen::Kind;
 use gp_graph::Graph;
 use gp_hostfile::write_graph;

@@ -2,8 +2,8 @@
 //!
 //! There is nothing to call. Through the top call of gp_cli, `runs` has rows of programs on hosts, `crews` those of several
 //! workers, `demos` those of demos, `refusals` those of words, programs and hosts that are refused, and `devices` those of
-//! reads and writes that fail. `words` has the rows of gp_words, `outside` those of gp_io, `texts` those of gp_gen, `samples`
-//! those of gp_samples, and `demos` also those of gp_demo. They stand here so that these crates are built and proved once.
+//! reads and writes that fail. `words` has the rows of gp_words, `outside` those of gp_io, `texts` those of gp_gen, and
+//! `demos` also the summary of a small graph. They stand here so that these crates are built and proved once.
 #![tactic(auto)]
 
 #[cfg(test)]

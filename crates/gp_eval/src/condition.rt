@@ -13,8 +13,7 @@ use crate::edges::{has_edge, has_edge_with};
 use crate::expression::eval;
 use crate::valued::{Missing, Valued};
 use gp_graph::Graph;
-use gp_syntax::{Assignment, Comparison, Cond, MarkPattern};
-use gp_unify::is_of;
+use gp_syntax::{Assignment, Comparison, Cond, MarkPattern, is_of};
 use gp_values::{EdgeMark, List};
 use std::alloc::Global;
 

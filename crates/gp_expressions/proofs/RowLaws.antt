@@ -7,7 +7,8 @@ use Rattle.gp_grammar.specs.declared.want.Want.{Want}
 use Rattle.gp_grammar.specs.Grammar.{Grammar}
 use Rattle.gp_grammar.specs.Shape.{second_of, list_of}
 use Rattle.gp_grammar.specs.Signs.{dot, minus, slash}
-use Rattle.gp_grammar.specs.inside.Reading.{Reader, ◌>>=◌, begins, token, ◌and◌, made, many, repeated, separated, reader_of}
+use Rattle.gp_grammar.specs.Ahead.{◌>>=◌}
+use Rattle.gp_grammar.specs.Reading.{Reader, begins, token, ◌and◌, made, many, repeated, separated, reader_of}
 use Rattle.gp_syntax.specs.declared.expression.Expr.TheVariants as e
 use Rattle.gp_syntax.specs.declared.expression.Cond.TheVariants as c
 use Rattle.gp_syntax.specs.declared.expression.Signed.{Signed}

@@ -1,8 +1,8 @@
 //! Reads labels and conditions, one function for each line of the grammar.
 
 ghost use Rattle.std.specs.Prelude.{◌≡◌, MatchResult};
-ghost use Rattle.gp_grammar.specs.inside.Cursor.{Reads};
-ghost use Rattle.gp_grammar.specs.inside.Reading.{reader_of};
+ghost use Rattle.gp_grammar.specs.Cursor.{Reads};
+ghost use Rattle.gp_grammar.specs.Reading.{reader_of};
 ghost use Rattle.gp_syntax.specs.declared.expression.Cond.TheVariants as c;
 ghost use Rattle.gp_grammar.specs.Signs.{comma};
 ghost use Rattle.gp_expressions.specs.Ranges.{with, chained};

@@ -1,8 +1,8 @@
 //! Reads expressions, one function for each line of the grammar.
 
 ghost use Rattle.std.specs.Prelude.{◌≡◌, IfOk, MatchResult};
-ghost use Rattle.gp_grammar.specs.inside.Cursor.{Reads};
-ghost use Rattle.gp_grammar.specs.inside.Reading.{reader_of, made, number_at};
+ghost use Rattle.gp_grammar.specs.Cursor.{Reads};
+ghost use Rattle.gp_grammar.specs.Reading.{reader_of, made, number_at};
 ghost use Rattle.gp_grammar.specs.Numerals.{integer_of};
 ghost use Rattle.gp_syntax.specs.declared.expression.Expr.TheVariants as e;
 ghost use Rattle.gp_syntax.specs.declared.expression.SumSign.TheVariants as sums;

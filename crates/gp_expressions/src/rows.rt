@@ -2,8 +2,8 @@
 
 ghost use Rattle.std.specs.Prelude.{◌≡◌, List, Option};
 ghost use Rattle.gp_tokens.specs.declared.token.Token.{Token};
-ghost use Rattle.gp_grammar.specs.inside.Cursor.{Reads, ReadsAs, IsReading};
-ghost use Rattle.gp_grammar.specs.inside.Reading.{made, separated};
+ghost use Rattle.gp_grammar.specs.Cursor.{Reads, ReadsAs, IsReading};
+ghost use Rattle.gp_grammar.specs.Reading.{made, separated};
 ghost use Rattle.gp_expressions.specs.inside.Rows.{IsMaking};
 
 use gp_grammar::{ReadError, Tokens, Want, separated_by};

@@ -8,12 +8,12 @@ use Rattle.gp_grammar.specs.declared.want.Want.TheVariants as wants
 use Rattle.gp_grammar.specs.Wants.{excludes}
 use Rattle.gp_grammar.specs.Shape as s
 use Rattle.gp_grammar.specs.Shape.{Shape, ◌then◌, one, other}
-use Rattle.gp_grammar.specs.inside.Reading.{Reader}
+use Rattle.gp_grammar.specs.Reading.{Reader}
 use Rattle.gp_grammar.specs.Laws.{Again, Anything, No, Begins, NeverBegins, Shrinks, Keeps}
 use Rattle.gp_grammar.proofs.Shapes as g
 use Rattle.gp_grammar.proofs.Strings.{number_at_again, number_at_begins, number_at_shrinks, string_again, string_begins, string_shrinks}
 use Rattle.gp_grammar.specs.Grammar.{Grammar, One, Number, NumberAt, String, Then, Made, At, If, Absent, Repeated, Separated, Never, shape_of}
-use Rattle.gp_grammar.specs.inside.Reading.{reader_of}
+use Rattle.gp_grammar.specs.Reading.{reader_of}
 use Rattle.gp_grammar.specs.Fits.{nullable, enders, NoneOf, OnTrue, BeginsBy, Avoids, AllAvoid, AllExcluded, Fits}
 
 which : (b : Bool) → (b ≡ true) ⊎ (b ≡ false)

@@ -6,7 +6,8 @@ use Rattle.gp_grammar.specs.declared.error.ReadError.{ReadError}
 use Rattle.gp_grammar.specs.declared.error.ReadError.TheVariants as error
 use Rattle.gp_grammar.specs.declared.want.Want.{Want}
 use Rattle.gp_grammar.specs.Shape.{second_of}
-use Rattle.gp_grammar.specs.inside.Reading.{Reader, ◌>>=◌, Fails, begins, behind, token, ◌and◌, made, many, repeated}
+use Rattle.gp_grammar.specs.Ahead.{◌>>=◌}
+use Rattle.gp_grammar.specs.Reading.{Reader, Fails, begins, behind, token, ◌and◌, made, many, repeated}
 
 -- what was read before, and what is still read
 abbrev pub with_front : {A : Type 0} → List A → Option (List A × List Token) → Option (List A × List Token)

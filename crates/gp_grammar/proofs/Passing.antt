@@ -11,7 +11,7 @@ use Rattle.gp_grammar.specs.Shape.{Shape, Is, ◌then◌, one, other, absent, no
 use Rattle.gp_grammar.specs.Shape as s
 use Rattle.gp_grammar.specs.Grammar.{Grammar, One, Number, NumberAt, String, Then, Made, At, If, Absent, Repeated, Separated, Never, shape_of}
 use Rattle.gp_grammar.specs.Fits.{Lacks}
-use Rattle.gp_grammar.specs.inside.Reading.{stands_before}
+use Rattle.gp_grammar.specs.Ahead.{stands_before}
 use Rattle.gp_grammar.proofs.Wants.{excluded}
 
 abbrev pub Passes : {A : Type 0} → (List Token → Bool) → Shape A → Type 0

@@ -8,8 +8,9 @@ use Rattle.gp_grammar.specs.declared.want.Want.{Want}
 use Rattle.gp_grammar.specs.declared.want.Want.TheVariants as wants
 use Rattle.gp_grammar.specs.Wants.{meets, excludes}
 use Rattle.gp_grammar.specs.Shape.{Shape, Is, IsNumber, ◌then◌, Made, Either, one, other, Absent, absent, Many, none, more, second_of, list_of, Separated}
-use Rattle.gp_grammar.specs.inside.Reading.{Reader, ◌>>=◌, token, begins, number, ◌and◌, made, at, many, repeated, separated}
-use Rattle.gp_grammar.specs.inside.Reading as r
+use Rattle.gp_grammar.specs.Ahead.{◌>>=◌}
+use Rattle.gp_grammar.specs.Reading.{Reader, token, begins, number, ◌and◌, made, at, many, repeated, separated}
+use Rattle.gp_grammar.specs.Reading as r
 use Rattle.gp_grammar.specs.Laws.{Sound, Again, Anything, Comes, No, Begins, NeverBegins, Shrinks, Keeps}
 use Rattle.gp_grammar.proofs.Wants.{excluded}
 

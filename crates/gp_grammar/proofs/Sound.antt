@@ -3,12 +3,12 @@ use Rattle.std.proofs.Common.{◌≡◌, Bool, true, false, List, Some}
 use Rattle.std.specs.Prelude.{if◌then◌else◌}
 use Rattle.gp_tokens.specs.declared.token.Token.{Token}
 use Rattle.gp_grammar.specs.Shape.{Shape, Either, one, other}
-use Rattle.gp_grammar.specs.inside.Reading.{Reader}
+use Rattle.gp_grammar.specs.Reading.{Reader}
 use Rattle.gp_grammar.specs.Laws.{Sound}
 use Rattle.gp_grammar.proofs.Shapes as g
 use Rattle.gp_grammar.proofs.Strings.{number_at_sound, string_sound}
 use Rattle.gp_grammar.specs.Grammar.{Grammar, One, Number, NumberAt, String, Then, Made, At, If, Absent, Repeated, Separated, Never, shape_of}
-use Rattle.gp_grammar.specs.inside.Reading.{reader_of}
+use Rattle.gp_grammar.specs.Reading.{reader_of}
 
 chosen : {A : Type 0} (b : Bool) (r s : Reader A) (R S : Shape A) → Sound r R → Sound s S → (ts : List Token) (z : A × List Token) → (if b then r ts else s ts) ≡ Some z → Either R S ts z.1 z.0
 chosen true r s R S p q ts z e = one (p ts z e)

@@ -10,7 +10,7 @@ use Rattle.gp_tokens.specs.declared.token.Token.{Token}
 use Rattle.gp_tokens.specs.Numbers.{checked_number}
 use Rattle.gp_grammar.specs.declared.want.Want.TheVariants as wants
 use Rattle.gp_grammar.specs.Shape.{Is, IsNumberAt, IsString}
-use Rattle.gp_grammar.specs.inside.Reading.{token, number_at, closed, quoted, IsQuoted, string}
+use Rattle.gp_grammar.specs.Reading.{token, number_at, closed, quoted, IsQuoted, string}
 use Rattle.gp_grammar.specs.Laws.{Sound, Again, Anything, Begins, Shrinks}
 use Rattle.gp_grammar.proofs.Shapes.{bind_some, some_is, token_sound, token_again, token_begins, token_shrinks}
 

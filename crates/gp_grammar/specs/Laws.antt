@@ -7,7 +7,7 @@ use Rattle.gp_tokens.specs.Numbers.{checked_number}
 use Rattle.gp_values.specs.Texts.{IsText}
 use Rattle.gp_grammar.specs.declared.want.Want.{Want}
 use Rattle.gp_grammar.specs.Shape.{Shape}
-use Rattle.gp_grammar.specs.inside.Reading.{Reader, begins}
+use Rattle.gp_grammar.specs.Reading.{Reader, begins}
 
 -- what is read has the shape
 abbrev pub Sound : {A : Type 0} → Reader A → Shape A → Type 0

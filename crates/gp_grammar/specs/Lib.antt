@@ -5,4 +5,6 @@ pub mod Grammar
 pub mod Fits
 pub mod Laws
 pub mod Numerals
-pub mod inside
+pub mod Reading
+pub mod Cursor
+pub mod Ahead

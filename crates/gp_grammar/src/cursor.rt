@@ -1,8 +1,8 @@
 //! A cursor over tokens.
 
 ghost use Rattle.std.specs.Prelude.{◌≡◌, length, OnErr, IfErr};
-ghost use Rattle.gp_grammar.specs.inside.Cursor.{Reads, ReadsAs};
-ghost use Rattle.gp_grammar.specs.inside.Reading as spec;
+ghost use Rattle.gp_grammar.specs.Cursor.{Reads, ReadsAs};
+ghost use Rattle.gp_grammar.specs.Reading as spec;
 
 use crate::error::ReadError;
 use crate::text::quoted;

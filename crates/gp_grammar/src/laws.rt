@@ -7,7 +7,7 @@ ghost use Rattle.gp_grammar.specs.Fits.{Fits, NoneOf, enders};
 ghost use Rattle.gp_grammar.specs.Grammar.{Grammar, shape_of};
 ghost use Rattle.gp_grammar.specs.Laws.{Sound, Again, NumbersHaveValues, StringsHaveCharacters};
 ghost use Rattle.gp_grammar.specs.Wants.{meets, excludes};
-ghost use Rattle.gp_grammar.specs.inside.Reading.{reader_of};
+ghost use Rattle.gp_grammar.specs.Reading.{reader_of};
 
 /// A grammar of the tree `A`.
 pub trait Form<A> {

@@ -2,8 +2,8 @@
 
 ghost use Rattle.std.specs.Prelude.{List, Option};
 ghost use Rattle.gp_tokens.specs.declared.token.Token.{Token};
-ghost use Rattle.gp_grammar.specs.inside.Cursor.{ReadsAs, IsReading};
-ghost use Rattle.gp_grammar.specs.inside.Reading as spec;
+ghost use Rattle.gp_grammar.specs.Cursor.{ReadsAs, IsReading};
+ghost use Rattle.gp_grammar.specs.Reading as spec;
 
 use crate::cursor::Tokens;
 use crate::error::ReadError;

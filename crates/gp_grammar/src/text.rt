@@ -1,7 +1,7 @@
 //! The characters of a string.
 
 ghost use Rattle.std.specs.Prelude.{◌≡◌, ◌∷◌, ◌++◌, [], ℕ, List, IfOk, MatchOption};
-ghost use Rattle.gp_grammar.specs.inside.Reading.{IsQuoted};
+ghost use Rattle.gp_grammar.specs.Reading.{IsQuoted};
 
 use gp_memory::NoMemory;
 use gp_values::Chars;

@@ -3,7 +3,7 @@ use Rattle.std.proofs.Common.{◌≡◌, ◌≢◌, ℕ, List, refl, sym, ap, su
 use Rattle.std.specs.Prelude.{Option, Some, None, IsSome, slice_set}
 use Rattle.std.specs.Option.{option_map}
 use Rattle.gp_graph.specs.inside.Slots.{slot_in}
-use Rattle.gp_graph.specs.inside.Chains.{Joins}
+use Rattle.gp_graph.specs.Chains.{Joins}
 use Rattle.gp_graph.specs.inside.Rings.{link_in, with_next, with_prev, changed_at}
 use Rattle.gp_graph.specs.declared.slots.Link.{Link}
 use Rattle.gp_graph.specs.declared.slots.EdgeSlot.{EdgeSlot}

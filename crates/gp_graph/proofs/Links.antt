@@ -4,7 +4,7 @@ use Rattle.std.specs.Prelude.{◌⊎◌, ◌↔◌, Option, Some, None, IsSome, 
 use Rattle.std.specs.Option.{option_map}
 use Rattle.std.proofs.lemmas.Bool.{cases_eq}
 use Rattle.gp_graph.specs.inside.Slots.{slot_in}
-use Rattle.gp_graph.specs.inside.Chains.{Joins}
+use Rattle.gp_graph.specs.Chains.{Joins}
 use Rattle.gp_graph.specs.inside.View.{node_of, edge_of}
 use Rattle.gp_graph.specs.inside.Rings.{other, link_in, ring_in, with_next, with_prev, with_ring, changed_at, next_of, prev_of, first_of, count_of, root_link, ShowSame}
 use Rattle.gp_graph.specs.declared.slots.Link.{Link}

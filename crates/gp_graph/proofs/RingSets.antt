@@ -5,7 +5,7 @@ use Rattle.std.proofs.lemmas.Bool.{cases_eq, eqb-true, eq-eqb}
 use Rattle.std.proofs.lemmas.List.Elements.{Contains-push_cases, Contains-push, Contains-append_left}
 use Rattle.gp_values.specs.Apart.{AreApart}
 use Rattle.gp_graph.specs.Walks.{Walks}
-use Rattle.gp_graph.specs.inside.Chains.{without, follow, Goes, GoesRound, Joins, AreRings, Begins}
+use Rattle.gp_graph.specs.Chains.{without, follow, Goes, GoesRound, Joins, AreRings, Begins}
 use Rattle.gp_graph.proofs.Numbers.{here, later, first_or_later, first_new, others_apart, apart_more, length-without, Contains-without, Walks-same}
 use Rattle.gp_graph.proofs.Rounds.{frame_round, push_round, remove_round, next_round, prev_round, follow-round, length-follow}
 

@@ -5,7 +5,7 @@ use Rattle.std.specs.Option.{option_map}
 use Rattle.std.proofs.lemmas.Bool.{cases_eq}
 use Rattle.gp_values.specs.Graph.{Edge}
 use Rattle.gp_graph.specs.inside.Slots.{slot_in}
-use Rattle.gp_graph.specs.inside.Chains.{Joins, AreRings, follow}
+use Rattle.gp_graph.specs.Chains.{Joins, AreRings, follow}
 use Rattle.gp_graph.specs.inside.View.{node_of, edge_of}
 use Rattle.gp_graph.specs.inside.Rings.{other, end_of, link_in, ring_in, with_ring, changed_at, next_of, prev_of, first_of, count_of, Meets, HasRings, HasRingsBut, ShowSame, Keeps}
 use Rattle.gp_graph.specs.declared.slots.Link.{Link}

@@ -6,7 +6,7 @@ use Rattle.std.proofs.lemmas.Bool.{cases_eq}
 use Rattle.gp_values.specs.declared.atom.Atom.{Atom}
 use Rattle.gp_values.specs.declared.marks.NodeMark.{NodeMark}
 use Rattle.gp_graph.specs.inside.Slots.{slot_in}
-use Rattle.gp_graph.specs.inside.Chains.{Joins, follow}
+use Rattle.gp_graph.specs.Chains.{Joins, follow}
 use Rattle.gp_graph.specs.inside.View.{node_of}
 use Rattle.gp_graph.specs.inside.Rings.{changed_at, ring_in, root_link, ShowSame, SameRootLinks}
 use Rattle.gp_graph.specs.inside.Roots.{with_next_root, with_prev_root, next_root, prev_root, at_zero, is_root_in, IsRootAt, HasRoots, HasRootsBut, KeepsNodes, rewritten}

@@ -3,7 +3,7 @@ use Rattle.std.proofs.Common.{inl, inr, ◌≡◌, ℕ, zero, suc, ◌+◌, ◌=
 use Rattle.std.specs.Prelude.{◌⊎◌, Contains}
 use Rattle.std.proofs.lemmas.Bool.{eqb-true, eq-eqb}
 use Rattle.gp_values.specs.Apart.{AreApart}
-use Rattle.gp_graph.specs.inside.Chains.{without, follow, Joined, Goes, GoesRound, Joins}
+use Rattle.gp_graph.specs.Chains.{without, follow, Joined, Goes, GoesRound, Joins}
 use Rattle.gp_graph.proofs.Numbers.{here, later, first_or_later, first_new, others_apart}
 
 -- numbers that stand nowhere in a list are joined: the links go through it as before

@@ -7,7 +7,7 @@ use Rattle.gp_values.specs.Graph.{Edge, Graph, HasNoEdges, node_at, edge_at}
 use Rattle.gp_values.proofs.Graphs.{same_graph}
 use Rattle.gp_graph.specs.inside.Slots.{slot_in}
 use Rattle.gp_graph.specs.Walks.{Walks}
-use Rattle.gp_graph.specs.inside.Chains.{AreRings, Begins, follow}
+use Rattle.gp_graph.specs.Chains.{AreRings, Begins, follow}
 use Rattle.gp_graph.specs.inside.View.{node_of, edge_of, graph_from}
 use Rattle.gp_graph.specs.inside.Rings.{other, end_of, link_in, ring_in, next_of, prev_of, first_of, count_of, Meets, HasRings, HasRingsBut, ShowSame, Keeps}
 use Rattle.gp_graph.specs.declared.slots.Link.{Link}

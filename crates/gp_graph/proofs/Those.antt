@@ -3,7 +3,7 @@ use Rattle.std.proofs.Common.{inl, inr, ◌≡◌, ℕ, zero, suc, ◌+◌, ◌-
 use Rattle.std.specs.Prelude.{◌⊎◌, ◌↔◌, Contains}
 use Rattle.gp_values.specs.Apart.{AreApart}
 use Rattle.gp_graph.specs.Walks.{Walks}
-use Rattle.gp_graph.specs.inside.Chains.{follow}
+use Rattle.gp_graph.specs.Chains.{follow}
 use Rattle.gp_graph.specs.inside.Sought.{those}
 use Rattle.gp_graph.proofs.Numbers.{here, later, first_or_later, kept, first_kept, first_new, others_apart, apart_kept}
 

@@ -7,7 +7,7 @@ use Rattle.gp_values.specs.Apart.{AreApart}
 use Rattle.gp_values.specs.Graph.{Node, Edge, Graph, node_at, edge_at, in_degree, out_degree, node_count, root_count}
 use Rattle.gp_graph.specs.Walks.{Walks, IsNode, IsRoot, BeginsAt, EndsAt, GoesBetween}
 use Rattle.gp_graph.specs.inside.Slots.{slot_in}
-use Rattle.gp_graph.specs.inside.Chains.{follow}
+use Rattle.gp_graph.specs.Chains.{follow}
 use Rattle.gp_graph.specs.inside.View.{node_of, edge_of, graph_from}
 use Rattle.gp_graph.specs.inside.Rings.{end_of, next_of, first_of, count_of, Meets, HasRings}
 use Rattle.gp_graph.specs.inside.Roots.{next_root, IsRootAt, HasRoots}

@@ -1,3 +1,4 @@
 pub mod Held
 pub mod Walks
 pub mod inside
+pub mod Chains

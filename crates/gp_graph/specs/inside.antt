@@ -1,7 +1,6 @@
 -- Stepping stones, which bodies and proofs need: slots, the links between them, and what a walk has left.
 pub mod Slots
 pub mod View
-pub mod Chains
 pub mod Rings
 pub mod Roots
 pub mod Sound

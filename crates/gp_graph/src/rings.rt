@@ -2,7 +2,7 @@
 
 ghost use Rattle.std.specs.Prelude.{◌≡◌, ◌≢◌, ◌<◌, ◌≤◌, ℕ, length, IsSome};
 ghost use Rattle.gp_graph.specs.inside.Slots.{slot_in};
-ghost use Rattle.gp_graph.specs.inside.Chains.{Joins};
+ghost use Rattle.gp_graph.specs.Chains.{Joins};
 ghost use Rattle.gp_graph.specs.inside.View.{edge_of};
 ghost use Rattle.gp_graph.specs.inside.Rings.{other, link_in, ring_in, with_next, with_prev, with_ring, changed_at, next_of, prev_of, first_of, count_of, Meets, HasRings, HasRingsBut, ShowSame, Keeps, AllRings, AllRingsBut, Links, ShowsSame};
 

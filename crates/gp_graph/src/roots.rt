@@ -4,7 +4,7 @@ ghost use Rattle.std.specs.Prelude.{◌≡◌, ◌≢◌, ◌<◌, ◌≤◌, �
 ghost use Rattle.std.specs.Option.{option_map};
 ghost use Rattle.gp_values.specs.Atoms.{AreAtoms};
 ghost use Rattle.gp_graph.specs.inside.Slots.{slot_in};
-ghost use Rattle.gp_graph.specs.inside.Chains.{Joins};
+ghost use Rattle.gp_graph.specs.Chains.{Joins};
 ghost use Rattle.gp_graph.specs.inside.View.{node_of};
 ghost use Rattle.gp_graph.specs.inside.Rings.{changed_at, root_link};
 ghost use Rattle.gp_graph.specs.inside.Roots.{with_next_root, with_prev_root, next_root, prev_root, is_root_in, IsRootAt, HasRoots, HasRootsBut, KeepsNodes, rewritten};

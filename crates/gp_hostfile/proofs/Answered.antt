@@ -8,7 +8,8 @@ use Rattle.gp_tokens.specs.Lexed.{tokens_of}
 use Rattle.gp_grammar.specs.Grammar.{Made, At, ◌followed_by◌, shape_of}
 use Rattle.gp_grammar.specs.Shape.{one, other, second_of}
 use Rattle.gp_grammar.specs.Signs.{less}
-use Rattle.gp_grammar.specs.inside.Reading.{◌>>=◌, reader_of}
+use Rattle.gp_grammar.specs.Ahead.{◌>>=◌}
+use Rattle.gp_grammar.specs.Reading.{reader_of}
 use Rattle.gp_grammar.proofs.Shapes.{bind_some, some_is}
 use Rattle.gp_values.specs.Graph.{Graph, IsGraph, node_at, empty_graph, with_node, with_edge}
 use Rattle.gp_values.specs.Names.{Name, place_of}

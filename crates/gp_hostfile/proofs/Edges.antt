@@ -3,7 +3,8 @@ use Rattle.std.proofs.Common.{◌≡◌, List, Option, Some, None, refl}
 use Rattle.gp_tokens.specs.declared.token.Token.{Token}
 use Rattle.gp_grammar.specs.declared.want.Want.TheVariants as wants
 use Rattle.gp_grammar.specs.Signs.{open_sign, comma}
-use Rattle.gp_grammar.specs.inside.Reading.{◌>>=◌, reader_of, token}
+use Rattle.gp_grammar.specs.Ahead.{◌>>=◌}
+use Rattle.gp_grammar.specs.Reading.{reader_of, token}
 use Rattle.gp_hostfile.specs.declared.tree.EdgeTree.{EdgeTree}
 use Rattle.gp_hostfile.specs.Grammar.{edge, edge_of}
 use Rattle.gp_hostfile.specs.inside.Edges.{Ends, edge_named, ends, rest_of_edge}

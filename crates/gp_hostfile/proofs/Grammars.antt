@@ -10,7 +10,8 @@ use Rattle.gp_grammar.specs.Shape.{second_of}
 use Rattle.gp_grammar.specs.Fits.{Fits, NoneOf, Avoids, Lacks, Answers, enders}
 use Rattle.gp_grammar.specs.Laws.{Again, Sound}
 use Rattle.gp_grammar.specs.Signs.{bar, open_sign, close_bracket}
-use Rattle.gp_grammar.specs.inside.Reading.{begins, reader_of, stands_before}
+use Rattle.gp_grammar.specs.Ahead.{stands_before}
+use Rattle.gp_grammar.specs.Reading.{begins, reader_of}
 use Rattle.gp_grammar.proofs.Complete.{all_again, strong}
 use Rattle.gp_grammar.proofs.Passing.{passes, want_met, stop_met}
 use Rattle.gp_grammar.proofs.Sound.{all_sound}

@@ -7,7 +7,7 @@ use Rattle.gp_grammar.specs.Grammar.{Grammar, One, NumberAt, String, Made, At, I
 use Rattle.gp_grammar.specs.Shape.{Shape, dropped, second_of}
 use Rattle.gp_grammar.specs.Signs.{number_sign, any_word, open_sign, close_sign, open_bracket, close_bracket, less, greater, comma, colon, dot, minus, hash, bar, empty, root_word}
 use Rattle.gp_grammar.specs.Wants.{meets}
-use Rattle.gp_grammar.specs.inside.Reading.{stands_before}
+use Rattle.gp_grammar.specs.Ahead.{stands_before}
 use Rattle.gp_values.specs.Names.{Name}
 use Rattle.gp_hostfile.specs.declared.tree.AtomTree.{AtomTree}
 use Rattle.gp_hostfile.specs.declared.tree.AtomTree.TheVariants as atoms

@@ -9,8 +9,7 @@ use crate::check::{edge_mark, end, integer, node_mark};
 use crate::fault::HostFault;
 use crate::tree::{AtomTree, EdgeTree, HostTree, NodeTree};
 use gp_graph::Graph;
-use gp_names::NameTable;
-use gp_values::{Atom, List};
+use gp_values::{Atom, List, NameTable};
 use std::alloc::Global;
 
 /// The graph of a tree, by the names of its nodes. Where the tree has no fault, only memory can be wanting. The tree's

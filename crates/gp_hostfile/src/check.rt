@@ -13,9 +13,8 @@ ghost use Rattle.gp_hostfile.specs.declared.tree.EdgeTree.{EdgeTree};
 use crate::fault::HostFault;
 use crate::tree::{AtomTree, EdgeTree, HostTree, NodeTree};
 use gp_grammar::Numeral;
-use gp_names::NameTable;
 use gp_tokens::Slice;
-use gp_values::{EdgeMark, NodeMark};
+use gp_values::{EdgeMark, NameTable, NodeMark};
 use std::alloc::Global;
 
 /// Finds the first fault, or gives the names of the nodes.

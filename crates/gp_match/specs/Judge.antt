@@ -7,8 +7,8 @@ use Rattle.gp_syntax.specs.Truth.{truth_of}
 use Rattle.gp_syntax.specs.Rule.{Rule, Found}
 use Rattle.gp_syntax.specs.Match.{setting_of}
 use Rattle.gp_syntax.specs.Step.{first_fault, right_labels}
-use Rattle.gp_unify.specs.inside.Candidate.{candidate}
-use Rattle.gp_match.specs.inside.Tests.{is_match}
+use Rattle.gp_unify.specs.Candidate.{candidate}
+use Rattle.gp_match.specs.Tests.{is_match}
 
 pub data Judged : Type 0 where
   applies : Judged

@@ -2,3 +2,5 @@ pub mod Verdict
 pub mod Judge
 pub mod inside
 pub mod Laws
+pub mod Tests
+pub mod Stands

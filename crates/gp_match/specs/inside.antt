@@ -1,3 +1,1 @@
-pub mod Tests
-pub mod Stands
 pub mod Faults

@@ -4,7 +4,7 @@ ghost use Rattle.std.specs.Prelude.{◌≡◌, ◌<◌, length, IsSome};
 ghost use Rattle.gp_values.specs.Graph.{node_at, edge_at};
 ghost use Rattle.gp_syntax.specs.Rule.{is_origin};
 ghost use Rattle.gp_eval.specs.Answer.{AreNodes};
-ghost use Rattle.gp_match.specs.inside.Stands.{has_end, count_at, counts, is_kept_by, none_dangles, numbers_of};
+ghost use Rattle.gp_match.specs.Stands.{has_end, count_at, counts, is_kept_by, none_dangles, numbers_of};
 
 use gp_graph::Graph;
 use gp_syntax::{EdgeImage, RightNode};

@@ -10,7 +10,7 @@ use Rattle.gp_plan.specs.declared.operation.Operation.TheVariants.{Root, Node, O
 use Rattle.gp_plan.specs.Plan.{source_of, target_of, is_chosen, ends_after, plan_of, none_of}
 use Rattle.gp_plan.specs.Order.{LeadsOut, LeadsIn, AreChosen, IsOrder, edges_of, nodes_of, far_end}
 use Rattle.gp_plan.specs.Laws.{StandOnce, ChoosesOnce}
-use Rattle.gp_plan.specs.inside.Places.{HasEnds}
+use Rattle.gp_plan.specs.Places.{HasEnds}
 use Rattle.gp_plan.proofs.Orders.{one_if_not, places, length_nodes, order_of}
 
 -- 1 at a place that is there and not chosen, 0 elsewhere

@@ -3,3 +3,4 @@ pub mod Parts
 pub mod Orders
 pub mod Counts
 pub mod Beginnings
+pub mod Rounds

@@ -1,4 +1,5 @@
 pub mod Plan
 pub mod Order
 pub mod Laws
-pub mod inside
+pub mod Places
+pub mod Round

@@ -1,16 +1,23 @@
-//! Search plans: in which order a search chooses the images of a rule's left nodes and left edges.
+//! Search plans, which say in which order a search chooses the images of a rule's left nodes and left edges; and rounds,
+//! the order in which it visits the numbers of a share.
 //!
-//! Call `plan` once for each rule. The plan is the list of operations of `specs/Plan`, a function of the rule alone: it
-//! begins at a root of the left side where there is one, goes on along edges as long as one has a known end, and begins
-//! anew in the nodes that are left. The laws say that it chooses each left node and each left edge once, that each
+//! Call `plan` first, once for each rule. The plan is the list of operations of `specs/Plan`, a function of the rule
+//! alone: it begins at a root of the left side where there is one, goes on along edges as long as one has a known end, and
+//! begins anew in the nodes that are left. The laws say that it chooses each left node and each left edge once, that each
 //! operation finds known what it begins at, and that the plan begins at the node by which matches are dealt out to
 //! shares. What a search may make of a plan stands in `specs/Order`.
+//!
+//! Then call `numbers_of_share` and `Round::next` for each search: the numbers below a limit that are this share modulo
+//! so many, from the first one that is not below a hint up to the limit, and then those before it. Contracts see the
+//! numbers that are still to come as a list (`specs/Round`), and say that it has each number of the share.
 #![tactic(auto)]
 
 pub mod laws;
 mod operation;
 mod planning;
+mod round;
 pub mod sharing;
 
 pub use operation::{Operation, Plan};
 pub use planning::plan;
+pub use round::{Round, numbers_of_share};

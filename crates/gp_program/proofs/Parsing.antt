@@ -3,7 +3,7 @@ use Rattle.std.proofs.Common.{◌≡◌, ◌≢◌, ℕ, List, [], ◌∷◌, le
 use Rattle.std.specs.Prelude.{Result, ◌≤◌}
 use Rattle.gp_tokens.specs.declared.token.Token.{Token}
 use Rattle.gp_grammar.specs.Grammar.{shape_of}
-use Rattle.gp_grammar.specs.inside.Reading.{reader_of}
+use Rattle.gp_grammar.specs.Reading.{reader_of}
 use Rattle.gp_program.specs.Depth.{IsShallow, IsTooDeep, FindsDepth, outside}
 use Rattle.gp_program.specs.inside.Deep.{too_deep_from}
 use Rattle.gp_program.proofs.Depths.{finds}

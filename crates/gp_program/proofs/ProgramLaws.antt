@@ -10,7 +10,7 @@ use Rattle.gp_grammar.specs.Grammar.{Grammar, One, Made, Repeated, shape_of}
 use Rattle.gp_grammar.specs.Fits.{Fits, Avoids, AllAvoid, NoneOf, BeginsBy, enders, nullable}
 use Rattle.gp_grammar.specs.Laws.{Again, Sound}
 use Rattle.gp_grammar.specs.Signs.{close_bracket}
-use Rattle.gp_grammar.specs.inside.Reading.{reader_of}
+use Rattle.gp_grammar.specs.Reading.{reader_of}
 use Rattle.gp_grammar.proofs.Complete.{all_again}
 use Rattle.gp_grammar.proofs.Sound.{all_sound}
 use Rattle.gp_syntax.specs.declared.tree.Ast.{Ast}

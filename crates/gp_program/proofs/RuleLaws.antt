@@ -9,7 +9,8 @@ use Rattle.gp_grammar.specs.Shape.{Is, Many, none, more, ◌then◌, second_of}
 use Rattle.gp_grammar.specs.Grammar.{Grammar, One, Made, ◌followed_by◌, shape_of}
 use Rattle.gp_grammar.specs.Fits.{Fits, Avoids, AllAvoid, Lacks, Answers, BeginsBy, enders, nullable}
 use Rattle.gp_grammar.specs.Signs.{bar, less, open_sign, close_bracket}
-use Rattle.gp_grammar.specs.inside.Reading.{begins, stands_before}
+use Rattle.gp_grammar.specs.Ahead.{stands_before}
+use Rattle.gp_grammar.specs.Reading.{begins}
 use Rattle.gp_grammar.proofs.Complete.{strong}
 use Rattle.gp_grammar.proofs.Passing.{passes, want_met, stop_met}
 use Rattle.gp_syntax.specs.declared.tree.NodeDecl.{NodeDecl}

@@ -8,7 +8,7 @@ use Rattle.gp_grammar.specs.Grammar.{Grammar, One, Made, At, If, Absent, Repeate
 use Rattle.gp_grammar.specs.Shape.{dropped, second_of}
 use Rattle.gp_grammar.specs.Signs.{number_sign, open_sign, close_sign, open_bracket, close_bracket, open_brace, close_brace, less, greater, comma, semicolon, colon, dot, minus, bar, equal, arrow, root_word}
 use Rattle.gp_grammar.specs.Wants.{meets}
-use Rattle.gp_grammar.specs.inside.Reading.{stands_before}
+use Rattle.gp_grammar.specs.Ahead.{stands_before}
 use Rattle.gp_values.specs.Names.{Name}
 use Rattle.gp_syntax.specs.declared.kinds.VariableType.{VariableType}
 use Rattle.gp_syntax.specs.declared.kinds.VariableType.TheVariants as types

@@ -1,8 +1,8 @@
 //! Reads commands, one function for each line of the grammar.
 
 ghost use Rattle.std.specs.Prelude.{◌≡◌, MatchResult};
-ghost use Rattle.gp_grammar.specs.inside.Cursor.{Reads};
-ghost use Rattle.gp_grammar.specs.inside.Reading.{reader_of};
+ghost use Rattle.gp_grammar.specs.Cursor.{Reads};
+ghost use Rattle.gp_grammar.specs.Reading.{reader_of};
 ghost use Rattle.gp_expressions.specs.Expressions.{behind};
 ghost use Rattle.gp_expressions.specs.Signs.{then_word};
 ghost use Rattle.gp_program.specs.Commands as spec;

@@ -1,8 +1,8 @@
 //! Reads the sides of rules, one function for each line of the grammar.
 
 ghost use Rattle.std.specs.Prelude.{◌≡◌};
-ghost use Rattle.gp_grammar.specs.inside.Cursor.{Reads};
-ghost use Rattle.gp_grammar.specs.inside.Reading.{reader_of};
+ghost use Rattle.gp_grammar.specs.Cursor.{Reads};
+ghost use Rattle.gp_grammar.specs.Reading.{reader_of};
 ghost use Rattle.gp_expressions.specs.Expressions.{list};
 ghost use Rattle.gp_program.specs.Rules as spec;
 ghost use Rattle.gp_program.specs.inside.EdgeParts.{edge_ends};

@@ -2,8 +2,8 @@
 
 ghost use Rattle.std.specs.Prelude.{◌≡◌, MatchResult};
 ghost use Rattle.gp_grammar.specs.Grammar.{Made};
-ghost use Rattle.gp_grammar.specs.inside.Cursor.{Reads};
-ghost use Rattle.gp_grammar.specs.inside.Reading.{reader_of};
+ghost use Rattle.gp_grammar.specs.Cursor.{Reads};
+ghost use Rattle.gp_grammar.specs.Reading.{reader_of};
 ghost use Rattle.gp_program.specs.Rules.{rule};
 ghost use Rattle.gp_program.specs.Programs as spec;
 

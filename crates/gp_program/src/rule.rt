@@ -1,8 +1,8 @@
 //! Reads rules, one function for each line of the grammar.
 
 ghost use Rattle.std.specs.Prelude.{◌≡◌};
-ghost use Rattle.gp_grammar.specs.inside.Cursor.{Reads};
-ghost use Rattle.gp_grammar.specs.inside.Reading.{reader_of};
+ghost use Rattle.gp_grammar.specs.Cursor.{Reads};
+ghost use Rattle.gp_grammar.specs.Reading.{reader_of};
 ghost use Rattle.gp_grammar.specs.Signs.{comma};
 ghost use Rattle.gp_expressions.specs.Conditions.{condition};
 ghost use Rattle.gp_expressions.specs.Expressions.{behind, name as name_of, list};

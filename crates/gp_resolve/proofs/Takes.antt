@@ -7,7 +7,7 @@ use Rattle.gp_syntax.specs.declared.tree.CommandTree.{CommandTree}
 use Rattle.gp_syntax.specs.declared.tree.Decl.{Decl}
 use Rattle.gp_syntax.specs.declared.tree.Decl.TheVariants as decl
 use Rattle.gp_scope.specs.Outline.{outline, declared, rules_in}
-use Rattle.gp_scope.specs.inside.Surveys.{weight, weights}
+use Rattle.gp_scope.specs.Surveys.{weight, weights}
 use Rattle.gp_scope.proofs.Outlines.{declared-Rule, declared-Procedure}
 use Rattle.gp_resolve.specs.inside.Taken.{TakesRules}
 

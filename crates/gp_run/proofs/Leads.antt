@@ -38,9 +38,9 @@ abbrev pub marked : View → View
 marked v = record v { room = v.room + 1 }
 
 stands_spent : (w : View) (x : Ending) → StandsSpent w x → Stands x
-stands_spent w (Gives h) a = absurd a
-stands_spent w (Fails h) a = absurd a
-stands_spent w (Breaks h) a = absurd a
+stands_spent w (Gives h) a = absurd a.0
+stands_spent w (Fails h) a = absurd a.0
+stands_spent w (Breaks h) a = absurd a.0
 stands_spent w (At c h) a = at_call
 stands_spent w (AtTurn h) a = at_turn
 

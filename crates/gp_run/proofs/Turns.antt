@@ -9,7 +9,7 @@ use Rattle.gp_run.specs.declared.engine.Called.TheVariants as called
 use Rattle.gp_run.specs.declared.engine.Turned.TheVariants as turned
 use Rattle.gp_run.specs.declared.engine.Repeated.{Repeated}
 use Rattle.gp_run.specs.declared.engine.Repeated.TheVariants as repeated
-use Rattle.gp_run.specs.inside.Ended.{HasEnded}
+use Rattle.gp_run.specs.Ended.{HasEnded}
 use Rattle.gp_run.proofs.Leads.{adds-nothing, adds-append}
 
 -- the body fails: the loop ends with the graph from before it

@@ -1,11 +1,9 @@
 -- What an engine tells of itself, and what each of its calls does to that.
-use Rattle.std.specs.Prelude.{◌≡◌, ℕ, ◌+◌, ◌-◌, Bool, List, [], ◌∷◌, ◌++◌, Some, slice_get, length, Contains}
+use Rattle.std.specs.Prelude.{◌≡◌, ℕ, ◌+◌, ◌-◌, Bool, List, [], ◌∷◌, ◌++◌, length}
 use Rattle.gp_values.specs.Graph.{Graph}
 use Rattle.gp_memory.specs.Free.{Free}
 use Rattle.gp_syntax.specs.declared.kinds.NumberKind.{NumberKind}
-use Rattle.gp_syntax.specs.Rule.{Rule, Found}
-use Rattle.gp_syntax.specs.Step.{HasApplying, IsFaulty}
-use Rattle.gp_syntax.specs.Run.{Command, Call, Loop, Program, Item, Turned, Back, Ending, Gives, Fails, Breaks, At, AtTurn, live, counted, Run}
+use Rattle.gp_syntax.specs.Run.{Command, Call, Loop, Program, Item, Turned, Back, Ending, Gives, Fails, At, live, counted, Run, HasApplyingCall, HasFaultyCall, MayGoOn}
 use Rattle.gp_syntax.specs.Replay.{Replays}
 use Rattle.gp_run.specs.declared.engine.Called.{Called}
 use Rattle.gp_run.specs.declared.engine.Called.TheVariants as called
@@ -42,30 +40,17 @@ pub record Makes (p : Command) (v w : View) (picks : List Bool) (t : List Item) 
 
 -- ---- causes
 
--- no item is left, and a match of the set applies
-pub record IsSpent (c : ℕ) (w : View) : Type 0 where
-  pub set : List ℕ
-  pub is_set : slice_get w.program.sets c ≡ Some set
-  pub none_left : w.left ≡ 0
-  pub applies : HasApplying w.program.rules set w.graph
+-- no item is left, and some match of the call's set applies
+abbrev pub IsSpent : ℕ → View → Type 0
+IsSpent c w = HasApplyingCall w.program c w.graph × (w.left ≡ 0)
 
--- the rule is one of the set, and has a faulty match of this kind
-pub record HasFaulty (c rule : ℕ) (kind : NumberKind) (w : View) : Type 0 where
-  pub set : List ℕ
-  pub is_set : slice_get w.program.sets c ≡ Some set
-  pub in_set : Contains set rule
-  pub the_rule : Rule
-  pub is_rule : slice_get w.program.rules rule ≡ Some the_rule
-  pub found : Found
-  pub faulty : IsFaulty the_rule w.graph found kind
+-- a rule of the call's set has a faulty match of this kind
+abbrev pub HasFaulty : ℕ → ℕ → NumberKind → View → Type 0
+HasFaulty c rule kind w = HasFaultyCall w.program c rule kind w.graph
 
--- the execution stands before a turn, and no item is left; or before a call, and no item is left for what applies
+-- no item is left, and the execution may go on
 abbrev pub StandsSpent : View → Ending → Type 0
-StandsSpent w (Gives h) = ⊥
-StandsSpent w (Fails h) = ⊥
-StandsSpent w (Breaks h) = ⊥
-StandsSpent w (At c h) = (h ≡ w.graph) × IsSpent c w
-StandsSpent w (AtTurn h) = (h ≡ w.graph) × (w.left ≡ 0)
+StandsSpent w x = MayGoOn w.program w.graph x × (w.left ≡ 0)
 
 -- ---- the calls
 
@@ -103,7 +88,6 @@ HasTurned turned.NoMemory v w = Free
 -- the number of the live steps is told, and there is room for one Back more
 pub record HasMarked (m : ℕ) (v w : View) : Type 0 where
   pub live_steps : m ≡ length (live v.items)
-  pub replays : IsReplay v
   pub view : w ≡ record v { room = v.room + 1 }
 
 -- the live steps but for the first m are taken back, and the graph is what the items then lead to

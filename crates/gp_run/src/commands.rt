@@ -184,6 +184,7 @@ fn run_if<R, E: Engine<R>, C: Chooser>(
     requires no_break { MayBreak (E.view engine.old).program (command_of condition.now) → ⊥ }
     ensures { HasStopped C.answer C.next result (If (command_of condition.now) (command_of then.now) (command_of otherwise.now)) (E.view engine.old) (E.view engine.new) (C.state chooser.old) (C.state chooser.new) }
 {
+    engine.replays();
     let before = match engine.mark(rt) {
         Ok(before) => before,
         Err(NoMemory) => return Stop::NoMemory,
@@ -220,6 +221,7 @@ fn run_try<R, E: Engine<R>, C: Chooser>(
     requires no_break { MayBreak (E.view engine.old).program (command_of condition.now) → ⊥ }
     ensures { HasStopped C.answer C.next result (Try (command_of condition.now) (command_of then.now) (command_of otherwise.now)) (E.view engine.old) (E.view engine.new) (C.state chooser.old) (C.state chooser.new) }
 {
+    engine.replays();
     let before = match engine.mark(rt) {
         Ok(before) => before,
         Err(NoMemory) => return Stop::NoMemory,
@@ -257,6 +259,7 @@ fn run_loop<R, E: Engine<R>, C: Chooser>(
             Turned::Bound => return Stop::Bound,
             Turned::NoMemory => return Stop::NoMemory,
         }
+        engine.replays();
         let mark = match engine.mark(rt) {
             Ok(mark) => mark,
             Err(NoMemory) => return Stop::NoMemory,

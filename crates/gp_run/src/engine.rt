@@ -2,7 +2,7 @@
 
 ghost use Rattle.std.specs.Prelude.{◌<◌, ◌≤◌, length, IfOk};
 ghost use Rattle.gp_syntax.specs.Run.{live};
-ghost use Rattle.gp_run.specs.Engine.{View, HasCalled, HasRepeated, HasTurned, HasMarked, TakesBack};
+ghost use Rattle.gp_run.specs.Engine.{View, IsReplay, HasCalled, HasRepeated, HasTurned, HasMarked, TakesBack};
 
 use gp_memory::NoMemory;
 use gp_syntax::NumberKind;
@@ -49,6 +49,10 @@ pub trait Engine<R> {
 
     /// What has to hold where it is called: of an engine whose calls start threads, that these may share the runtime value.
     ghost ready: { Self → Type 0 };
+
+    /// The law of an engine: at any time its graph is what its items lead to from its first graph. Nothing is done.
+    fn replays(&self)
+        ensures { IsReplay (view self.now) };
 
     /// One step by a match of the rule set of this number.
     fn call(&mut self, rt: &R, call: u32) -> Called

@@ -5,7 +5,7 @@ use Rattle.gp_syntax.specs.declared.tree.RuleDecl.{RuleDecl}
 use Rattle.gp_scope.specs.declared.survey.Survey.{Survey}
 use Rattle.gp_scope.specs.Outline.{NamedCommand, Outline, nothing, rule, procedure, is_main, own_number, rules_in, procedures_in}
 use Rattle.gp_scope.specs.Fault.{mains_in}
-use Rattle.gp_scope.specs.inside.Surveys.{declarations_in, survey_of, both_counted, main_number, one_more_counted}
+use Rattle.gp_scope.specs.Surveys.{declarations_in, survey_of, both_counted, main_number, one_more_counted}
 
 pub same_survey : (a b c d e f : ℕ) → a ≡ d → b ≡ e → c ≡ f → (let s : Survey = record { rules = a; procedures = b; mains = c } in s) ≡ record { rules = d; procedures = e; mains = f }
 same_survey a b c d e f p q r = ap (λ x. record { rules = x; procedures = b; mains = c }) p ∙ ap (λ x. record { rules = d; procedures = x; mains = c }) q ∙ ap (λ x. record { rules = d; procedures = e; mains = x }) r

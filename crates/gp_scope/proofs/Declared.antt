@@ -13,7 +13,7 @@ use Rattle.gp_scope.specs.Outline.{NamedCommand, Outline, nothing, rule, procedu
 use Rattle.gp_scope.specs.Names.{Scope, entries}
 use Rattle.gp_scope.specs.Fault.{doubled_behind}
 use Rattle.gp_scope.specs.inside.Doubles.{name_of}
-use Rattle.gp_scope.specs.inside.Surveys.{survey_of, both_counted, declarations_in}
+use Rattle.gp_scope.specs.Surveys.{survey_of, both_counted, declarations_in}
 use Rattle.gp_scope.specs.inside.Levels.{names_of}
 use Rattle.gp_scope.specs.inside.Declares.{Counts, own_entries, GivesEntries, KeepsOnce, NamesNoOther}
 use Rattle.gp_scope.proofs.Counted.{counts_all}

@@ -11,7 +11,7 @@ use Rattle.gp_syntax.specs.declared.tree.Decl.TheOpen.{Decl-F}
 use Rattle.gp_syntax.specs.declared.tree.Decl.TheFolds.{fold-roll-Decl}
 use Rattle.gp_scope.specs.Outline.{Outline, nothing, rule, procedure, named, chained, declared, declared_step, outline}
 use Rattle.gp_scope.specs.inside.Doubles.{name_of, name_step}
-use Rattle.gp_scope.specs.inside.Surveys.{weight, weight_step, weights}
+use Rattle.gp_scope.specs.Surveys.{weight, weight_step, weights}
 
 pub declared-Rule : (d : RuleDecl) (os : Outline) → declared (decl.Rule d) os ≡ rule d os
 unfolding declared

@@ -4,3 +4,4 @@ pub mod Resolved
 pub mod Fault
 pub mod Bodies
 pub mod inside
+pub mod Surveys

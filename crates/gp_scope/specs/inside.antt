@@ -1,5 +1,4 @@
 pub mod Levels
-pub mod Surveys
 pub mod Doubles
 pub mod Commands
 pub mod Declares

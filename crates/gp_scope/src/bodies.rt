@@ -7,7 +7,7 @@ ghost use Rattle.gp_scope.specs.Names.{bodies};
 ghost use Rattle.gp_scope.specs.Fault.{doubled_behind, fault_of_names};
 ghost use Rattle.gp_scope.specs.Bodies.{AreBodies};
 ghost use Rattle.gp_scope.specs.inside.Levels.{scope_of};
-ghost use Rattle.gp_scope.specs.inside.Surveys.{declarations_in};
+ghost use Rattle.gp_scope.specs.Surveys.{declarations_in};
 ghost use Rattle.gp_scope.specs.inside.Declares.{KeepsOnce, Stands};
 ghost use Rattle.gp_scope.specs.inside.Numbering.{Numbers, numbered_of, with_command, with_body, with_bodies};
 

@@ -4,7 +4,7 @@ ghost use Rattle.std.specs.Prelude.{◌≡◌, ◌<◌, ◌^◌, [], Some, None,
 ghost use Rattle.std.specs.Option.{option_copied};
 ghost use Rattle.gp_scope.specs.Outline.{outline};
 ghost use Rattle.gp_scope.specs.Fault.{Fault, fault_of_names, told, doubled_behind, unknown_name};
-ghost use Rattle.gp_scope.specs.inside.Surveys.{declarations_in};
+ghost use Rattle.gp_scope.specs.Surveys.{declarations_in};
 
 use crate::declare::enter;
 use crate::doubled::first_doubled;

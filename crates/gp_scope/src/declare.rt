@@ -7,7 +7,7 @@ ghost use Rattle.gp_scope.specs.Names.{entries};
 ghost use Rattle.gp_scope.specs.Fault.{doubled_behind};
 ghost use Rattle.gp_scope.specs.inside.Doubles.{name_of};
 ghost use Rattle.gp_scope.specs.inside.Levels.{names_of};
-ghost use Rattle.gp_scope.specs.inside.Surveys.{declarations_in};
+ghost use Rattle.gp_scope.specs.Surveys.{declarations_in};
 ghost use Rattle.gp_scope.specs.inside.Declares.{GivesEntries, KeepsOnce, Declares, NamesNoOther};
 
 use crate::doubled::name_of;

@@ -8,8 +8,8 @@ ghost use Rattle.gp_scope.specs.Fault.{doubled_behind};
 ghost use Rattle.gp_scope.specs.inside.Doubles.{TellsDoubled, StopsDoubled, name_of};
 
 use gp_memory::NoMemory;
-use gp_names::NameTable;
 use gp_syntax::{Decl, Name};
+use gp_values::NameTable;
 use std::alloc::Global;
 
 /// The first name, in text order, that stood before among the same declarations.

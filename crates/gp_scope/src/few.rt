@@ -2,7 +2,7 @@
 
 ghost use Rattle.std.specs.Prelude.{◌≡◌, ◌+◌, IfSome};
 ghost use Rattle.gp_scope.specs.Outline.{Outline, declared, outline};
-ghost use Rattle.gp_scope.specs.inside.Surveys.{declarations_in};
+ghost use Rattle.gp_scope.specs.Surveys.{declarations_in};
 
 use gp_syntax::Decl;
 

@@ -7,8 +7,8 @@ ghost use Rattle.gp_scope.specs.inside.Levels.{names_of, scope_of};
 
 use crate::meaning::Meaning;
 use gp_memory::NoMemory;
-use gp_names::NameTable;
 use gp_syntax::Name;
+use gp_values::NameTable;
 use std::alloc::Global;
 use std::marker::Model;
 

@@ -6,7 +6,7 @@ ghost use Rattle.gp_scope.specs.Outline.{outline};
 ghost use Rattle.gp_scope.specs.Names.{bodies_in_text};
 ghost use Rattle.gp_scope.specs.Fault.{doubled_behind, first_told};
 ghost use Rattle.gp_scope.specs.inside.Levels.{scope_of};
-ghost use Rattle.gp_scope.specs.inside.Surveys.{declarations_in};
+ghost use Rattle.gp_scope.specs.Surveys.{declarations_in};
 ghost use Rattle.gp_scope.specs.inside.Declares.{KeepsOnce, Stands, TellsUnknown, unknown_of};
 
 use crate::declare::enter;

@@ -3,7 +3,7 @@
 ghost use Rattle.std.specs.Prelude.{◌||◌, ◌≡◌, ◌+◌, ◌<◌, ◌^◌, length};
 ghost use Rattle.gp_scope.specs.Outline.{Outline, declared, outline, is_main};
 ghost use Rattle.gp_scope.specs.Fault.{declares_main};
-ghost use Rattle.gp_scope.specs.inside.Surveys.{survey_of, declarations_in, both_counted, one_more_counted};
+ghost use Rattle.gp_scope.specs.Surveys.{survey_of, declarations_in, both_counted, one_more_counted};
 
 use gp_syntax::{Decl, Name};
 

@@ -16,7 +16,7 @@ use Rattle.gp_values.specs.Apart.{AreApart}
 use Rattle.gp_syntax.specs.Match.{setting_of, MatchBy}
 use Rattle.gp_syntax.specs.Step.{first_fault, kind_or, right_labels, is_new, Places, StepBy, Applies, Step}
 use Rattle.gp_syntax.specs.WellFormed.{IsWellFormed}
-use Rattle.gp_step.specs.inside.Edits.{value_or_empty, made_node, made_edge, image_of, next_of, images_from, images_of, drop_edges, drop_nodes, gone, put_node, put_nodes, put_edges, stepped}
+use Rattle.gp_step.specs.Edits.{value_or_empty, made_node, made_edge, image_of, next_of, images_from, images_of, drop_edges, drop_nodes, gone, put_node, put_nodes, put_edges, stepped}
 use Rattle.gp_step.specs.After.{after_at, after}
 use Rattle.gp_step.specs.Laws.{IsNumbered}
 use Rattle.gp_syntax.proofs.Unique.{element}

@@ -3,7 +3,7 @@ use Rattle.std.proofs.Common.{◌≡◌, ℕ, suc, ◌+◌, ◌<◌, Bool, true,
 use Rattle.std.proofs.lemmas.List.{at_drop_more}
 use Rattle.gp_values.specs.Graph.{Node}
 use Rattle.gp_syntax.specs.Rule.{Found}
-use Rattle.gp_step.specs.inside.Edits.{gone, image_of}
+use Rattle.gp_step.specs.Edits.{gone, image_of}
 use Rattle.gp_step.specs.inside.Made.{kept_first, new_first}
 use Rattle.gp_step.proofs.Labels.{same_element}
 

@@ -20,7 +20,7 @@ use Rattle.gp_unify.proofs.Candidates.{is_candidate}
 use Rattle.gp_step.specs.After.{after_at, after}
 use Rattle.gp_syntax.proofs.Unique.{element}
 use Rattle.gp_syntax.proofs.Declarations.{from_map}
-use Rattle.gp_step.specs.inside.Edits.{made_node, made_edge, images_of, drop_edges, drop_nodes, gone, put_node, put_nodes, put_edges, stepped}
+use Rattle.gp_step.specs.Edits.{made_node, made_edge, images_of, drop_edges, drop_nodes, gone, put_node, put_nodes, put_edges, stepped}
 use Rattle.gp_step.specs.inside.Made.{IsReady, relabel_all, with_nodes, kept_first, kept_of, new_first, new_of}
 use Rattle.gp_step.specs.inside.Notes.{MayDropEdges, MayDropNodes, MayRelabel, MayPutEdges, MayMake, made_by}
 use Rattle.gp_step.proofs.Afters.{behind, at_head, apart_rest, apart_head, gone_of, there}

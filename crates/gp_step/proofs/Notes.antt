@@ -12,7 +12,7 @@ use Rattle.gp_syntax.specs.declared.found.EdgeImage.{EdgeImage}
 use Rattle.gp_step.specs.declared.made.Carried.{Carried}
 use Rattle.gp_step.specs.declared.made.Kept.{Kept}
 use Rattle.gp_step.specs.declared.made.MadeEdge.{MadeEdge}
-use Rattle.gp_step.specs.inside.Edits.{drop_edges, drop_nodes, put_edges}
+use Rattle.gp_step.specs.Edits.{drop_edges, drop_nodes, put_edges}
 use Rattle.gp_step.specs.inside.Made.{number_of, node_of, edge_of, nodes_of, edges_of, kept_pairs, relabel_all, with_nodes}
 use Rattle.gp_step.specs.Undo.{inverse_of, MayUndo, undone_by, Fits, Undoes}
 use Rattle.gp_step.specs.inside.Notes.{KeepsUndo, KeepsUndoBehind, MayDropEdges, MayDropNodes, MayRelabel, MayPutEdges}

@@ -16,7 +16,7 @@ use Rattle.gp_step.specs.Laws.{MakesAtoms, IsNumbered, HasOneStep}
 use Rattle.gp_syntax.specs.Rule.{Rule, RightNode, RightEdge, Found, is_kept}
 use Rattle.gp_syntax.specs.Match.{MatchBy, setting_of}
 use Rattle.gp_syntax.specs.WellFormed.{IsWellFormed}
-use Rattle.gp_step.specs.inside.Edits.{made_node, made_edge, images_of, drop_edges, drop_nodes, gone, put_node, put_nodes, put_edges, stepped}
+use Rattle.gp_step.specs.Edits.{made_node, made_edge, images_of, drop_edges, drop_nodes, gone, put_node, put_nodes, put_edges, stepped}
 use Rattle.gp_syntax.proofs.Declarations.{from_map}
 use Rattle.gp_syntax.proofs.Unique.{element}
 use Rattle.gp_syntax.proofs.Kept.{Decides-kept}

@@ -3,8 +3,8 @@ use Rattle.std.specs.Prelude.{Option, Some, None}
 use Rattle.gp_values.specs.Graph.{Graph}
 use Rattle.gp_syntax.specs.Value.{Assignment}
 use Rattle.gp_syntax.specs.Rule.{Rule, Found}
-use Rattle.gp_unify.specs.inside.Candidate.{candidate}
-use Rattle.gp_step.specs.inside.Edits.{stepped}
+use Rattle.gp_unify.specs.Candidate.{candidate}
+use Rattle.gp_step.specs.Edits.{stepped}
 
 abbrev pub after_at : Rule → Graph → Found → Option Assignment → Graph
 after_at r g m None = g

@@ -2,3 +2,4 @@ pub mod After
 pub mod inside
 pub mod Laws
 pub mod Undo
+pub mod Edits

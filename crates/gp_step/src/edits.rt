@@ -4,7 +4,7 @@ ghost use Rattle.std.specs.Prelude.{◌≡◌, ◌<◌, ◌≤◌, ◌+◌, ◌-
 ghost use Rattle.gp_values.specs.Graph.{HasNoEdges, node_at, edge_at, with_node, with_edge, without_node, without_edge, relabeled};
 ghost use Rattle.gp_step.specs.declared.inverse.Inverse.{Inverse as AnyInverse};
 ghost use Rattle.gp_step.specs.declared.inverse.Inverse.TheVariants as inverses;
-ghost use Rattle.gp_step.specs.inside.Edits.{drop_edges, drop_nodes, put_edges};
+ghost use Rattle.gp_step.specs.Edits.{drop_edges, drop_nodes, put_edges};
 ghost use Rattle.gp_step.specs.inside.Notes.{KeepsUndo, KeepsUndoBehind, MayDropEdges, MayDropNodes, MayRelabel, MayPutEdges};
 ghost use Rattle.gp_step.specs.inside.Made.{number_of, node_of, edge_of, nodes_of, edges_of, kept_pairs, relabel_all, with_nodes};
 

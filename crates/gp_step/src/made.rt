@@ -9,8 +9,8 @@ ghost use Rattle.gp_syntax.specs.Step as meant;
 ghost use Rattle.gp_syntax.specs.Rule.{is_kept};
 ghost use Rattle.gp_syntax.specs.Rule as places;
 ghost use Rattle.gp_syntax.specs.Tree.{rule_of_tree, right_node_of, right_edge_of, expression_of, pattern_of};
-ghost use Rattle.gp_step.specs.inside.Edits.{gone, image_of, images_of, next_of};
-ghost use Rattle.gp_step.specs.inside.Edits as edits;
+ghost use Rattle.gp_step.specs.Edits.{gone, image_of, images_of, next_of};
+ghost use Rattle.gp_step.specs.Edits as edits;
 ghost use Rattle.gp_step.specs.inside.Made.{IsReady, IsRightLabel, label_at, node_of, edge_of, nodes_of, edges_of, kept_pairs, kept_first, kept_of, new_first, new_of};
 
 use gp_eval::{Valued, value};

@@ -4,7 +4,7 @@ ghost use Rattle.std.specs.Prelude.{◌≡◌, ◌≤◌, ◌+◌, [], map, leng
 ghost use Rattle.gp_syntax.specs.Assigned.{assigned_of};
 ghost use Rattle.gp_syntax.specs.Tree.{rule_of_tree};
 ghost use Rattle.gp_step.specs.Undo.{Undoes};
-ghost use Rattle.gp_step.specs.inside.Edits.{stepped};
+ghost use Rattle.gp_step.specs.Edits.{stepped};
 ghost use Rattle.gp_step.specs.inside.Made.{IsReady, number_of, nodes_of, edges_of, kept_pairs};
 ghost use Rattle.gp_step.specs.inside.Notes.{MayMake, made_by};
 

@@ -9,7 +9,7 @@ use Rattle.gp_syntax.specs.Value.{Assignment}
 use Rattle.gp_syntax.specs.Rule.{LeftEdge, Found}
 use Rattle.gp_syntax.specs.Match.{MatchBy}
 use Rattle.gp_syntax.specs.Step.{Blocked}
-use Rattle.gp_syntax.specs.Rows.{del, par, red, unroot, program, start, raised, looped, two_nodes, plain, edge, left, unmarked, DanglingEdgeBlocks, OneEdgeIsNotTwo, RootWantsRoot}
+use Rattle.gp_syntax.specs.Rows.{del, par, one, red, unroot, one_node, rooted, program, start, raised, looped, two_nodes, plain, edge, left, unmarked, DanglingEdgeBlocks, OneEdgeIsNotTwo, RootWantsRoot, OtherWantsNoRoot}
 use Rattle.gp_syntax.proofs.Small.{at_one, one_has, image_fits, only_image, edge_image, blocked_alone}
 
 -- the loop would have to be matched, and del has no edge
@@ -47,12 +47,22 @@ one_is_not_two = blocked_alone (par ∷ []) 0 par (two_nodes ((0, edge 0 1) ∷ 
 -- the only node is no root
 unroot_wants_root : (m : Found) (a : Assignment) → MatchBy unroot start m a → ⊥
 unroot_wants_root m a h =
-    let r : false ≡ true = (only_image (plain (pos 1)) 0 (left (Variable 0) AnyMark true) h refl).root refl in
+    let r : true ≡ false = (only_image (plain (pos 1)) 0 (left (Variable 0) AnyMark true) h refl).root in
     cc
 
 -- a left root is no node that is none
 pub root_wants_root : RootWantsRoot
 root_wants_root = blocked_alone (unroot ∷ []) 0 unroot start refl unroot_wants_root
+
+-- the only node is a root
+one_wants_none : (m : Found) (a : Assignment) → MatchBy one (one_node rooted) m a → ⊥
+one_wants_none m a h =
+    let r : false ≡ true = (only_image rooted 0 (left (Variable 0) (Marked node_marks.None) false) h refl).root in
+    cc
+
+-- another left node is no root
+pub other_wants_no_root : OtherWantsNoRoot
+other_wants_no_root = blocked_alone (one ∷ []) 0 one (one_node rooted) refl one_wants_none
 
 -- the only node has no mark
 red_wants_red : (m : Found) (a : Assignment) → MatchBy red raised m a → ⊥

@@ -12,11 +12,11 @@ use Rattle.gp_syntax.proofs.Blocked.{red_blocked}
 
 -- `del` at node 0
 deletes : Step del start (at_first 0) no_nodes
-deletes = step_deleted types.List (Marked node_marks.None) false (plain (pos 1)) 0 refl refl (λ h. h)
+deletes = step_deleted types.List (Marked node_marks.None) false (plain (pos 1)) 0 refl refl refl
 
 -- `inc` at node 0
 raises : Step inc start (at_first 1) raised
-raises = step_kept types.Int (Marked node_marks.None) false (Plus (Variable 0) (Number (pos 1))) (Marked node_marks.None) false (plain (pos 1)) (plain (pos 2)) 1 refl refl (λ h. h) refl refl refl
+raises = step_kept types.Int (Marked node_marks.None) false (Plus (Variable 0) (Number (pos 1))) (Marked node_marks.None) false (plain (pos 1)) (plain (pos 2)) 1 refl refl refl refl refl refl
 
 -- a call of `del`
 del_call : Run program (Call 0) start [] (Stepped (at_first 0) ∷ []) (Gives no_nodes)
@@ -56,7 +56,7 @@ skip_loop_stands = loop_goes_on skips loop_stands refl refl
 
 -- `inc` once more
 raises_again : Step inc raised (at_first 1) raised_twice
-raises_again = step_kept types.Int (Marked node_marks.None) false (Plus (Variable 0) (Number (pos 1))) (Marked node_marks.None) false (plain (pos 2)) (plain (pos 3)) 1 refl refl (λ h. h) refl refl refl
+raises_again = step_kept types.Int (Marked node_marks.None) false (Plus (Variable 0) (Number (pos 1))) (Marked node_marks.None) false (plain (pos 2)) (plain (pos 3)) 1 refl refl refl refl refl refl
 
 second_call : Run program (Call 1) raised [] (Stepped (at_first 1) ∷ []) (Gives raised_twice)
 second_call = call_steps refl (record { in_set = (0, let l : 0 < 1 = omega arith in l, refl); rule = inc; is_rule = refl; step = raises_again })

@@ -69,8 +69,8 @@ module _ (p : LeftEdge) (q : RightEdge) (reversed : Bool) (d e : Edge) where
     variable_count = refl;
     in_types = in_types d;
     nodes = at_both _ (left (Variable 0) unmarked false) (left (Variable 1) unmarked false)
-        (fits_node (left (Variable 0) unmarked false) 0 (plain (pos 1)) (at_first_of_two _ _) (record { label = refl; mark = refl; root = λ h. h }))
-        (fits_node (left (Variable 1) unmarked false) 1 (plain (pos 2)) (at_second_of_two _ _) (record { label = refl; mark = refl; root = λ h. h }));
+        (fits_node (left (Variable 0) unmarked false) 0 (plain (pos 1)) (at_first_of_two _ _) (record { label = refl; mark = refl; root = refl }))
+        (fits_node (left (Variable 1) unmarked false) 1 (plain (pos 2)) (at_second_of_two _ _) (record { label = refl; mark = refl; root = refl }));
     edges = at_only (λ i z. IsSomeAnd (edge_at (before d) (slice_index (0 ∷ []) i)) (FitsEdge (over d) z (slice_index_or (reversed ∷ []) i false))) p
         (subst (λ (o : Option Edge). IsSomeAnd o (FitsEdge (over d) p reversed)) (sym (at_one d)) f);
     dangling = λ i e d l kept at ends. absurd (kept (kept_both i l));

@@ -97,8 +97,8 @@ matches = record {
   variable_count = refl;
   in_types = in_types;
   nodes = at_both _ (left (Variable 0) unmarked false) (left (Variable 1) unmarked false)
-      (fits_node (left (Variable 0) unmarked false) 0 (plain (pos 1)) (at_first_of_two _ _) (record { label = refl; mark = refl; root = λ h. h }))
-      (fits_node (left (Variable 1) unmarked false) 1 (plain (pos 2)) (at_second_of_two _ _) (record { label = refl; mark = refl; root = λ h. h }));
+      (fits_node (left (Variable 0) unmarked false) 0 (plain (pos 1)) (at_first_of_two _ _) (record { label = refl; mark = refl; root = refl }))
+      (fits_node (left (Variable 1) unmarked false) 1 (plain (pos 2)) (at_second_of_two _ _) (record { label = refl; mark = refl; root = refl }));
   edges = at_both _ (between 2) (between 3)
       (fits_edge (between 2) 0 (edge 0 1) (at_first_of_two _ _) (record { source = refl; target = refl; label = refl; mark = refl; direction = λ h. h }))
       (fits_edge (between 3) 1 (edge 0 1) (at_second_of_two _ _) (record { source = refl; target = refl; label = refl; mark = refl; direction = λ h. h }));

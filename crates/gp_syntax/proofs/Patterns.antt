@@ -28,7 +28,7 @@ both_typed s c (suc (suc i)) l = absurd (omega arith)
 cuts : (s : List ℕ) (c : ℕ) → Step cut (with_label (Str ((codes "a" ++ s) ++ c ∷ []) ∷ [])) (at_first 0) (with_label (Str s ∷ Str (c ∷ []) ∷ []))
 cuts s c =
     step_made (types.String ∷ types.Char ∷ []) ((Str s ∷ []) ∷ (Str (c ∷ []) ∷ []) ∷ []) pattern unmarked false (Join (Variable 0) (Variable 1)) unmarked false
-    (node (Str ((codes "a" ++ s) ++ c ∷ []) ∷ [])) (node (Str s ∷ Str (c ∷ []) ∷ [])) 0 refl (both_typed s c) refl refl (λ h. h) refl refl refl
+    (node (Str ((codes "a" ++ s) ++ c ∷ []) ∷ [])) (node (Str s ∷ Str (c ∷ []) ∷ [])) 0 refl (both_typed s c) refl refl refl refl refl refl
 
 one_character : (v : List Atom) → is_of types.Char v ≡ true → length (characters v) ≡ 1
 one_character (Str (c ∷ []) ∷ []) h = refl

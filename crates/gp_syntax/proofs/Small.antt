@@ -100,7 +100,7 @@ InTypes ts a = (i : ℕ) → i < length ts → is_of (get_or ts i types.List) (g
 
 -- it matches node 0
 pub match_one : (ts : List VariableType) (a : Assignment) (e : Expression ℕ) (mark : MarkPattern NodeMark) (root : Bool) (qs : List RightNode) (x : Node) (k : ℕ) →
-    length a ≡ length ts → InTypes ts a → value_of e (there ts a x) ≡ Value x.label → Agrees mark x.mark → (root ≡ true → x.root ≡ true) →
+    length a ≡ length ts → InTypes ts a → value_of e (there ts a x) ≡ Value x.label → Agrees mark x.mark → root ≡ x.root →
     MatchBy (one_left ts (left e mark root) qs) (one_node x) (at_first k) a
 match_one ts a e mark root qs x k count typed valued agrees rooted = record {
   node_count = refl;
@@ -118,7 +118,7 @@ match_one ts a e mark root qs x k count typed valued agrees rooted = record {
 
 -- and with no right node: node 0 goes
 pub step_deleted : (t : VariableType) (mark : MarkPattern NodeMark) (root : Bool) (x : Node) (k : ℕ) →
-    is_of t x.label ≡ true → Agrees mark x.mark → (root ≡ true → x.root ≡ true) →
+    is_of t x.label ≡ true → Agrees mark x.mark → root ≡ x.root →
     Step (one_left (t ∷ []) (left (Variable 0) mark root) []) (one_node x) (at_first k) no_nodes
 step_deleted t mark root x k typed agrees rooted = (
   x.label ∷ [],
@@ -139,7 +139,7 @@ step_deleted t mark root x k typed agrees rooted = (
 
 -- and with one right node of the same name: node 0 is made otherwise
 pub step_made : (ts : List VariableType) (a : Assignment) (p : Expression ℕ) (mark : MarkPattern NodeMark) (root : Bool) (e : Expression ℕ) (new_mark : MarkPattern NodeMark) (new_root : Bool) (x y : Node) (k : ℕ) →
-    length a ≡ length ts → InTypes ts a → value_of p (there ts a x) ≡ Value x.label → Agrees mark x.mark → (root ≡ true → x.root ≡ true) →
+    length a ≡ length ts → InTypes ts a → value_of p (there ts a x) ≡ Value x.label → Agrees mark x.mark → root ≡ x.root →
     value_of e (there ts a x) ≡ Value y.label → y.mark ≡ made_mark new_mark (Some x.mark) node_marks.None → y.root ≡ made_root root new_root x.root →
     Step (one_left ts (left p mark root) (right e new_mark new_root ∷ [])) (one_node x) (at_first k) (one_node y)
 step_made ts a p mark root e new_mark new_root x y k count typed found agrees rooted valued marked roots = (
@@ -185,7 +185,7 @@ step_made ts a p mark root e new_mark new_root x y k count typed found agrees ro
 
 -- of one variable, which is the left label
 pub step_kept : (t : VariableType) (mark : MarkPattern NodeMark) (root : Bool) (e : Expression ℕ) (new_mark : MarkPattern NodeMark) (new_root : Bool) (x y : Node) (k : ℕ) →
-    is_of t x.label ≡ true → Agrees mark x.mark → (root ≡ true → x.root ≡ true) →
+    is_of t x.label ≡ true → Agrees mark x.mark → root ≡ x.root →
     value_of e (there (t ∷ []) (x.label ∷ []) x) ≡ Value y.label → y.mark ≡ made_mark new_mark (Some x.mark) node_marks.None → y.root ≡ made_root root new_root x.root →
     Step (one_left (t ∷ []) (left (Variable 0) mark root) (right e new_mark new_root ∷ [])) (one_node x) (at_first k) (one_node y)
 step_kept t mark root e new_mark new_root x y k typed = step_made (t ∷ []) (x.label ∷ []) (Variable 0) mark root e new_mark new_root x y k refl (one_typed t x.label typed) refl

@@ -150,7 +150,7 @@ OneEdgeIsNotTwo = Blocked (par ∷ []) (0 ∷ []) (two_nodes ((0, edge 0 1) ∷ 
 abbrev pub ParallelEdgesMatch : Type 0
 ParallelEdgesMatch = Step par (two_nodes ((0, edge 0 1) ∷ (1, edge 0 1) ∷ []) 2) (found 0 (0 ∷ 1 ∷ []) (0 ∷ 1 ∷ []) (false ∷ false ∷ [])) (two_nodes [] 2)
 
--- A left root wants a root, which stops being one where the right side has none; another left node takes both.
+-- A left root wants a root, which stops being one where the right side has none; another left node wants none.
 abbrev pub rooted : Node
 rooted = record { label = Int (pos 1) ∷ []; mark = node_marks.None; root = true }
 
@@ -160,8 +160,8 @@ RootWantsRoot = Blocked (unroot ∷ []) (0 ∷ []) (one_node (plain (pos 1)))
 abbrev pub RootIsTakenAway : Type 0
 RootIsTakenAway = Step unroot (one_node rooted) (at_first 0) (one_node (plain (pos 1)))
 
-abbrev pub RootStays : Type 0
-RootStays = Step one (one_node rooted) (at_first 0) (one_node rooted)
+abbrev pub OtherWantsNoRoot : Type 0
+OtherWantsNoRoot = Blocked (one ∷ []) (0 ∷ []) (one_node rooted)
 
 -- `any` takes each mark, and keeps it.
 abbrev pub marked : ℤ → NodeMark → Node

@@ -1,8 +1,9 @@
 -- Commands, and what they may do to a graph (Plump 2012, section 4: the semantics of graph programs).
-use Rattle.std.specs.Prelude.{◌≡◌, ℕ, ◌-◌, Bool, true, false, List, [], ◌∷◌, ◌++◌, length, take, Some, slice_get, count_by}
+use Rattle.std.specs.Prelude.{◌≡◌, ℕ, ◌-◌, Bool, true, false, List, [], ◌∷◌, ◌++◌, length, take, Some, slice_get, count_by, Contains}
 use Rattle.gp_values.specs.Graph.{Graph}
 use Rattle.gp_syntax.specs.Rule.{Rule, Found}
-use Rattle.gp_syntax.specs.Step.{CallsTo, Blocked}
+use Rattle.gp_syntax.specs.declared.kinds.NumberKind.{NumberKind}
+use Rattle.gp_syntax.specs.Step.{CallsTo, Blocked, HasApplying, IsFaulty}
 
 -- Calls and procedures are named by their numbers. A missing `then` or `else` is Skip.
 pub data Command : Type 0 where
@@ -118,3 +119,29 @@ pub data Run (program : Program) : Command → Graph → List Bool → List Item
   breaks : {g : Graph} → Run program Break g [] [] (Breaks g)
   procedure : {k : ℕ} {body : Command} {g : Graph} {a : List Bool} {t : List Item} {x : Ending} → slice_get program.procedures k ≡ Some body →
       Run program body g a t x → Run program (Procedure k) g a t x
+
+-- ---- why a run is left where it stands
+
+-- some match of the call's set applies
+pub record HasApplyingCall (program : Program) (c : ℕ) (g : Graph) : Type 0 where
+  pub set : List ℕ
+  pub is_set : slice_get program.sets c ≡ Some set
+  pub applies : HasApplying program.rules set g
+
+-- the rule is one of the call's set, and has a faulty match of this kind
+pub record HasFaultyCall (program : Program) (c rule : ℕ) (kind : NumberKind) (g : Graph) : Type 0 where
+  pub set : List ℕ
+  pub is_set : slice_get program.sets c ≡ Some set
+  pub in_set : Contains set rule
+  pub the_rule : Rule
+  pub is_rule : slice_get program.rules rule ≡ Some the_rule
+  pub found : Found
+  pub faulty : IsFaulty the_rule g found kind
+
+-- an execution stands before a turn of a loop, or before a call of which some match applies
+abbrev pub MayGoOn : Program → Graph → Ending → Type 0
+MayGoOn program g (Gives h) = ⊥
+MayGoOn program g (Fails h) = ⊥
+MayGoOn program g (Breaks h) = ⊥
+MayGoOn program g (At c h) = (h ≡ g) × HasApplyingCall program c g
+MayGoOn program g (AtTurn h) = h ≡ g

@@ -4,7 +4,7 @@ ghost use Rattle.gp_syntax.specs.Laws.{StepIsUnique, StepWithoutVariablesIsUniqu
 ghost use Rattle.gp_syntax.specs.Simple.{SimpleLabelsAreThese};
 ghost use Rattle.gp_values.specs.Names.{Name};
 ghost use Rattle.std.specs.Prelude.{ℕ};
-ghost use Rattle.gp_syntax.specs.Rows.{DanglingEdgeBlocks, IsolatedNodeIsDeleted, OneEdgeIsNotTwo, ParallelEdgesMatch, RootWantsRoot, RootIsTakenAway, RootStays, AnyKeepsMark, IfTakesBack, TryTakesBack, FailedBodyIsTakenBack, BreakKeepsBody, EmptySetEndsLoop, SkipLoopStands, ThenBegins, OrTakesEither, ProceduresRun, StringPatterns, DirectionIsKept, AnyKeepsMarkOfEdge, SharesGoByFirstNode};
+ghost use Rattle.gp_syntax.specs.Rows.{DanglingEdgeBlocks, IsolatedNodeIsDeleted, OneEdgeIsNotTwo, ParallelEdgesMatch, RootWantsRoot, RootIsTakenAway, OtherWantsNoRoot, AnyKeepsMark, IfTakesBack, TryTakesBack, FailedBodyIsTakenBack, BreakKeepsBody, EmptySetEndsLoop, SkipLoopStands, ThenBegins, OrTakesEither, ProceduresRun, StringPatterns, DirectionIsKept, AnyKeepsMarkOfEdge, SharesGoByFirstNode};
 ghost use Rattle.gp_syntax.specs.ValueRows.{ArithmeticHasEnds, DivisionTruncates, FirstKindIsTold, LengthGoesByType, DegreesCountLoops, ChainsJoin, SecondPartWaits, EdgeTests, OtherTests};
 
 /// A match leads, by its assignment, to one graph.
@@ -55,7 +55,7 @@ pub fn parallel_edge_examples()
 pub fn root_and_mark_examples()
     ensures wanted { RootWantsRoot }
     ensures taken { RootIsTakenAway }
-    ensures stays { RootStays }
+    ensures other { OtherWantsNoRoot }
     ensures any { AnyKeepsMark }
 {}
 

@@ -29,7 +29,7 @@ use Rattle.gp_run.specs.Engine.{View, Adds, MakesCall, IsSpent, HasFaulty, HasCa
 use Rattle.gp_run.specs.declared.engine.Turned.TheVariants as turned
 use Rattle.gp_run.specs.declared.engine.Repeated.{Repeated}
 use Rattle.gp_run.specs.declared.engine.Repeated.TheVariants as repeated
-use Rattle.gp_run.specs.inside.Ended.{HasEnded}
+use Rattle.gp_run.specs.Ended.{HasEnded}
 use Rattle.gp_run.proofs.Leads.{adds-nothing, counted-append}
 use Rattle.gp_run.proofs.Turns.{Turns, turns_none, turns_bound, turns_spent, turns_faulty, turns_end}
 use Rattle.gp_system.specs.declared.goal.CallGoal.{CallGoal}
@@ -133,13 +133,14 @@ module _ (goal : CallGoal) (x : Ending Fault) (v w : Shown) (h : HasPursued goal
 
   spent_now : (set : List ℕ) → slice_get v.program.sets goal.call ≡ Some set → w.left ≡ 0 → (m : Found) → (gp_means s).judged goal w.journal.trail m ≡ applies → IsSpent goal.call (view_of w)
   spent_now set e l m j =
-      let a = has_applying s goal h.well_formed w.journal.trail m j in
-      record {
-        set = a.0;
-        is_set = ap (λ (p : ProgramParts). slice_get p.sets goal.call) h.program ∙ a.1;
-        none_left = l;
-        applies = subst (λ (p : ProgramParts). HasApplying (map rule_of_tree p.rules) a.0 w.journal.trail.graph) (sym h.program) a.2;
-      }
+      let a = has_applying s goal h.well_formed w.journal.trail m j in (
+        record {
+          set = a.0;
+          is_set = ap (λ (p : ProgramParts). slice_get p.sets goal.call) h.program ∙ a.1;
+          applies = subst (λ (p : ProgramParts). HasApplying (map rule_of_tree p.rules) a.0 w.journal.trail.graph) (sym h.program) a.2;
+        },
+        l,
+      )
 
   faulty_now : (r : Fault) (m : Found) → (gp_means s).judged goal w.journal.trail m ≡ faulty r → HasFaulty goal.call r.rule r.kind (view_of w)
   faulty_now r m j =

@@ -3,7 +3,7 @@ use Rattle.std.proofs.Common.{◌≡◌, ℕ, ◌+◌, Bool, List, map, sym, ap,
 use Rattle.gp_values.specs.Graph.{Graph}
 use Rattle.gp_syntax.specs.declared.command.ProgramParts.{ProgramParts}
 use Rattle.gp_syntax.specs.declared.kinds.NumberKind.{NumberKind}
-use Rattle.gp_syntax.specs.Run.{Program, Item, Run, Ending, Gives, Fails, Breaks, At, AtTurn, counted}
+use Rattle.gp_syntax.specs.Run.{Program, Item, Run, Ending, At, counted, HasFaultyCall, MayGoOn}
 use Rattle.gp_syntax.specs.Tree.{rule_of_tree, program_of_tree}
 use Rattle.gp_journal.specs.Journal.{Journal, IsJournalOf, items_of}
 use Rattle.gp_run.specs.Engine.{StandsSpent}
@@ -12,16 +12,12 @@ use Rattle.gp_run.specs.Finished.{HasFinished}
 use Rattle.gp_run.specs.declared.interpreter.Finish.{Finish}
 use Rattle.gp_run.specs.declared.interpreter.Finish.TheVariants as finish
 use Rattle.gp_system.specs.declared.outcome.Outcome.TheVariants as outcome
-use Rattle.gp_system.specs.Ended.{HasApplyingCall, HasFaultyCall, MayGoOn, HasRun, HasEnded}
+use Rattle.gp_system.specs.Ended.{HasRun, HasEnded}
 use Rattle.gp_system.specs.inside.Finishing.{outcome_of}
 use Rattle.gp_system.specs.inside.Viewed.{Shown, view_of, begun}
 
 may_go_on : (p : ProgramParts) (n : Shown) (x : Ending) → program_of_tree n.program ≡ program_of_tree p → StandsSpent (view_of n) x → MayGoOn (program_of_tree p) n.journal.trail.graph x × (n.left ≡ 0)
-may_go_on p n (Gives h) e a = absurd a
-may_go_on p n (Fails h) e a = absurd a
-may_go_on p n (Breaks h) e a = absurd a
-may_go_on p n (At c h) e a = ((a.0, subst (λ (q : Program). HasApplyingCall q c n.journal.trail.graph) e (record { set = a.1.set; is_set = a.1.is_set; applies = a.1.applies })), a.1.none_left)
-may_go_on p n (AtTurn h) e a = (a.0, a.1)
+may_go_on p n x e a = (subst (λ (q : Program). MayGoOn q n.journal.trail.graph x) e a.0, a.1)
 
 module _ {S : Type 0} (answer : S → Bool) (next : S → S) (p : ProgramParts) (host : Graph) (bound : ℕ) (s u : S) where
   has_run : (n : Shown) (x : Ending) → finished.HasRun answer next (program_of_tree p).main (view_of (begun p host bound)) (view_of n) s u x → IsJournalOf (map rule_of_tree n.program.rules) n.journal → HasRun answer next (program_of_tree p) host bound s u n.journal x
@@ -50,8 +46,7 @@ module _ {S : Type 0} (answer : S → Bool) (next : S → S) (p : ProgramParts) 
   at_fault n rule kind w a = (
     a.0,
     has_run n (At a.0 n.journal.trail.graph) a.1 w,
-    subst (λ (q : Program). HasFaultyCall q a.0 rule kind n.journal.trail.graph) a.1.makes.adds.program
-        (record { set = a.2.set; is_set = a.2.is_set; in_set = a.2.in_set; the_rule = a.2.the_rule; is_rule = a.2.is_rule; found = a.2.found; faulty = a.2.faulty }),
+    subst (λ (q : Program). HasFaultyCall q a.0 rule kind n.journal.trail.graph) a.1.makes.adds.program a.2,
   )
 
   ends_at_fault : (b n : Shown) (j : Journal) (rule : ℕ) (kind : NumberKind) → b ≡ begun p host bound → j ≡ n.journal → IsJournalOf (map rule_of_tree n.program.rules) j → HasFinished answer next (finish.Fault rule kind) (view_of b).program.main (view_of b) (view_of n) s u

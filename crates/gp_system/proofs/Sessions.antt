@@ -49,12 +49,14 @@ pub stands_here : (c : ℕ) (s : Shown) → MakesCall (Call c) (view_of s) (view
 stands_here c s = record { trace = []; makes = record { run = call_stands; adds = adds-nothing (view_of s) }; room = refl }
 
 pub spent_here : (c : ℕ) (s : Shown) (m : Found) → AppliesForCall (program_of_tree s.program) c s.journal.trail.graph m → s.left ≡ 0 → IsSpent c (view_of s)
-spent_here c s m a e = record {
-  set = a.set;
-  is_set = a.is_set;
-  none_left = e;
-  applies = record { found = m; in_set = a.found.in_set; rule = a.found.rule; is_rule = a.found.is_rule; applies = a.found.holds };
-}
+spent_here c s m a e = (
+  record {
+    set = a.set;
+    is_set = a.is_set;
+    applies = record { found = m; in_set = a.found.in_set; rule = a.found.rule; is_rule = a.found.is_rule; applies = a.found.holds };
+  },
+  e,
+)
 
 well_formed_at : (rules : List Rule) (i : ℕ) (r : Rule) → All IsWellFormed rules → slice_get rules i ≡ Some r → IsWellFormed r
 well_formed_at rules i r w e = subst IsWellFormed (get_or_from_slice_get rules i r r e) (w i r (slice_get_within rules i r e))
@@ -134,11 +136,14 @@ one_end rules (m ∷ ms) g h k w a b =
     let same : b.0 ≡ a.0 = one_step a.1 g m b.0 a.0 (well_formed_at rules m.rule a.1 w a.2) step a.3 in
     one_end rules ms a.0 h k w a.4 (subst (λ (x : Graph). StepsTo rules x ms k) same b.4)
 
-pub replays_here : (p : ProgramParts) (j : Journal) (l : ℕ) → IsJournalOf (map rule_of_tree p.rules) j → IsReplay (view_of (shown p j l))
+replays_here : (p : ProgramParts) (j : Journal) (l : ℕ) → IsJournalOf (map rule_of_tree p.rules) j → IsReplay (view_of (shown p j l))
 replays_here p j l w = (all_replay.journals (map rule_of_tree p.rules) j w).whole
 
+pub replays_shown : (s : Shown) (p : ProgramParts) (j : Journal) (l : ℕ) → shown p j l ≡ s → IsJournalOf (map rule_of_tree p.rules) j → IsReplay (view_of s)
+replays_shown s p j l e w = subst (λ (x : Shown). IsReplay (view_of x)) e (replays_here p j l w)
+
 marked_here : (p : ProgramParts) (j : Journal) (l n : ℕ) → IsJournalOf (map rule_of_tree p.rules) j → n ≡ length j.trail.before → HasMarked n (view_of (shown p j l)) (view_of (shown p (with_mark j) l))
-marked_here p j l n w e = record { live_steps = e ∙ sym (live_depth (map rule_of_tree p.rules) j w); replays = replays_here p j l w; view = refl }
+marked_here p j l n w e = record { live_steps = e ∙ sym (live_depth (map rule_of_tree p.rules) j w); view = refl }
 
 pub marks : {E : Type 0} (r : Result ℕ E) (s : Shown) (p : ProgramParts) (j k : Journal) (l : ℕ) → shown p j l ≡ s → IsJournalOf (map rule_of_tree p.rules) j → OnOk r (k ≡ with_mark j) → IfOk r (λ n. n ≡ length j.trail.before)
     → IfOk r (λ n. HasMarked n (view_of s) (view_of (shown p k l)))

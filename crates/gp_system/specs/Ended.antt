@@ -1,40 +1,13 @@
 -- How a run of a program ends.
-use Rattle.std.specs.Prelude.{◌≡◌, ◌≤◌, ℕ, Bool, List, Some, slice_get, Contains}
+use Rattle.std.specs.Prelude.{◌≡◌, ◌≤◌, ℕ, Bool, List}
 use Rattle.gp_memory.specs.Free.{Free}
 use Rattle.gp_values.specs.Graph.{Graph}
-use Rattle.gp_syntax.specs.declared.kinds.NumberKind.{NumberKind}
-use Rattle.gp_syntax.specs.Rule.{Rule, Found}
-use Rattle.gp_syntax.specs.Step.{HasApplying, IsFaulty}
-use Rattle.gp_syntax.specs.Run.{Program, Run, Ending, Gives, Fails, Breaks, At, AtTurn, counted}
+use Rattle.gp_syntax.specs.Run.{Program, Run, Ending, Gives, Fails, At, counted, MayGoOn, HasFaultyCall}
 use Rattle.gp_journal.specs.Trail.{root_of}
 use Rattle.gp_journal.specs.Journal.{Journal, IsJournalOf, items_of}
 use Rattle.gp_run.specs.Finished.{AreAnswers}
 use Rattle.gp_system.specs.declared.outcome.Outcome.{Outcome}
 use Rattle.gp_system.specs.declared.outcome.Outcome.TheVariants as outcome
-
--- some match of the call's set applies
-pub record HasApplyingCall (program : Program) (c : ℕ) (g : Graph) : Type 0 where
-  pub set : List ℕ
-  pub is_set : slice_get program.sets c ≡ Some set
-  pub applies : HasApplying program.rules set g
-
--- the rule is one of the call's set, and has a faulty match of this kind
-pub record HasFaultyCall (program : Program) (c rule : ℕ) (kind : NumberKind) (g : Graph) : Type 0 where
-  pub set : List ℕ
-  pub is_set : slice_get program.sets c ≡ Some set
-  pub in_set : Contains set rule
-  pub the_rule : Rule
-  pub is_rule : slice_get program.rules rule ≡ Some the_rule
-  pub found : Found
-  pub faulty : IsFaulty the_rule g found kind
-
--- an execution stands before a turn of a loop, or before a call of which some match applies
-abbrev pub MayGoOn : Program → Graph → Ending → Type 0
-MayGoOn program g (Gives h) = ⊥
-MayGoOn program g (Fails h) = ⊥
-MayGoOn program g (Breaks h) = ⊥
-MayGoOn program g (At c h) = (h ≡ g) × HasApplyingCall program c g
-MayGoOn program g (AtTurn h) = h ≡ g
 
 module _ {S : Type 0} (answer : S → Bool) (next : S → S) where
   -- The journal is one of the program's rules and begins at the host, and its items are those of a run of Main that ends

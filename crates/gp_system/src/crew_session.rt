@@ -185,6 +185,10 @@ impl<'a, R: Threads + Wait + Sync> Engine<R> for CrewSession<'a> {
 
     ghost ready = { λ _. IsSync R.row };
 
+    fn replays(&self) {
+        self.session.replays_here();
+    }
+
     fn call(&mut self, rt: &R, call: u32) -> Called {
         if self.is_wide(call) {
             return self.pursue_one(rt, call);

@@ -10,7 +10,7 @@ use Rattle.gp_syntax.specs.Typing.{type_in}
 use Rattle.gp_syntax.specs.Value.{Setting}
 use Rattle.gp_unify.specs.Known.{Known, Extends}
 use Rattle.gp_unify.specs.Extension.{known_of, Extension, IsLeast}
-use Rattle.gp_unify.specs.inside.Unify.{unify}
+use Rattle.gp_unify.specs.Unify.{unify}
 use Rattle.gp_unify.proofs.Unifies.{sound, complete, grows, covers, Unified}
 
 module _ (a : PartialAssignment) (e : Expression ℕ) (v : List Atom) where

@@ -16,8 +16,8 @@ use Rattle.gp_syntax.specs.WellFormed.{left_labels, IsWellFormed}
 use Rattle.gp_syntax.specs.Step.{StepBy, Step}
 use Rattle.gp_syntax.proofs.Unique.{one_graph}
 use Rattle.gp_unify.specs.Known.{InTypes, Known, nothing_known, Extends}
-use Rattle.gp_unify.specs.inside.Unify.{unify_all}
-use Rattle.gp_unify.specs.inside.Candidate.{found_labels, listed, candidate}
+use Rattle.gp_unify.specs.Unify.{unify_all}
+use Rattle.gp_unify.specs.Candidate.{found_labels, listed, candidate}
 use Rattle.gp_unify.proofs.Unifies.{Fit, some_is, are_simple, stands_in_one, all_complete, all_cover}
 
 -- ---- what is found fits

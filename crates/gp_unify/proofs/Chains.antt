@@ -18,7 +18,7 @@ use Rattle.gp_unify.specs.Extension.{AreKnown, known_of}
 use Rattle.gp_unify.specs.Known.{Known}
 use Rattle.gp_unify.specs.declared.mismatch.Mismatch.{Mismatch}
 use Rattle.gp_unify.specs.declared.mismatch.Mismatch.TheVariants as mismatch
-use Rattle.gp_unify.specs.inside.Unify.{Rest, rest, behind, characters_in, atoms_in, keep_rest, keep_value, told_rest, on_text, read_text, unify_text, read}
+use Rattle.gp_unify.specs.Unify.{Rest, rest, behind, characters_in, atoms_in, keep_rest, keep_value, told_rest, on_text, read_text, unify_text, read}
 use Rattle.gp_unify.specs.inside.Reading.{Refuses, Begins, BeginsValue, Hands, Reads, text_step, join_step, all_characters, all_atoms, size_step, size, sizes}
 
 -- ---- sizes

@@ -24,8 +24,8 @@ use Rattle.gp_syntax.specs.WellFormed.{left_labels, IsWithin, IsWellFormed}
 use Rattle.gp_unify.specs.Known.{InTypes, Known, nothing_known, Extends}
 use Rattle.gp_unify.specs.Extension.{AreKnown, known_of}
 use Rattle.gp_unify.specs.Matched.{LabelsFit, OneFits, MayFit, IsThatOfMatch}
-use Rattle.gp_unify.specs.inside.Unify.{unify_all}
-use Rattle.gp_unify.specs.inside.Candidate.{node_labels, edge_labels, found_labels}
+use Rattle.gp_unify.specs.Unify.{unify_all}
+use Rattle.gp_unify.specs.Candidate.{node_labels, edge_labels, found_labels}
 use Rattle.gp_unify.specs.inside.Reading.{TellsAll, TellsThem}
 use Rattle.gp_unify.proofs.Unifies.{Fit, some_is, are_simple, stands_in_one, all_sound, all_complete, all_cover, all_typed, Unified, unify_both}
 

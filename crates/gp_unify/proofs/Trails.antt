@@ -7,8 +7,8 @@ use Rattle.std.proofs.lemmas.List.Elements.{All-append, All-nil, All-cons}
 use Rattle.gp_values.specs.declared.atom.Atom.{Atom}
 use Rattle.gp_syntax.specs.Assigned.{PartialAssignment}
 use Rattle.gp_unify.specs.Extension.{known_of}
-use Rattle.gp_unify.specs.inside.Trail.{cleared, Grown}
-use Rattle.gp_unify.specs.inside.Unify.{with_value}
+use Rattle.gp_unify.specs.Trail.{cleared, Grown}
+use Rattle.gp_unify.specs.Unify.{with_value}
 use Rattle.gp_unify.proofs.Unifies.{with_here, with_apart}
 
 -- ---- lists

@@ -7,7 +7,7 @@ use Rattle.std.proofs.lemmas.Bool.{cases_eq}
 use Rattle.gp_values.specs.declared.atom.Atom.{Atom}
 use Rattle.gp_values.specs.declared.atom.Atom.TheVariants.{Int, Str}
 use Rattle.gp_values.specs.Atoms.{same_list}
-use Rattle.gp_values.specs.inside.EqualityLaws.{same_list-Decides}
+use Rattle.gp_values.specs.EqualityLaws.{same_list-Decides}
 use Rattle.gp_syntax.specs.declared.kinds.NumberKind.TheVariants.{PastBits}
 use Rattle.gp_syntax.specs.declared.kinds.VariableType.{VariableType}
 use Rattle.gp_syntax.specs.declared.kinds.VariableType.TheVariants as types
@@ -16,7 +16,7 @@ use Rattle.gp_syntax.specs.Value.{Assignment, Setting, Valued, Value, NoValue, â
 use Rattle.gp_syntax.specs.Typing.{type_in, is_subtype}
 use Rattle.gp_syntax.specs.Simple.{lists_of, strings_of, strings_in, lists_in, IsText, IsSimple, StandsIn}
 use Rattle.gp_unify.specs.Known.{Known, Extends, InTypes}
-use Rattle.gp_unify.specs.inside.Unify.{characters_in, atoms_in, keep, keep_value, with_value, tell_known, tell, Rest, rest, behind, ended, keep_rest, told_rest, span, read_text, unify_text, on_text, read, unify, unify_all}
+use Rattle.gp_unify.specs.Unify.{characters_in, atoms_in, keep, keep_value, with_value, tell_known, tell, Rest, rest, behind, ended, keep_rest, told_rest, span, read_text, unify_text, on_text, read, unify, unify_all}
 
 -- ---- lists
 

@@ -11,8 +11,8 @@ use Rattle.gp_syntax.specs.Typing.{type_in}
 use Rattle.gp_syntax.specs.Simple.{IsSimple}
 use Rattle.gp_syntax.specs.WellFormed.{IsWellFormed}
 use Rattle.gp_unify.specs.Known.{Known, Extends, InTypes}
-use Rattle.gp_unify.specs.inside.Unify.{unify}
-use Rattle.gp_unify.specs.inside.Candidate.{candidate}
+use Rattle.gp_unify.specs.Unify.{unify}
+use Rattle.gp_unify.specs.Candidate.{candidate}
 
 -- What is found gives the label that value, and every assignment in types that gives it has what is found: so there is
 -- one least extension, or none.

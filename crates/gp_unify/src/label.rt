@@ -7,8 +7,8 @@ ghost use Rattle.gp_syntax.specs.Typing.{type_in};
 ghost use Rattle.gp_syntax.specs.Value.{ranged};
 ghost use Rattle.gp_unify.specs.Extension.{AreKnown, known_of};
 ghost use Rattle.gp_unify.specs.inside.Reading.{Begins, BeginsValue, Hands, Reads, Tells};
-ghost use Rattle.gp_unify.specs.inside.Trail.{Grown};
-ghost use Rattle.gp_unify.specs.inside.Unify.{atoms_in, read, unify, unify_text, told_rest, on_text};
+ghost use Rattle.gp_unify.specs.Trail.{Grown};
+ghost use Rattle.gp_unify.specs.Unify.{atoms_in, read, unify, unify_text, told_rest, on_text};
 
 use crate::mismatch::Mismatch;
 use crate::pieces::{atoms_for, behind_integer, behind_string, fixed_atoms, split_atoms, type_at};

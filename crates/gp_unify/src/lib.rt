@@ -16,6 +16,5 @@ mod trail;
 mod unifier;
 
 pub use matched::{assignment_by, assignment_of};
-pub use pieces::is_of;
 pub use trail::take_back;
 pub use unifier::{Unified, unify, unify_on};

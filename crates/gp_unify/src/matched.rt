@@ -9,9 +9,9 @@ ghost use Rattle.gp_syntax.specs.Typing.{type_in};
 ghost use Rattle.gp_syntax.specs.WellFormed.{IsWellFormed, left_labels};
 ghost use Rattle.gp_unify.specs.Extension.{AreKnown, known_of};
 ghost use Rattle.gp_unify.specs.Matched.{MayFit, IsThatOfMatch};
-ghost use Rattle.gp_unify.specs.inside.Candidate.{node_labels, edge_labels, found_labels};
+ghost use Rattle.gp_unify.specs.Candidate.{node_labels, edge_labels, found_labels};
 ghost use Rattle.gp_unify.specs.inside.Reading.{TellsAll};
-ghost use Rattle.gp_unify.specs.inside.Unify.{unify_all};
+ghost use Rattle.gp_unify.specs.Unify.{unify_all};
 
 use crate::unifier::{Unified, unify};
 use gp_graph::Graph;

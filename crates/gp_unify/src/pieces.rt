@@ -9,7 +9,7 @@ ghost use Rattle.gp_syntax.specs.Simple.{strings_of, lists_of};
 ghost use Rattle.gp_syntax.specs.Typing.{type_in};
 ghost use Rattle.gp_syntax.specs.Value.{is_of};
 ghost use Rattle.gp_unify.specs.inside.Reading.{Begins};
-ghost use Rattle.gp_unify.specs.inside.Unify.{span};
+ghost use Rattle.gp_unify.specs.Unify.{span};
 
 use gp_memory::NoMemory;
 use gp_syntax::VariableType;
@@ -110,20 +110,6 @@ pub(crate) fn behind_codes<'v>(text: &[u8], codes: &'v [u8]) -> Option<&'v [u8]>
 {
     let (front, left) = split_codes(codes, text.len());
     if text == front { Some(left) } else { None }
-}
-
-/// Whether a list is a value of the type.
-pub fn is_of(declared: VariableType, atoms: &[Atom]) -> bool
-    ensures { result ≡ is_of declared atoms.now }
-{
-    match (declared, atoms) {
-        (VariableType::List, _) => true,
-        (VariableType::Atom, [_]) => true,
-        (VariableType::Int, [Atom::Int(_)]) => true,
-        (VariableType::String, [Atom::Str(_)]) => true,
-        (VariableType::Char, [Atom::Str(text)]) => text.as_bytes().len() == 1,
-        _ => false,
-    }
 }
 
 /// Whether the list of a string is a value of the type.

@@ -7,8 +7,8 @@ ghost use Rattle.gp_syntax.specs.Tree.{label_of, dots};
 ghost use Rattle.gp_syntax.specs.Typing.{type_in};
 ghost use Rattle.gp_unify.specs.Extension.{AreKnown, known_of};
 ghost use Rattle.gp_unify.specs.inside.Reading.{Reads, Tells};
-ghost use Rattle.gp_unify.specs.inside.Trail.{Grown};
-ghost use Rattle.gp_unify.specs.inside.Unify.{characters_in, read_text, unify_text};
+ghost use Rattle.gp_unify.specs.Trail.{Grown};
+ghost use Rattle.gp_unify.specs.Unify.{characters_in, read_text, unify_text};
 
 use crate::mismatch::Mismatch;
 use crate::pieces::{behind_codes, characters_for, fixed_characters, split_codes, type_at};

@@ -8,13 +8,13 @@ ghost use Rattle.gp_syntax.specs.Typing.{type_in};
 ghost use Rattle.gp_syntax.specs.Value.{is_of};
 ghost use Rattle.gp_unify.specs.Extension.{known_of};
 ghost use Rattle.gp_unify.specs.inside.Reading.{Tells};
-ghost use Rattle.gp_unify.specs.inside.Trail.{cleared, Grown};
-ghost use Rattle.gp_unify.specs.inside.Unify.{tell, with_value};
+ghost use Rattle.gp_unify.specs.Trail.{cleared, Grown};
+ghost use Rattle.gp_unify.specs.Unify.{tell, with_value};
 
 use crate::mismatch::Mismatch;
-use crate::pieces::{is_of, is_text, list_of, takes_text, text_of, type_at};
+use crate::pieces::{is_text, list_of, takes_text, text_of, type_at};
 use gp_memory::NoMemory;
-use gp_syntax::Assignment;
+use gp_syntax::{Assignment, is_of};
 use gp_values::{Atom, List};
 use std::alloc::Global;
 

@@ -6,8 +6,8 @@ ghost use Rattle.gp_syntax.specs.Tree.{label_of};
 ghost use Rattle.gp_syntax.specs.Typing.{type_in};
 ghost use Rattle.gp_unify.specs.Extension.{AreKnown, Answers, known_of};
 ghost use Rattle.gp_unify.specs.inside.Reading.{Told, KeepsTrail};
-ghost use Rattle.gp_unify.specs.inside.Trail.{Grown};
-ghost use Rattle.gp_unify.specs.inside.Unify.{unify};
+ghost use Rattle.gp_unify.specs.Trail.{Grown};
+ghost use Rattle.gp_unify.specs.Unify.{unify};
 
 use crate::label::unify_label;
 use crate::mismatch::Mismatch;

@@ -2,3 +2,4 @@ pub mod Graphs
 pub mod Edits
 pub mod Order
 pub mod Labels
+pub mod Keys

@@ -9,3 +9,4 @@ pub mod Graph
 pub mod Laws
 pub mod Order
 pub mod inside
+pub mod EqualityLaws

@@ -1,4 +1,3 @@
 -- Stepping stones, which bodies and proofs need.
 pub mod TextLaws
-pub mod EqualityLaws
 pub mod CompareLaws

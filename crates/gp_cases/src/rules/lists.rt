@@ -5,7 +5,7 @@ use crate::rules::searches::share_at;
 use crate::samples::host_of;
 use gp_graph::Graph;
 use gp_memory::NoMemory;
-use gp_round::numbers_of_share;
+use gp_plan::numbers_of_share;
 use gp_rows::{Answer, Wrong, field, number};
 use gp_values::{Chars, List};
 use std::alloc::Global;

@@ -7,7 +7,7 @@ use Rattle.gp_syntax.specs.Expression.{Expression, Condition, MarkPattern, renam
 use Rattle.gp_syntax.specs.Declaration.{DeclaredNode, DeclaredEdge, Declaration, node_names, edge_names, place_in, node_mark_of, edge_mark_of, origin_in, edge_named, is_turned}
 use Rattle.gp_syntax.specs.Rule.{Rule, LeftNode, LeftEdge, RightNode, RightEdge}
 use Rattle.gp_syntax.specs.Tree.{side_of}
-use Rattle.gp_clauses.specs.inside.ConditionShapes.{NamedCondition}
+use Rattle.gp_clauses.specs.ConditionShapes.{NamedCondition}
 use Rattle.gp_clauses.specs.declared.condition_shape.ConditionShape.{ConditionShape}
 use Rattle.gp_clauses.specs.declared.condition_shape.ConditionShape.TheVariants as conditions
 use Rattle.gp_clauses.specs.declared.shape.Operation.{Operation}

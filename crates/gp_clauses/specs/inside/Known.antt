@@ -7,7 +7,7 @@ use Rattle.gp_syntax.specs.Fault.{variables_in_condition}
 use Rattle.gp_syntax.specs.Tree.{side_of}
 use Rattle.gp_clauses.specs.declared.known.Known.{Known}
 use Rattle.gp_clauses.specs.declared.known.Known.TheVariants as known
-use Rattle.gp_clauses.specs.inside.ConditionShapes.{NamedCondition}
+use Rattle.gp_clauses.specs.ConditionShapes.{NamedCondition}
 
 abbrev pub names_known : Known → List Name
 names_known (known.Nodes side) = node_names (side_of side.now)

@@ -2,9 +2,9 @@
 
 use crate::tests::answers::expect;
 use crate::tests::calls::check_rows;
-use gp_demo::summary;
+use gp_cli::summary;
 use gp_gen::Kind;
-use gp_samples::host_of;
+use gp_hostfile::read_host;
 use gp_trace::read_trace;
 use std::test::Fail;
 
@@ -125,7 +125,7 @@ const SUMMARY: &[u8] = b"kind tree\nsize 2\nnodes 4\nedges 0\nred 2\nblue 1\nste
 
 #[test]
 fn marks_and_live_steps_are_counted(rt: HostRuntime) -> Result<(), Fail> {
-    let host = host_of(rt.alloc(), HOST)?;
+    let host = read_host(rt.alloc(), HOST.as_bytes())?;
     let items = read_trace(rt.alloc(), TRACE)?;
     let text = summary(rt.alloc(), Kind::Tree, 2, &host, &items)?;
     expect(text.as_slice() == SUMMARY, "a summary")

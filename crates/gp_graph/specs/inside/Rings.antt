@@ -4,7 +4,7 @@ use Rattle.std.specs.Prelude.{◌≡◌, ℕ, List, Option, Some, None, slice_se
 use Rattle.std.specs.Option.{option_map}
 use Rattle.gp_values.specs.Graph.{Edge}
 use Rattle.gp_graph.specs.inside.Slots.{slot_in}
-use Rattle.gp_graph.specs.inside.Chains.{AreRings}
+use Rattle.gp_graph.specs.Chains.{AreRings}
 use Rattle.gp_graph.specs.inside.View.{node_of, edge_of}
 use Rattle.gp_graph.specs.declared.slots.Link.{Link}
 use Rattle.gp_graph.specs.declared.slots.Ring.{Ring}

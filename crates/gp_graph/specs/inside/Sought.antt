@@ -1,7 +1,7 @@
 -- What a walk goes over, and what it gives of that.
 use Rattle.std.specs.Prelude.{ℕ, ◌+◌, ◌==◌, Bool, true, false, if◌then◌else◌, List, [], ◌∷◌, Option, Some, None, is_some}
 use Rattle.gp_graph.specs.inside.Slots.{slot_in}
-use Rattle.gp_graph.specs.inside.Chains.{follow}
+use Rattle.gp_graph.specs.Chains.{follow}
 use Rattle.gp_graph.specs.inside.View.{edge_of}
 use Rattle.gp_graph.specs.inside.Rings.{next_of, other, end_of}
 use Rattle.gp_graph.specs.inside.Roots.{next_root}

@@ -5,7 +5,7 @@ use Rattle.gp_syntax.specs.declared.tree.CommandTree.{CommandTree}
 use Rattle.gp_syntax.specs.declared.tree.CommandTree.TheOpen.{CommandTree-F}
 use Rattle.gp_syntax.specs.declared.tree.CommandTree.TheFolds.{fold-CommandTree}
 use Rattle.gp_syntax.specs.Run as meant
-use Rattle.gp_scope.specs.inside.Surveys.{total}
+use Rattle.gp_scope.specs.Surveys.{total}
 use Rattle.gp_scope.specs.Outline.{NamedCommand, named}
 use Rattle.gp_scope.specs.Names.{Scope, meaning_in, rule_of}
 use Rattle.gp_scope.specs.Resolved.{called_sets, resolved, rule_number}

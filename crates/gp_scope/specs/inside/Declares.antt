@@ -9,7 +9,7 @@ use Rattle.gp_scope.specs.Outline.{Outline, declared}
 use Rattle.gp_scope.specs.Names.{Scope, Body, entries, bodies_in_text}
 use Rattle.gp_scope.specs.Fault.{doubled_behind, first_told, unknown_in}
 use Rattle.gp_scope.specs.inside.Levels.{names_of}
-use Rattle.gp_scope.specs.inside.Surveys.{survey_of, both_counted, declarations_in}
+use Rattle.gp_scope.specs.Surveys.{survey_of, both_counted, declarations_in}
 use Rattle.gp_scope.specs.inside.Doubles.{name_of}
 
 -- so much is declared by it

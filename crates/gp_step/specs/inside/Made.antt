@@ -15,7 +15,7 @@ use Rattle.gp_syntax.specs.Match.{setting_of}
 use Rattle.gp_syntax.specs.Step.{AppliesBy}
 use Rattle.gp_syntax.specs.Tree.{rule_of_tree}
 use Rattle.gp_syntax.specs.WellFormed.{IsWellFormed, IsWithin}
-use Rattle.gp_step.specs.inside.Edits.{value_or_empty, image_of}
+use Rattle.gp_step.specs.Edits.{value_or_empty, image_of}
 
 -- a match applies, by this assignment
 pub record IsReady (p : RuleParts) (g : Graph) (m : Found) (b : PartialAssignment) : Type 0 where

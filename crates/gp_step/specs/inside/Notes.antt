@@ -3,7 +3,7 @@ use Rattle.std.specs.Prelude.{ℕ, List, [], ◌∷◌, ◌++◌, replicate, IsS
 use Rattle.gp_values.specs.Graph.{Graph, Node, Edge, HasNoEdges, node_at, edge_at, with_edge, without_node, without_edge, relabeled}
 use Rattle.gp_step.specs.declared.inverse.Inverse.{Inverse}
 use Rattle.gp_step.specs.Undo.{Undoes}
-use Rattle.gp_step.specs.inside.Edits.{drop_edges, drop_nodes, put_edges}
+use Rattle.gp_step.specs.Edits.{drop_edges, drop_nodes, put_edges}
 use Rattle.gp_step.specs.inside.Made.{relabel_all, with_nodes}
 
 -- what led back to a graph from the one does so from the other

@@ -18,7 +18,7 @@ use Rattle.gp_unify.specs.declared.mismatch.Mismatch.{Mismatch}
 use Rattle.gp_unify.specs.declared.mismatch.Mismatch.TheVariants as mismatch
 use Rattle.gp_unify.specs.declared.unifier.Unified.{Unified}
 use Rattle.gp_unify.specs.declared.unifier.Unified.TheVariants as unified
-use Rattle.gp_unify.specs.inside.Unify.{Rest, rest, behind, characters_in, atoms_in, read_text, read}
+use Rattle.gp_unify.specs.Unify.{Rest, rest, behind, characters_in, atoms_in, read_text, read}
 
 -- ---- answers
 

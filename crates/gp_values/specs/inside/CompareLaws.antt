@@ -9,7 +9,7 @@ use Rattle.gp_values.specs.declared.atom.Atom.{Atom}
 use Rattle.gp_values.specs.declared.atom.Atom.TheVariants.{Int, Str}
 use Rattle.gp_values.specs.Atoms.{same_atom, same_list}
 use Rattle.gp_values.specs.Compare.{atom_cmp, list_cmp}
-use Rattle.gp_values.specs.inside.EqualityLaws.{same_atom-Decides, same_list-Decides}
+use Rattle.gp_values.specs.EqualityLaws.{same_atom-Decides, same_list-Decides}
 
 antisymm : (x y : Atom) → atom_cmp x y ≡ ordering_reverse (atom_cmp y x)
 antisymm (Int x) (Int y) = int_cmp_total.antisymm x y

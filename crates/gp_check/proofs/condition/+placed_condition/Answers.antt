@@ -2,8 +2,8 @@ use Rattle.std.proofs.Common.{◌≡◌, ◌<◌, Some, slice_get, fold, sym, ap
 use Rattle.gp_syntax.specs.Expression.{Not}
 use Rattle.gp_syntax.specs.Tree.{condition_of, pattern_of}
 use Rattle.gp_syntax.proofs.Trees.{condition_of-Not}
-use Rattle.gp_clauses.specs.inside.Size.{condition_size}
-use Rattle.gp_clauses.specs.inside.ConditionShapes.{named_condition, connected}
+use Rattle.gp_clauses.specs.Size.{condition_size}
+use Rattle.gp_clauses.specs.ConditionShapes.{named_condition, connected}
 use Rattle.gp_clauses.proofs.Walks.{fold_step, fold_ended, item_at}
 use Rattle.gp_check.specs.inside.Placed.{placed_condition_in}
 use Rattle.gp_check.proofs.Placing.{is_test, with_placed_part, placed_condition_chain}

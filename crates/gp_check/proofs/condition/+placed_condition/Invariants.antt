@@ -1,6 +1,6 @@
 use Rattle.std.proofs.Common.{◌≡◌, drop, fold}
 use Rattle.gp_syntax.specs.Tree.{condition_of, pattern_of}
-use Rattle.gp_clauses.specs.inside.Size.{condition_size}
+use Rattle.gp_clauses.specs.Size.{condition_size}
 use Rattle.gp_check.proofs.Placing.{with_placed_part}
 use Rattle.gp_check.proofs.condition.+placed_condition.Given as goal
 

@@ -2,7 +2,7 @@ use Rattle.std.proofs.Common.{ℕ, sym, ap, ◌∙◌}
 use Rattle.gp_syntax.specs.Expression.{HasType, HasEdge, HasEdgeWith, Compared}
 use Rattle.gp_syntax.specs.Tree.{pattern_of}
 use Rattle.gp_syntax.proofs.Trees.{condition_of-HasType, condition_of-HasEdge, condition_of-HasEdgeWith, condition_of-Compared}
-use Rattle.gp_clauses.specs.inside.ConditionShapes.{condition_in}
+use Rattle.gp_clauses.specs.ConditionShapes.{condition_in}
 use Rattle.gp_check.specs.inside.Placed.{placed_condition_in}
 use Rattle.gp_check.proofs.Placing.{no_test}
 use Rattle.gp_check.proofs.condition.placed_test.Goals as goal

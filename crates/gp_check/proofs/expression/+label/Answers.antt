@@ -2,8 +2,8 @@ use Rattle.std.proofs.Common.{◌<◌, fold, sym, ap, ◌∙◌, arith}
 use Rattle.gp_syntax.specs.Expression.{Variable, Text}
 use Rattle.gp_syntax.specs.Tree.{expression_of, label_of}
 use Rattle.gp_syntax.proofs.Trees.{label_of-Text, label_of-Variable, label_of-Empty}
-use Rattle.gp_clauses.specs.inside.Shapes.{operands}
-use Rattle.gp_clauses.specs.inside.Size.{size}
+use Rattle.gp_clauses.specs.Shapes.{operands}
+use Rattle.gp_clauses.specs.Size.{size}
 use Rattle.gp_clauses.proofs.Walks.{fold_step, fold_ended}
 use Rattle.gp_check.specs.inside.Placed.{placed_in}
 use Rattle.gp_check.proofs.Placing.{with_placed, placed_chain, plain_chain, negated_numeral, numeral_placed}

@@ -1,7 +1,7 @@
 use Rattle.std.proofs.Common.{rules, sym, ap, ◌∙◌}
 use Rattle.gp_syntax.specs.Expression.{Negated}
 use Rattle.gp_syntax.specs.Tree.{expression_of}
-use Rattle.gp_clauses.specs.inside.Shapes.{operands}
+use Rattle.gp_clauses.specs.Shapes.{operands}
 use Rattle.gp_check.specs.inside.Placed.{numeral}
 use Rattle.gp_check.proofs.Placing.{numeral_chain, not_numeral}
 use Rattle.gp_check.proofs.expression.+negated_label.Goals as goal

@@ -1,4 +1,4 @@
-use Rattle.gp_clauses.specs.inside.Size.{size}
+use Rattle.gp_clauses.specs.Size.{size}
 use Rattle.gp_check.proofs.expression.+negated_label.Given as goal
 
 abbrev pub decreases-negated_label : goal.decreases-negated_label

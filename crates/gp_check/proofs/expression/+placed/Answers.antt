@@ -2,8 +2,8 @@ use Rattle.std.proofs.Common.{ℕ, ◌<◌, fold, sym, ap, ◌∙◌, arith}
 use Rattle.gp_syntax.specs.Expression.{Negated, Variable, In_degree, Out_degree, Length_of, Text}
 use Rattle.gp_syntax.specs.Tree.{expression_of}
 use Rattle.gp_syntax.proofs.Trees.{expression_of-Text, expression_of-Variable, expression_of-InDegree, expression_of-OutDegree, expression_of-Length, expression_of-Empty, expression_of-Negated}
-use Rattle.gp_clauses.specs.inside.Shapes.{operands}
-use Rattle.gp_clauses.specs.inside.Size.{size}
+use Rattle.gp_clauses.specs.Shapes.{operands}
+use Rattle.gp_clauses.specs.Size.{size}
 use Rattle.gp_clauses.proofs.Walks.{fold_step, fold_ended}
 use Rattle.gp_check.specs.inside.Placed.{placed_in}
 use Rattle.gp_check.proofs.Placing.{with_placed, placed_chain}

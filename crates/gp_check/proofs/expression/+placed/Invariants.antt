@@ -1,7 +1,7 @@
 use Rattle.std.proofs.Common.{◌≡◌, drop, fold}
 use Rattle.gp_syntax.specs.Tree.{expression_of}
-use Rattle.gp_clauses.specs.inside.Shapes.{operands}
-use Rattle.gp_clauses.specs.inside.Size.{size}
+use Rattle.gp_clauses.specs.Shapes.{operands}
+use Rattle.gp_clauses.specs.Size.{size}
 use Rattle.gp_check.proofs.Placing.{with_placed}
 use Rattle.gp_check.proofs.expression.+placed.Given as goal
 

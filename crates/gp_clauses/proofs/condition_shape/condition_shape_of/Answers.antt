@@ -1,8 +1,8 @@
 use Rattle.std.proofs.Common.{◌≡◌, ◌+◌, ◌∙◌, Option, ap, arith}
 use Rattle.gp_values.specs.Names.{Name}
 use Rattle.gp_syntax.proofs.Trees.{condition_of-HasType, condition_of-HasEdge, condition_of-HasEdgeWith, condition_of-Compared, condition_of-Not, condition_of-And, condition_of-Or}
-use Rattle.gp_clauses.specs.inside.Size.{condition_size, condition_sizes}
-use Rattle.gp_clauses.specs.inside.ConditionShapes.{named_condition}
+use Rattle.gp_clauses.specs.Size.{condition_size, condition_sizes}
+use Rattle.gp_clauses.specs.ConditionShapes.{named_condition}
 use Rattle.gp_clauses.proofs.ConditionShapes.{and_chain, or_chain, size-Not, size-And, size-Or, part_within}
 use Rattle.gp_clauses.proofs.condition_shape.condition_shape_of.Goals as goal
 

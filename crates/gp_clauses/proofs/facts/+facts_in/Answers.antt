@@ -1,8 +1,8 @@
 use Rattle.std.proofs.Common.{◌<◌, refl, sym, subst, ap, ◌∙◌, arith}
 use Rattle.gp_syntax.specs.Tree.{expression_of}
-use Rattle.gp_clauses.specs.inside.Shapes.{operands}
-use Rattle.gp_clauses.specs.inside.Size.{size}
-use Rattle.gp_clauses.specs.inside.Facts.{facts_of, negated}
+use Rattle.gp_clauses.specs.Shapes.{operands}
+use Rattle.gp_clauses.specs.Size.{size}
+use Rattle.gp_clauses.specs.Facts.{facts_of, negated}
 use Rattle.gp_clauses.specs.inside.Tables.{type_by}
 use Rattle.gp_clauses.proofs.Walks.{fold_step, fold_ended}
 use Rattle.gp_clauses.proofs.Told.{facts-Negated, facts_chain, with_facts, AreSmall, small_facts, small_combined}

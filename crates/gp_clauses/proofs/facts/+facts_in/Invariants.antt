@@ -1,6 +1,6 @@
 use Rattle.std.proofs.Common.{◌≡◌, drop, fold}
-use Rattle.gp_clauses.specs.inside.Shapes.{operands}
-use Rattle.gp_clauses.specs.inside.Size.{size}
+use Rattle.gp_clauses.specs.Shapes.{operands}
+use Rattle.gp_clauses.specs.Size.{size}
 use Rattle.gp_clauses.specs.inside.Tables.{type_by}
 use Rattle.gp_clauses.proofs.Told.{with_facts, AreSmall}
 use Rattle.gp_clauses.proofs.facts.+facts_in.Given as goal

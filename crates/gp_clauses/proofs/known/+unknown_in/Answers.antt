@@ -2,8 +2,8 @@ use Rattle.std.proofs.Common.{◌<◌, sym, ap, ◌∙◌, arith}
 use Rattle.gp_syntax.specs.Tree.{expression_of}
 use Rattle.gp_syntax.specs.Fault.{first_told}
 use Rattle.std.specs.Option.{option_or}
-use Rattle.gp_clauses.specs.inside.Shapes.{operands}
-use Rattle.gp_clauses.specs.inside.Size.{size}
+use Rattle.gp_clauses.specs.Shapes.{operands}
+use Rattle.gp_clauses.specs.Size.{size}
 use Rattle.gp_clauses.proofs.Walks.{untold, told_here, told_ended}
 use Rattle.gp_clauses.proofs.Knowns.{unknown_at, unknown_chain}
 use Rattle.gp_clauses.proofs.known.+unknown_in.Goals as goal

@@ -3,8 +3,8 @@ use Rattle.std.specs.Option.{option_or}
 use Rattle.std.proofs.lemmas.Option.{slice_get_read}
 use Rattle.gp_syntax.specs.Tree.{expression_of}
 use Rattle.gp_syntax.specs.Fault.{first_told}
-use Rattle.gp_clauses.specs.inside.Size.{condition_size}
-use Rattle.gp_clauses.specs.inside.ConditionShapes.{named_condition}
+use Rattle.gp_clauses.specs.Size.{condition_size}
+use Rattle.gp_clauses.specs.ConditionShapes.{named_condition}
 use Rattle.gp_clauses.proofs.Walks.{untold, told_here, told_ended, item_at}
 use Rattle.gp_clauses.proofs.Knowns.{unknown_in_part, unknown_condition_chain, unknown-Compared}
 use Rattle.gp_clauses.proofs.known.+unknown_in_condition.Goals as goal

@@ -1,6 +1,6 @@
 use Rattle.std.proofs.Common.{◌≡◌, drop}
 use Rattle.gp_syntax.specs.Fault.{first_told}
-use Rattle.gp_clauses.specs.inside.Size.{condition_size}
+use Rattle.gp_clauses.specs.Size.{condition_size}
 use Rattle.gp_clauses.proofs.Knowns.{unknown_in_part}
 use Rattle.gp_clauses.proofs.known.+unknown_in_condition.Given as goal
 

@@ -1,6 +1,6 @@
 use Rattle.std.proofs.Common.{◌≡◌, ◌<◌, ◌∙◌, Some, slice_get, sym, arith}
-use Rattle.gp_clauses.specs.inside.Size.{condition_size}
-use Rattle.gp_clauses.specs.inside.ConditionShapes.{named_condition}
+use Rattle.gp_clauses.specs.Size.{condition_size}
+use Rattle.gp_clauses.specs.ConditionShapes.{named_condition}
 use Rattle.gp_clauses.proofs.Walks.{all_on, all_fails, all_ended, item_at}
 use Rattle.gp_clauses.proofs.Parts.{marks_chain, part_has_marks}
 use Rattle.gp_clauses.proofs.marks.+condition_has_marks.Goals as goal

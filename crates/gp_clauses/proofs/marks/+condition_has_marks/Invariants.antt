@@ -1,6 +1,6 @@
 use Rattle.std.proofs.Common.{◌≡◌, drop}
 use Rattle.std.specs.List.{list_all}
-use Rattle.gp_clauses.specs.inside.Size.{condition_size}
+use Rattle.gp_clauses.specs.Size.{condition_size}
 use Rattle.gp_clauses.proofs.Parts.{part_has_marks}
 use Rattle.gp_clauses.proofs.marks.+condition_has_marks.Given as goal
 

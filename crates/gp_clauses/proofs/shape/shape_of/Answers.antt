@@ -2,7 +2,7 @@ use Rattle.std.proofs.Common.{◌≡◌, ◌+◌, ◌∙◌, ap, arith}
 use Rattle.gp_values.specs.Names.{Name}
 use Rattle.gp_syntax.specs.Tree.{expression_of}
 use Rattle.gp_syntax.proofs.Trees.{expression_of-Number, expression_of-Text, expression_of-Variable, expression_of-InDegree, expression_of-OutDegree, expression_of-Length, expression_of-Empty, expression_of-Negated, expression_of-Sum, expression_of-Product, expression_of-Dot, expression_of-Join}
-use Rattle.gp_clauses.specs.inside.Size.{size, sizes, operand_sizes}
+use Rattle.gp_clauses.specs.Size.{size, sizes, operand_sizes}
 use Rattle.gp_clauses.proofs.Shapes.{sum_chain, product_chain, dot_chain, join_chain, size-Negated, size-Sum, size-Product, size-Dot, size-Join, size_within}
 use Rattle.gp_clauses.proofs.shape.shape_of.Goals as goal
 

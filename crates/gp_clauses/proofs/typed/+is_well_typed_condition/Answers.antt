@@ -1,7 +1,7 @@
 use Rattle.std.proofs.Common.{◌≡◌, ◌<◌, ◌∙◌, Some, slice_get, sym, arith}
-use Rattle.gp_clauses.specs.inside.Size.{condition_size}
+use Rattle.gp_clauses.specs.Size.{condition_size}
 use Rattle.gp_clauses.specs.inside.Tables.{type_by}
-use Rattle.gp_clauses.specs.inside.ConditionShapes.{named_condition}
+use Rattle.gp_clauses.specs.ConditionShapes.{named_condition}
 use Rattle.gp_clauses.proofs.Walks.{all_on, all_fails, all_ended, item_at}
 use Rattle.gp_clauses.proofs.Parts.{typed_chain, is_typed_part}
 use Rattle.gp_clauses.proofs.typed.+is_well_typed_condition.Goals as goal

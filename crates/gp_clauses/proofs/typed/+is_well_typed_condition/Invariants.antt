@@ -1,6 +1,6 @@
 use Rattle.std.proofs.Common.{◌≡◌, drop}
 use Rattle.std.specs.List.{list_all}
-use Rattle.gp_clauses.specs.inside.Size.{condition_size}
+use Rattle.gp_clauses.specs.Size.{condition_size}
 use Rattle.gp_clauses.specs.inside.Tables.{type_by}
 use Rattle.gp_clauses.proofs.Parts.{is_typed_part}
 use Rattle.gp_clauses.proofs.typed.+is_well_typed_condition.Given as goal

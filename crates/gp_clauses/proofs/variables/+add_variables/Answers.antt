@@ -1,7 +1,7 @@
 use Rattle.std.proofs.Common.{◌<◌, sym, ◌∙◌, arith}
 use Rattle.gp_syntax.specs.Tree.{expression_of}
-use Rattle.gp_clauses.specs.inside.Shapes.{operands}
-use Rattle.gp_clauses.specs.inside.Size.{size}
+use Rattle.gp_clauses.specs.Shapes.{operands}
+use Rattle.gp_clauses.specs.Size.{size}
 use Rattle.gp_clauses.specs.inside.Tables.{with_operand_names}
 use Rattle.gp_clauses.proofs.Walks.{fold_step, fold_ended}
 use Rattle.gp_clauses.proofs.Tables.{variables_chain}

@@ -66,10 +66,18 @@ const NODES: &str = "Main = zero
 zero() [ (n0, 1) | ] => [ (n0, 0) | ] interface = {n0}
 % [ (a(R), 1) (b, 1 # red) | ]
 % run p h
+% 1 out
+fail
+
+Main = zero
+zero() [ (n0, 1) | ] => [ (n0, 0) | ] interface = {n0}
+% [ (a(R), 1) (b, 1 # red) (c, 1) | ]
+% run p h
 % 0 out
 [
-  (n0(R), 0)
+  (n0(R), 1)
   (n1, 1 # red)
+  (n2, 0)
 |
 ]
 
@@ -249,11 +257,38 @@ Main = one
 one(x:list) [ (n0, x) | ] => [ (n0, x) | ] interface = {n0}
 % [ (a(R), 1) | ]
 % run p h
+% 1 out
+fail
+
+Main = del!
+del(x:list) [ (n0, x) | ] => [ | ] interface = {}
+% [ (a(R), 1) (b, 2) | ]
+% run p h
 % 0 out
 [
   (n0(R), 1)
 |
 ]
+
+Main = hop; hop
+hop(x,y,a:list) [ (n0(R), x) (n1, y) | (e0, n0, n1, a) ] => [ (n0, x) (n1(R), y) | (e0, n0, n1, a) ] interface = {n0, n1}
+% [ (a(R), 1) (b, 2) | (x, a, b, 3) (y, b, a, 3) ]
+% run p h
+% 0 out
+[
+  (n0(R), 1)
+  (n1, 2)
+|
+  (e0, n0, n1, 3)
+  (e1, n1, n0, 3)
+]
+
+Main = hop; hop
+hop(x,y,a:list) [ (n0(R), x) (n1, y) | (e0, n0, n1, a) ] => [ (n0, x) (n1(R), y) | (e0, n0, n1, a) ] interface = {n0, n1}
+% [ (a(R), 1) (b(R), 2) | (x, a, b, 3) (y, b, a, 3) ]
+% run p h
+% 1 out
+fail
 
 Main = bid
 bid(z:list) [ (n0, 1) (n1, 2) | (e0(B), n0, n1, z) ] => [ (n0, 1 # red) (n1, 2) | (e0(B), n0, n1, z) ] interface = {n0, n1}
@@ -281,11 +316,8 @@ Main = keep
 keep(x:list) [ (n0, x # any) | ] => [ (n0, 5 # any) | ] interface = {n0}
 % [ (a(R), 1) | ]
 % run p h
-% 0 out
-[
-  (n0(R), 5)
-|
-]
+% 1 out
+fail
 
 Main = keep
 keep(x:list) [ (n0, x # any) | ] => [ (n0, 5 # any) | ] interface = {n0}

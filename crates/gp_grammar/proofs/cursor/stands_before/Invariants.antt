@@ -1,5 +1,5 @@
 use Rattle.std.proofs.Common.{◌≡◌, length}
-use Rattle.gp_grammar.specs.inside.Reading.{stands_before}
+use Rattle.gp_grammar.specs.Ahead.{stands_before}
 use Rattle.gp_grammar.proofs.cursor.stands_before.Given as goal
 
 abbrev pub invariant-each : goal.invariant-each

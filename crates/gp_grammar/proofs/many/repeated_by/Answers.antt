@@ -1,6 +1,6 @@
 use Rattle.std.proofs.Common.{rules, arith, sym, ◌∙◌, ◌-◌, ◌≡◌, true, false}
 use Rattle.std.proofs.lemmas.Result.{err_from_is_err_and}
-use Rattle.gp_grammar.specs.inside.Reading.{begins, repeated}
+use Rattle.gp_grammar.specs.Reading.{begins, repeated}
 use Rattle.gp_grammar.proofs.Loops.{goes_on, fails, ends, runs_out}
 use Rattle.gp_grammar.proofs.many.repeated_by.Goals as goal
 use Rattle.gp_grammar.proofs.many.repeated_by.Goals.{else-each-test, then-each-test+then-not-begins}

@@ -1,6 +1,6 @@
 use Rattle.std.proofs.Common.{◌-◌}
-use Rattle.gp_grammar.specs.inside.Cursor.{IsReading}
-use Rattle.gp_grammar.specs.inside.Reading.{repeated}
+use Rattle.gp_grammar.specs.Cursor.{IsReading}
+use Rattle.gp_grammar.specs.Reading.{repeated}
 use Rattle.gp_grammar.proofs.Loops.{GoesOn}
 use Rattle.gp_grammar.proofs.many.repeated_by.Given as goal
 

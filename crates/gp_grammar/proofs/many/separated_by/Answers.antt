@@ -1,6 +1,6 @@
 use Rattle.std.proofs.Common.{rules, arith, sym, ◌∙◌, ◌-◌, ◌≡◌, true, false, Some}
 use Rattle.std.proofs.lemmas.Result.{err_from_is_err_and}
-use Rattle.gp_grammar.specs.inside.Reading.{Fails, begins, separated}
+use Rattle.gp_grammar.specs.Reading.{Fails, begins, separated}
 use Rattle.gp_grammar.proofs.Loops.{next_of}
 use Rattle.gp_grammar.proofs.Loops.{goes_on, fails, ends, runs_out, next_is, behind_none}
 use Rattle.gp_grammar.proofs.many.separated_by.Goals as goal

@@ -1,7 +1,7 @@
 use Rattle.std.proofs.Common.{◌-◌}
-use Rattle.gp_grammar.specs.inside.Reading.{separated}
+use Rattle.gp_grammar.specs.Reading.{separated}
 use Rattle.gp_grammar.proofs.Loops.{next_of}
-use Rattle.gp_grammar.specs.inside.Cursor.{IsReading}
+use Rattle.gp_grammar.specs.Cursor.{IsReading}
 use Rattle.gp_grammar.proofs.Loops.{GoesOn}
 use Rattle.gp_grammar.proofs.many.separated_by.Given as goal
 

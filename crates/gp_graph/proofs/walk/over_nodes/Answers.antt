@@ -1,7 +1,7 @@
 use Rattle.std.proofs.Common.{arith, length}
 use Rattle.std.specs.Prelude.{is_some}
 use Rattle.gp_graph.specs.inside.Slots.{slot_in}
-use Rattle.gp_graph.specs.inside.Chains.{follow}
+use Rattle.gp_graph.specs.Chains.{follow}
 use Rattle.gp_graph.specs.inside.Sought.{after}
 use Rattle.gp_graph.proofs.Rounds.{length-follow}
 use Rattle.gp_graph.proofs.Those.{length-those}

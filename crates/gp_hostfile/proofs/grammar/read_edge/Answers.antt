@@ -1,5 +1,5 @@
 use Rattle.std.proofs.Common.{sym, subst}
-use Rattle.gp_grammar.specs.inside.Cursor.{Reads}
+use Rattle.gp_grammar.specs.Cursor.{Reads}
 use Rattle.gp_hostfile.proofs.Edges.{edge_read}
 use Rattle.gp_hostfile.proofs.grammar.read_edge.Goals as goal
 

@@ -5,7 +5,7 @@ use Rattle.gp_syntax.specs.Truth.{truth_of}
 use Rattle.gp_eval.specs.Answer.{setting}
 use Rattle.gp_unify.specs.Matched.{OneFits, MayFit}
 use Rattle.gp_match.specs.inside.Faults.{JudgedBy}
-use Rattle.gp_match.specs.inside.Stands.{stands}
+use Rattle.gp_match.specs.Stands.{stands}
 use Rattle.gp_match.proofs.Verdicts.{are_nodes, no_match, is_judged, none_judged}
 use Rattle.gp_match.proofs.check.check_parts.Goals as goal
 

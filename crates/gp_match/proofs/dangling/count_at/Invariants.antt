@@ -1,5 +1,5 @@
 use Rattle.std.proofs.Common.{◌≡◌, ◌≤◌, take}
-use Rattle.gp_match.specs.inside.Stands.{count_at, numbers_of}
+use Rattle.gp_match.specs.Stands.{count_at, numbers_of}
 use Rattle.gp_match.proofs.dangling.count_at.Given as goal
 
 abbrev pub invariant-images : goal.invariant-images

@@ -1,5 +1,5 @@
 use Rattle.std.proofs.Common.{◌≡◌, drop}
-use Rattle.gp_match.specs.inside.Stands.{is_kept_by}
+use Rattle.gp_match.specs.Stands.{is_kept_by}
 use Rattle.gp_match.proofs.dangling.is_kept.Given as goal
 
 abbrev pub invariant-origins : goal.invariant-origins

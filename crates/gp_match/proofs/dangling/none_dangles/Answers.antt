@@ -1,6 +1,6 @@
 use Rattle.std.proofs.Common.{slice_index, length, sym, ◌∙◌}
 use Rattle.std.specs.Prelude.{◌||◌}
-use Rattle.gp_match.specs.inside.Stands.{is_kept_by, counts, numbers_of}
+use Rattle.gp_match.specs.Stands.{is_kept_by, counts, numbers_of}
 use Rattle.gp_match.proofs.Loops.{one_fails, neither_one}
 use Rattle.gp_match.proofs.dangling.none_dangles.Goals as goal
 

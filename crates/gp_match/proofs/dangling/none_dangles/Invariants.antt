@@ -1,7 +1,7 @@
 use Rattle.std.proofs.Common.{◌≡◌, true, slice_index}
-use Rattle.gp_match.specs.inside.Tests.{all_below}
+use Rattle.gp_match.specs.Tests.{all_below}
 use Rattle.std.specs.Prelude.{◌||◌}
-use Rattle.gp_match.specs.inside.Stands.{is_kept_by, counts, numbers_of}
+use Rattle.gp_match.specs.Stands.{is_kept_by, counts, numbers_of}
 use Rattle.gp_match.proofs.dangling.none_dangles.Given as goal
 
 abbrev pub invariant-nodes : goal.invariant-nodes

@@ -1,7 +1,7 @@
 use Rattle.std.proofs.Common.{List, Option, sym, subst}
 use Rattle.gp_tokens.specs.declared.token.Token.{Token}
-use Rattle.gp_grammar.specs.inside.Cursor.{Reads}
-use Rattle.gp_grammar.specs.inside.Reading.{reader_of, token}
+use Rattle.gp_grammar.specs.Cursor.{Reads}
+use Rattle.gp_grammar.specs.Reading.{reader_of, token}
 use Rattle.gp_grammar.specs.declared.want.Want.TheVariants as wants
 use Rattle.gp_grammar.specs.Grammar.{One, ◌followed_by◌}
 use Rattle.gp_grammar.specs.Signs.{open_sign, close_sign, comma}

@@ -1,5 +1,5 @@
 use Rattle.std.proofs.Common.{rules, ◌≡◌, ◌∙◌, ◌+◌, ap}
-use Rattle.gp_scope.specs.inside.Surveys.{weight, weights}
+use Rattle.gp_scope.specs.Surveys.{weight, weights}
 use Rattle.gp_scope.proofs.Outlines.{weight-Procedure}
 use Rattle.gp_resolve.proofs.Joined.{on_ok}
 use Rattle.gp_resolve.proofs.Takes.{rule_taken, procedure_taken, last_weighs}

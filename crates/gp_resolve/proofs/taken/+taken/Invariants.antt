@@ -1,7 +1,7 @@
 use Rattle.std.proofs.Common.{◌≡◌, ◌+◌, ◌*◌, List, ◌++◌, reverse, length}
 use Rattle.gp_syntax.specs.declared.tree.Decl.{Decl}
 use Rattle.gp_scope.specs.Outline.{outline, rules_in}
-use Rattle.gp_scope.specs.inside.Surveys.{weight, weights}
+use Rattle.gp_scope.specs.Surveys.{weight, weights}
 use Rattle.gp_resolve.proofs.taken.+taken.Given as goal
 
 abbrev pub invariant-take_each-each : goal.invariant-take_each-each

@@ -39,11 +39,11 @@ run_if-back_to-requires-in-Fail-clause-live g t c =
 
 pub run_if-returns-in-Graph : goal.run_if-returns-in-Graph
 run_if-returns-in-Graph g t c =
-    leads_stopped g.C.Chooser.answer g.C.Chooser.next c.run_command-in-Graph.result (command_of c.args.then.now) (If (command_of c.args.condition.now) (command_of c.args.then.now) (command_of c.args.otherwise.now)) _ _ _ _ _ _ (if_then_leads g.C.Chooser.answer g.C.Chooser.next _ (command_of c.args.condition.now) (command_of c.args.then.now) (command_of c.args.otherwise.now) _ _ _ _ _ _ c.in-Ok.ensures c.in-Graph.ensures c.back_to.ensures c.in-Ok.ensures.replays) c.run_command-in-Graph.ensures
+    leads_stopped g.C.Chooser.answer g.C.Chooser.next c.run_command-in-Graph.result (command_of c.args.then.now) (If (command_of c.args.condition.now) (command_of c.args.then.now) (command_of c.args.otherwise.now)) _ _ _ _ _ _ (if_then_leads g.C.Chooser.answer g.C.Chooser.next _ (command_of c.args.condition.now) (command_of c.args.then.now) (command_of c.args.otherwise.now) _ _ _ _ _ _ c.in-Ok.ensures c.in-Graph.ensures c.back_to.ensures c.replays.ensures) c.run_command-in-Graph.ensures
 
 pub run_if-returns-in-Fail : goal.run_if-returns-in-Fail
 run_if-returns-in-Fail g t c =
-    leads_stopped g.C.Chooser.answer g.C.Chooser.next c.run_command-in-Fail.result (command_of c.args.otherwise.now) (If (command_of c.args.condition.now) (command_of c.args.then.now) (command_of c.args.otherwise.now)) _ _ _ _ _ _ (if_else_leads g.C.Chooser.answer g.C.Chooser.next _ (command_of c.args.condition.now) (command_of c.args.then.now) (command_of c.args.otherwise.now) _ _ _ _ _ _ c.in-Ok.ensures c.in-Fail.ensures c.back_to-in-Fail.ensures c.in-Ok.ensures.replays) c.run_command-in-Fail.ensures
+    leads_stopped g.C.Chooser.answer g.C.Chooser.next c.run_command-in-Fail.result (command_of c.args.otherwise.now) (If (command_of c.args.condition.now) (command_of c.args.then.now) (command_of c.args.otherwise.now)) _ _ _ _ _ _ (if_else_leads g.C.Chooser.answer g.C.Chooser.next _ (command_of c.args.condition.now) (command_of c.args.then.now) (command_of c.args.otherwise.now) _ _ _ _ _ _ c.in-Ok.ensures c.in-Fail.ensures c.back_to-in-Fail.ensures c.replays.ensures) c.run_command-in-Fail.ensures
 
 pub run_if-returns-in_default : goal.run_if-returns-in_default
 run_if-returns-in_default g t c =
@@ -66,7 +66,7 @@ run_loop-back_to-requires-clause-live g t c =
 
 pub run_loop-returns-in-Fail : goal.run_loop-returns-in-Fail
 run_loop-returns-in-Fail g t c =
-    leads_stopped g.C.Chooser.answer g.C.Chooser.next stop.Graph (Loop (command_of c.args.body.now)) (Loop (command_of c.args.body.now)) _ _ _ _ _ _ c.turns.invariant (loop_ended g.C.Chooser.answer g.C.Chooser.next _ (command_of c.args.body.now) _ _ _ _ _ _ _ c.in-Made.ensures c.in-Ok.ensures c.in-Fail.ensures c.back_to.ensures c.in-Ok.ensures.replays)
+    leads_stopped g.C.Chooser.answer g.C.Chooser.next stop.Graph (Loop (command_of c.args.body.now)) (Loop (command_of c.args.body.now)) _ _ _ _ _ _ c.turns.invariant (loop_ended g.C.Chooser.answer g.C.Chooser.next _ (command_of c.args.body.now) _ _ _ _ _ _ _ c.in-Made.ensures c.in-Ok.ensures c.in-Fail.ensures c.back_to.ensures c.replays.ensures)
 
 pub run_loop-returns-in-Break : goal.run_loop-returns-in-Break
 run_loop-returns-in-Break g t c =
@@ -86,7 +86,7 @@ run_try-returns-in-Graph g t c =
 
 pub run_try-returns-in-Fail : goal.run_try-returns-in-Fail
 run_try-returns-in-Fail g t c =
-    leads_stopped g.C.Chooser.answer g.C.Chooser.next c.run_command-in-Fail.result (command_of c.args.otherwise.now) (Try (command_of c.args.condition.now) (command_of c.args.then.now) (command_of c.args.otherwise.now)) _ _ _ _ _ _ (try_else_leads g.C.Chooser.answer g.C.Chooser.next _ (command_of c.args.condition.now) (command_of c.args.then.now) (command_of c.args.otherwise.now) _ _ _ _ _ _ c.in-Ok.ensures c.in-Fail.ensures c.back_to.ensures c.in-Ok.ensures.replays) c.run_command-in-Fail.ensures
+    leads_stopped g.C.Chooser.answer g.C.Chooser.next c.run_command-in-Fail.result (command_of c.args.otherwise.now) (Try (command_of c.args.condition.now) (command_of c.args.then.now) (command_of c.args.otherwise.now)) _ _ _ _ _ _ (try_else_leads g.C.Chooser.answer g.C.Chooser.next _ (command_of c.args.condition.now) (command_of c.args.then.now) (command_of c.args.otherwise.now) _ _ _ _ _ _ c.in-Ok.ensures c.in-Fail.ensures c.back_to.ensures c.replays.ensures) c.run_command-in-Fail.ensures
 
 pub run_try-returns-in_default : goal.run_try-returns-in_default
 run_try-returns-in_default g t c =

@@ -6,7 +6,7 @@ use Rattle.gp_scope.specs.Names.{bodies}
 use Rattle.gp_scope.specs.Fault.{doubled_behind}
 use Rattle.gp_scope.specs.inside.Levels.{scope_of}
 use Rattle.gp_scope.specs.inside.Numbering.{numbered_of, with_body, with_bodies}
-use Rattle.gp_scope.specs.inside.Surveys.{declarations_in, weight, weights}
+use Rattle.gp_scope.specs.Surveys.{declarations_in, weight, weights}
 use Rattle.gp_scope.specs.inside.Doubles.{name_of}
 use Rattle.gp_scope.proofs.Outlines.{outline_from, outline_past, weight-Procedure, weighs_less}
 use Rattle.gp_scope.proofs.Declared.{few_here, once_here, still_few, rule_once, procedure_once}

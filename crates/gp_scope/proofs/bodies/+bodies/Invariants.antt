@@ -5,7 +5,7 @@ use Rattle.gp_scope.specs.Names.{bodies}
 use Rattle.gp_scope.specs.Fault.{doubled_behind}
 use Rattle.gp_scope.specs.inside.Levels.{scope_of}
 use Rattle.gp_scope.specs.inside.Numbering.{numbered_of, with_bodies}
-use Rattle.gp_scope.specs.inside.Surveys.{declarations_in, weight, weights}
+use Rattle.gp_scope.specs.Surveys.{declarations_in, weight, weights}
 use Rattle.gp_scope.proofs.bodies.+bodies.Given as goal
 
 abbrev pub invariant-put_bodies-each : goal.invariant-put_bodies-each

@@ -5,7 +5,7 @@ use Rattle.gp_values.specs.Names.{Name}
 use Rattle.gp_scope.specs.declared.survey.Survey.{Survey}
 use Rattle.gp_scope.specs.Outline.{Outline, outline}
 use Rattle.gp_scope.specs.Fault.{Fault, NoMain, TwoMains, TwoRules, Unknown, declares_main, mains_in, doubled_behind, unknown_name, fault_of_names}
-use Rattle.gp_scope.specs.inside.Surveys.{survey_of}
+use Rattle.gp_scope.specs.Surveys.{survey_of}
 use Rattle.gp_scope.proofs.check.check_names.Goals as goal
 
 no_main : (os : Outline) → declares_main os ≡ false → fault_of_names os ≡ Some NoMain

@@ -5,7 +5,7 @@ use Rattle.gp_scope.specs.Outline.{outline}
 use Rattle.gp_scope.specs.Names.{entries}
 use Rattle.gp_scope.specs.inside.Levels.{names_of}
 use Rattle.gp_scope.specs.inside.Doubles.{name_of}
-use Rattle.gp_scope.specs.inside.Surveys.{declarations_in}
+use Rattle.gp_scope.specs.Surveys.{declarations_in}
 use Rattle.gp_scope.proofs.Outlines.{outline_from, outline_past}
 use Rattle.gp_scope.proofs.Declared.{few_here, once_here, still_few, new_to_level, has_more, or_more, some_none}
 use Rattle.gp_scope.proofs.declare.level_of.Goals as goal

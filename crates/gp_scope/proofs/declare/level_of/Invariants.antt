@@ -4,7 +4,7 @@ use Rattle.gp_scope.specs.Outline.{outline}
 use Rattle.gp_scope.specs.Names.{entries}
 use Rattle.gp_scope.specs.Fault.{doubled_behind}
 use Rattle.gp_scope.specs.inside.Levels.{names_of}
-use Rattle.gp_scope.specs.inside.Surveys.{declarations_in}
+use Rattle.gp_scope.specs.Surveys.{declarations_in}
 use Rattle.gp_scope.proofs.declare.level_of.Given as goal
 
 abbrev pub invariant-each : goal.invariant-each

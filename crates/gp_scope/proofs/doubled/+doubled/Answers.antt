@@ -5,7 +5,7 @@ use Rattle.gp_syntax.specs.declared.tree.Decl.{Decl}
 use Rattle.gp_scope.specs.Outline.{outline, declared, named, Outline}
 use Rattle.gp_scope.specs.Fault.{doubled_behind}
 use Rattle.gp_scope.specs.inside.Doubles.{name_of, TellsDoubled}
-use Rattle.gp_scope.specs.inside.Surveys.{weight, weights}
+use Rattle.gp_scope.specs.Surveys.{weight, weights}
 use Rattle.gp_scope.proofs.Outlines.{outline_from, outline_past, declared-Rule, declared-Procedure, name_of-Rule, name_of-Procedure, weight-Procedure, weighs_less}
 use Rattle.gp_scope.proofs.doubled.+doubled.Goals as goal
 

@@ -1,7 +1,7 @@
 use Rattle.std.proofs.Common.{◌≡◌, ◌+◌, ◌*◌, [], drop}
 use Rattle.gp_scope.specs.Outline.{outline}
 use Rattle.gp_scope.specs.Fault.{doubled_behind}
-use Rattle.gp_scope.specs.inside.Surveys.{weight, weights}
+use Rattle.gp_scope.specs.Surveys.{weight, weights}
 use Rattle.gp_scope.proofs.doubled.+doubled.Given as goal
 
 abbrev pub invariant-first_doubled-each : goal.invariant-first_doubled-each

@@ -4,7 +4,7 @@ use Rattle.gp_syntax.specs.declared.tree.Decl.{Decl}
 use Rattle.gp_syntax.specs.declared.tree.Decl.TheVariants as decl
 use Rattle.gp_syntax.specs.declared.tree.CommandTree.{CommandTree}
 use Rattle.gp_scope.specs.Outline.{Outline, outline, declared}
-use Rattle.gp_scope.specs.inside.Surveys.{declarations_in, weight, weights}
+use Rattle.gp_scope.specs.Surveys.{declarations_in, weight, weights}
 use Rattle.gp_scope.proofs.Outlines.{outline_from, outline_past, declared-Rule, declared-Procedure, weight-Procedure, weighs_less}
 use Rattle.gp_scope.proofs.few.+few.Goals as goal
 

@@ -1,6 +1,6 @@
 use Rattle.std.proofs.Common.{◌≡◌, ◌+◌, ◌*◌, drop}
 use Rattle.gp_scope.specs.Outline.{outline}
-use Rattle.gp_scope.specs.inside.Surveys.{declarations_in, weight, weights}
+use Rattle.gp_scope.specs.Surveys.{declarations_in, weight, weights}
 use Rattle.gp_scope.proofs.few.+few.Given as goal
 
 abbrev pub invariant-declaration_count-each : goal.invariant-declaration_count-each

@@ -7,7 +7,7 @@ use Rattle.gp_scope.specs.Outline.{outline, named, own_number}
 use Rattle.gp_scope.specs.Names.{scope_within, bodies_in_text}
 use Rattle.gp_scope.specs.Fault.{doubled_behind, first_told, unknown_in}
 use Rattle.gp_scope.specs.inside.Levels.{scope_of}
-use Rattle.gp_scope.specs.inside.Surveys.{declarations_in, main_number, one_more_counted, weight, weights}
+use Rattle.gp_scope.specs.Surveys.{declarations_in, main_number, one_more_counted, weight, weights}
 use Rattle.gp_scope.specs.inside.Doubles.{name_of}
 use Rattle.gp_scope.specs.inside.Declares.{unknown_of}
 use Rattle.gp_scope.proofs.Outlines.{outline_from, outline_past, weight-Procedure, weighs_less}

@@ -5,7 +5,7 @@ use Rattle.gp_scope.specs.Names.{bodies_in_text}
 use Rattle.gp_scope.specs.Fault.{doubled_behind, first_told}
 use Rattle.gp_scope.specs.inside.Levels.{scope_of}
 use Rattle.gp_scope.specs.inside.Declares.{unknown_of}
-use Rattle.gp_scope.specs.inside.Surveys.{declarations_in, weight, weights}
+use Rattle.gp_scope.specs.Surveys.{declarations_in, weight, weights}
 use Rattle.gp_scope.proofs.strangers.+strangers.Given as goal
 
 abbrev pub invariant-first_unknown-each : goal.invariant-first_unknown-each

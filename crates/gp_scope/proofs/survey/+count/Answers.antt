@@ -3,7 +3,7 @@ use Rattle.gp_values.specs.Names.{Name}
 use Rattle.gp_syntax.specs.declared.tree.Decl.{Decl}
 use Rattle.gp_scope.specs.declared.survey.Survey.{Survey}
 use Rattle.gp_scope.specs.Outline.{NamedCommand, Outline, outline, declared, procedure, named}
-use Rattle.gp_scope.specs.inside.Surveys.{weight, weights, declarations_in, survey_of, both_counted, one_more_counted}
+use Rattle.gp_scope.specs.Surveys.{weight, weights, declarations_in, survey_of, both_counted, one_more_counted}
 use Rattle.gp_scope.proofs.Outlines.{outline_from, outline_past, declared-Rule, declared-Procedure, weight-Procedure, weighs_less}
 use Rattle.gp_scope.proofs.Counted.{counts_all, counted_rule, counted_procedure, rest_fits, two_fit, counted_together, nothing_more, nothing_yet}
 use Rattle.gp_scope.proofs.survey.+count.Goals as goal

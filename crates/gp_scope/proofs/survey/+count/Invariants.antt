@@ -1,6 +1,6 @@
 use Rattle.std.proofs.Common.{◌≡◌, ◌+◌, ◌*◌, drop}
 use Rattle.gp_scope.specs.Outline.{outline}
-use Rattle.gp_scope.specs.inside.Surveys.{survey_of, both_counted, weight, weights}
+use Rattle.gp_scope.specs.Surveys.{survey_of, both_counted, weight, weights}
 use Rattle.gp_scope.proofs.survey.+count.Given as goal
 
 abbrev pub invariant-count_declared-each : goal.invariant-count_declared-each

@@ -1,6 +1,6 @@
 use Rattle.std.proofs.Common.{◌≡◌, ◌≤◌, ◌-◌, reverse, length}
 use Rattle.gp_step.specs.declared.inverse.Inverse.TheVariants.{DropEdge}
-use Rattle.gp_step.specs.inside.Edits.{put_edges}
+use Rattle.gp_step.specs.Edits.{put_edges}
 use Rattle.gp_step.specs.inside.Notes.{KeepsUndoBehind, MayPutEdges}
 use Rattle.gp_step.specs.inside.Made.{edges_of}
 use Rattle.gp_step.proofs.edits.add_edges.Given as goal

@@ -1,5 +1,5 @@
 use Rattle.std.proofs.Common.{◌≡◌, ◌≤◌, ◌-◌, ◌+◌, map, drop, reverse, vec_len, vec_capacity}
-use Rattle.gp_step.specs.inside.Edits.{drop_edges}
+use Rattle.gp_step.specs.Edits.{drop_edges}
 use Rattle.gp_step.specs.inside.Notes.{KeepsUndo, MayDropEdges}
 use Rattle.gp_step.specs.inside.Made.{number_of}
 use Rattle.gp_step.proofs.edits.cut_edges.Given as goal

@@ -1,5 +1,5 @@
 use Rattle.std.proofs.Common.{◌≡◌, ◌≤◌, ◌-◌, ◌+◌, drop, reverse, vec_len, vec_capacity}
-use Rattle.gp_step.specs.inside.Edits.{drop_nodes}
+use Rattle.gp_step.specs.Edits.{drop_nodes}
 use Rattle.gp_step.specs.inside.Notes.{KeepsUndo, MayDropNodes}
 use Rattle.gp_step.proofs.edits.cut_nodes.Given as goal
 

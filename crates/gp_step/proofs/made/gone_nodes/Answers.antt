@@ -1,7 +1,7 @@
 use Rattle.std.proofs.Common.{◌≡◌, ◌∙◌, ◌<◌, true, false, length, sym, arith}
 use Rattle.gp_syntax.specs.Rule.{is_kept}
 use Rattle.gp_syntax.specs.Tree.{rule_of_tree}
-use Rattle.gp_step.specs.inside.Edits.{gone}
+use Rattle.gp_step.specs.Edits.{gone}
 use Rattle.gp_step.proofs.Collecting.{gone_next}
 use Rattle.gp_step.proofs.made.gone_nodes.Goals as goal
 use Rattle.gp_step.proofs.made.gone_nodes.Goals.{then-not-has_in_interface+in_ok-push, else-not-has_in_interface}

@@ -1,7 +1,7 @@
 use Rattle.std.proofs.Common.{◌≡◌, ◌++◌, map, drop}
 use Rattle.gp_syntax.specs.Assigned.{assigned_of}
 use Rattle.gp_syntax.specs.Tree.{rule_of_tree, right_edge_of}
-use Rattle.gp_step.specs.inside.Edits.{made_edge}
+use Rattle.gp_step.specs.Edits.{made_edge}
 use Rattle.gp_step.specs.inside.Made.{edges_of}
 use Rattle.gp_step.proofs.made.made_edges.Given as goal
 

@@ -1,7 +1,7 @@
 use Rattle.std.proofs.Common.{◌≡◌, ◌++◌, map, drop}
 use Rattle.gp_syntax.specs.Assigned.{assigned_of}
 use Rattle.gp_syntax.specs.Tree.{rule_of_tree, right_node_of}
-use Rattle.gp_step.specs.inside.Edits.{made_node, images_from, images_of}
+use Rattle.gp_step.specs.Edits.{made_node, images_from, images_of}
 use Rattle.gp_step.specs.inside.Made.{kept_pairs, nodes_of, kept_of, new_of}
 use Rattle.gp_step.proofs.made.made_nodes.Given as goal
 

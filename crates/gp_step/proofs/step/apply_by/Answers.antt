@@ -3,7 +3,7 @@ use Rattle.std.proofs.lemmas.List.{length-map}
 use Rattle.gp_syntax.specs.Assigned.{assigned_of}
 use Rattle.gp_syntax.specs.Rule.{is_kept}
 use Rattle.gp_syntax.specs.Tree.{rule_of_tree}
-use Rattle.gp_step.specs.inside.Edits.{gone}
+use Rattle.gp_step.specs.Edits.{gone}
 use Rattle.gp_step.specs.inside.Made.{number_of, kept_pairs, nodes_of, edges_of}
 use Rattle.gp_step.specs.inside.Notes.{made_by}
 use Rattle.gp_step.proofs.Afters.{length-images}

@@ -12,4 +12,4 @@ pub returns-clause-blocks : goal.returns-clause-blocks
 returns-clause-blocks c = loop_dangles
 
 pub returns-clause-isolated : goal.returns-clause-isolated
-returns-clause-isolated c = step_deleted types.List (Marked node_marks.None) false (plain (pos 1)) 0 refl refl (λ h. h)
+returns-clause-isolated c = step_deleted types.List (Marked node_marks.None) false (plain (pos 1)) 0 refl refl refl

@@ -5,7 +5,7 @@ use Rattle.gp_syntax.specs.Tree.{label_of}
 use Rattle.gp_syntax.specs.Typing.{type_in}
 use Rattle.gp_syntax.proofs.Trees.{label_of-Number, label_of-NegatedNumber, label_of-Empty, label_of-Text, label_of-Variable, label_of-Dot, label_of-Join}
 use Rattle.gp_unify.specs.Extension.{AreKnown, known_of}
-use Rattle.gp_unify.specs.inside.Unify.{rest, read}
+use Rattle.gp_unify.specs.Unify.{rest, read}
 use Rattle.gp_unify.specs.inside.Reading.{Refuses, size, sizes}
 use Rattle.gp_unify.proofs.Trails.{grown_on}
 use Rattle.gp_unify.proofs.Chains.{begins_read, value_read, one_dotted, chain_read, size-Join, size-Dot, size_at, known_dots, known_joins, read_joins_is, part_read, part_refused, first_refused, parts_read, refused}

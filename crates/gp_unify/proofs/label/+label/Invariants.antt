@@ -2,8 +2,8 @@ use Rattle.std.proofs.Common.{◌≡◌, ◌+◌, drop, fold, Some}
 use Rattle.gp_syntax.specs.Tree.{label_of}
 use Rattle.gp_syntax.specs.Typing.{type_in}
 use Rattle.gp_unify.specs.Extension.{known_of}
-use Rattle.gp_unify.specs.inside.Trail.{Grown}
-use Rattle.gp_unify.specs.inside.Unify.{rest, read}
+use Rattle.gp_unify.specs.Trail.{Grown}
+use Rattle.gp_unify.specs.Unify.{rest, read}
 use Rattle.gp_unify.specs.inside.Reading.{join_step, size, sizes}
 use Rattle.gp_unify.proofs.label.+label.Given as goal
 

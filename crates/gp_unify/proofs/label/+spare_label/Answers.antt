@@ -3,7 +3,7 @@ use Rattle.gp_syntax.specs.Simple.{StandsIn}
 use Rattle.gp_syntax.specs.Tree.{label_of}
 use Rattle.gp_syntax.specs.Typing.{type_in}
 use Rattle.gp_syntax.proofs.Trees.{label_of-Variable, label_of-Empty, label_of-Join}
-use Rattle.gp_unify.specs.inside.Unify.{atoms_in}
+use Rattle.gp_unify.specs.Unify.{atoms_in}
 use Rattle.gp_unify.specs.Extension.{AreKnown}
 use Rattle.gp_unify.specs.inside.Reading.{size, sizes}
 use Rattle.gp_unify.proofs.Chains.{one_dotted, more_dotted, one_atom, size-Join, size-Dot, size_at, known_joins, atoms_of_joins}

@@ -1,7 +1,7 @@
 use Rattle.std.proofs.Common.{◌≡◌, ◌+◌, ◌-◌, drop, map}
 use Rattle.gp_syntax.specs.Tree.{label_of, joins}
 use Rattle.gp_syntax.specs.Typing.{type_in}
-use Rattle.gp_unify.specs.inside.Unify.{atoms_in}
+use Rattle.gp_unify.specs.Unify.{atoms_in}
 use Rattle.gp_unify.specs.inside.Reading.{all_atoms, size, sizes}
 use Rattle.gp_unify.proofs.label.+spare_label.Given as goal
 

@@ -7,8 +7,8 @@ use Rattle.gp_syntax.specs.Tree.{label_of}
 use Rattle.gp_syntax.specs.Typing.{type_in}
 use Rattle.gp_unify.specs.Known.{Known}
 use Rattle.gp_unify.specs.Extension.{known_of}
-use Rattle.gp_unify.specs.inside.Candidate.{node_labels, edge_labels}
-use Rattle.gp_unify.specs.inside.Unify.{unify_all}
+use Rattle.gp_unify.specs.Candidate.{node_labels, edge_labels}
+use Rattle.gp_unify.specs.Unify.{unify_all}
 use Rattle.gp_unify.proofs.Matches.{labels_all, labels_known, unify_sides, tells_edges, told_yes, told_no}
 use Rattle.gp_unify.proofs.matched.unify_left.Goals as goal
 

@@ -6,8 +6,8 @@ use Rattle.gp_syntax.specs.declared.rule.LeftNode.{LeftNode}
 use Rattle.gp_syntax.specs.Tree.{label_of}
 use Rattle.gp_syntax.specs.Typing.{type_in}
 use Rattle.gp_unify.specs.Extension.{AreKnown, known_of}
-use Rattle.gp_unify.specs.inside.Candidate.{node_labels}
-use Rattle.gp_unify.specs.inside.Unify.{unify_all}
+use Rattle.gp_unify.specs.Candidate.{node_labels}
+use Rattle.gp_unify.specs.Unify.{unify_all}
 use Rattle.gp_unify.proofs.Unifies.{unify_on, unify_stops}
 use Rattle.gp_unify.proofs.Matches.{told_yes, told_no, asked_at, found_at}
 use Rattle.gp_unify.proofs.matched.unify_nodes.Goals as goal

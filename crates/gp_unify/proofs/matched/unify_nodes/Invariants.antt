@@ -2,8 +2,8 @@ use Rattle.std.proofs.Common.{◌≡◌, drop, map, length}
 use Rattle.gp_syntax.specs.Tree.{label_of}
 use Rattle.gp_syntax.specs.Typing.{type_in}
 use Rattle.gp_unify.specs.Extension.{known_of}
-use Rattle.gp_unify.specs.inside.Candidate.{node_labels}
-use Rattle.gp_unify.specs.inside.Unify.{unify_all}
+use Rattle.gp_unify.specs.Candidate.{node_labels}
+use Rattle.gp_unify.specs.Unify.{unify_all}
 use Rattle.gp_unify.proofs.matched.unify_nodes.Given as goal
 
 abbrev pub invariant-nodes : goal.invariant-nodes

@@ -3,7 +3,7 @@ use Rattle.gp_syntax.specs.Simple.{StandsIn}
 use Rattle.gp_syntax.specs.Tree.{label_of}
 use Rattle.gp_syntax.specs.Typing.{type_in}
 use Rattle.gp_syntax.proofs.Trees.{label_of-Text, label_of-Variable, label_of-Dot}
-use Rattle.gp_unify.specs.inside.Unify.{characters_in}
+use Rattle.gp_unify.specs.Unify.{characters_in}
 use Rattle.gp_unify.specs.Extension.{AreKnown}
 use Rattle.gp_unify.specs.inside.Reading.{size, sizes}
 use Rattle.gp_unify.proofs.Chains.{one_joined, more_joined, no_text, size-Dot, size-Join, size_at, known_dots, characters_of_dots}

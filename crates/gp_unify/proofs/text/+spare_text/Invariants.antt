@@ -1,7 +1,7 @@
 use Rattle.std.proofs.Common.{◌≡◌, ◌+◌, ◌-◌, drop, map}
 use Rattle.gp_syntax.specs.Tree.{label_of, dots}
 use Rattle.gp_syntax.specs.Typing.{type_in}
-use Rattle.gp_unify.specs.inside.Unify.{characters_in}
+use Rattle.gp_unify.specs.Unify.{characters_in}
 use Rattle.gp_unify.specs.inside.Reading.{all_characters, size, sizes}
 use Rattle.gp_unify.proofs.text.+spare_text.Given as goal
 

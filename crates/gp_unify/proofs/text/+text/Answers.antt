@@ -5,7 +5,7 @@ use Rattle.gp_syntax.specs.Tree.{label_of}
 use Rattle.gp_syntax.specs.Typing.{type_in}
 use Rattle.gp_syntax.proofs.Trees.{label_of-Text, label_of-Variable, label_of-Dot}
 use Rattle.gp_unify.specs.Extension.{AreKnown, known_of}
-use Rattle.gp_unify.specs.inside.Unify.{rest, read_text}
+use Rattle.gp_unify.specs.Unify.{rest, read_text}
 use Rattle.gp_unify.specs.inside.Reading.{Refuses, size, sizes}
 use Rattle.gp_unify.proofs.Trails.{grown_on}
 use Rattle.gp_unify.proofs.Chains.{kept_to, kept_not, one_joined, more_joined, no_text, size-Dot, size-Join, size_at, known_dots, read_dots_is, part_read, part_refused, first_refused, parts_read, refused}

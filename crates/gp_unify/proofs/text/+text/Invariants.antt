@@ -3,8 +3,8 @@ use Rattle.gp_values.specs.Texts.{IsText}
 use Rattle.gp_syntax.specs.Tree.{label_of}
 use Rattle.gp_syntax.specs.Typing.{type_in}
 use Rattle.gp_unify.specs.Extension.{known_of}
-use Rattle.gp_unify.specs.inside.Trail.{Grown}
-use Rattle.gp_unify.specs.inside.Unify.{rest, read_text}
+use Rattle.gp_unify.specs.Trail.{Grown}
+use Rattle.gp_unify.specs.Unify.{rest, read_text}
 use Rattle.gp_unify.specs.inside.Reading.{text_step, size, sizes}
 use Rattle.gp_unify.proofs.text.+text.Given as goal
 

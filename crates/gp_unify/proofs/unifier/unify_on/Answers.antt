@@ -2,8 +2,8 @@ use Rattle.std.proofs.Common.{◌≡◌, length, drop, Some, None, ap, subst, �
 use Rattle.gp_syntax.specs.Tree.{label_of}
 use Rattle.gp_syntax.specs.Typing.{type_in}
 use Rattle.gp_unify.specs.Extension.{known_of}
-use Rattle.gp_unify.specs.inside.Trail.{cleared}
-use Rattle.gp_unify.specs.inside.Unify.{unify}
+use Rattle.gp_unify.specs.Trail.{cleared}
+use Rattle.gp_unify.specs.Unify.{unify}
 use Rattle.gp_unify.proofs.Answers.{is_least, is_none}
 use Rattle.gp_unify.proofs.Trails.{back_to, grown_count}
 use Rattle.gp_unify.proofs.unifier.unify_on.Goals as goal

@@ -1,4 +1,4 @@
-use Rattle.gp_values.specs.inside.EqualityLaws.{same_list-Decides}
+use Rattle.gp_values.specs.EqualityLaws.{same_list-Decides}
 use Rattle.gp_values.proofs.laws.tests_equality.Goals as goal
 
 pub returns : goal.returns

@@ -2,9 +2,9 @@
 
 use super::told_by;
 use crate::tests::answers::Answer;
+use gp_hostfile::read_host;
 use gp_journal::Trail;
 use gp_reader::read_program;
-use gp_samples::host_of;
 use gp_system::{CallGoal, Gp, plans_of};
 use opt_core::Core;
 use opt_system::Mode;
@@ -37,8 +37,10 @@ type Row = (
 
 // The program and the host, the mode and the items of the goal; the events that are sent to its core, in which `1/0` is
 // the match of rule 1 at node 0; and the answers, with the entries, the items and the ending that the core has then.
+// Beside each row stand the clauses of `opt_core`'s `Answers` (specs/Steps) that give its answers.
 const ON_RULES: [Row; 8] = [
-    // a commit makes older reports stale
+    // a commit makes older reports stale: AnswersLook News, AnswersQuiet Noted, AnswersOffer Committed, AnswersQuiet and
+    // AnswersOffer Stale, AnswersQuiet Closed (Blocked), AnswersWith Some; a Quiet that `MayCome` excludes
     (
         DEL,
         ONE,
@@ -47,7 +49,8 @@ const ON_RULES: [Row; 8] = [
         "look 0 0, quiet 0 0, quiet 0 1, look 0 1, offer 0 0/0, offer 0 0/0, quiet 0 1, look 0 1, offer 1 0/0, quiet 1 0, quiet 1 1, look 1 0",
         "news [] 0, may not come, noted, news [] 0, committed 0, stale 1, stale 1, news [0/0] 1, may not come, noted, closed blocked, closed blocked, [0/0] 8 blocked",
     ),
-    // a goal of one match ends with its commit
+    // a goal of one match ends with its commit: AnswersOffer Committed, with `left_after Once` and `ending_after Once` in
+    // `with_entry`; AnswersWith Some
     (
         DEL,
         TWO,
@@ -56,7 +59,8 @@ const ON_RULES: [Row; 8] = [
         "offer 0 0/0, offer 0 0/1",
         "committed 0, closed committed, [0/0] 4 committed",
     ),
-    // a goal ends where no item is left
+    // a goal ends where no item is left: AnswersOffer Committed, with `ending_after Saturate` in `with_entry`; AnswersWith
+    // Some
     (
         DEL,
         TWO,
@@ -65,6 +69,7 @@ const ON_RULES: [Row; 8] = [
         "offer 0 0/0, look 0 0",
         "committed 0, closed bound, [0/0] 0 bound",
     ),
+    // and commits nothing without one: AnswersOffer Closed (Bound)
     (
         DEL,
         TWO,
@@ -73,7 +78,7 @@ const ON_RULES: [Row; 8] = [
         "offer 0 0/1",
         "closed bound, [] 0 bound",
     ),
-    // a blocked goal needs no item
+    // a blocked goal needs no item: AnswersQuiet Noted, AnswersLook News, AnswersQuiet Closed (Blocked)
     (
         DEL,
         NONE,
@@ -82,7 +87,7 @@ const ON_RULES: [Row; 8] = [
         "quiet 0 0, quiet 0 0, look 0 0, quiet 0 1",
         "noted, noted, news [] 1, closed blocked, [] 0 blocked",
     ),
-    // a faulty match ends a goal unless it is stale
+    // a faulty match ends a goal: AnswersFault Closed; an Offer of it is excluded by `MayCome`
     (
         INC,
         GREATEST,
@@ -91,6 +96,7 @@ const ON_RULES: [Row; 8] = [
         "offer 0 0/0, fault 0 0/0",
         "may not come, closed fault 0 PastBits, [] 0 fault 0 PastBits",
     ),
+    // unless it is stale: AnswersOffer Committed, with `left_after Saturate` in `with_entry`; AnswersFault Stale
     (
         BOTH,
         GREATEST,
@@ -99,7 +105,7 @@ const ON_RULES: [Row; 8] = [
         "offer 0 0/0, fault 0 1/0",
         "committed 0, stale 1, [0/0] 7 running",
     ),
-    // a stopped goal stays stopped
+    // a stopped goal stays stopped: AnswersStop; AnswersWith Some
     (
         DEL,
         ONE,
@@ -114,7 +120,7 @@ const ON_RULES: [Row; 8] = [
 fn told_of_rules(alloc: Global, row: &Row) -> Result<Answer, Fail> {
     let (program, host, mode, items, events, _) = *row;
     let goal = CallGoal { call: 0, mode };
-    let base = Trail::new(alloc, host_of(alloc, host)?);
+    let base = Trail::new(alloc, read_host(alloc, host.as_bytes())?);
     let mut at = base.copy()?;
     let program = read_program(alloc, program.as_bytes())?;
     let plans = plans_of(alloc, program.parts().rules.as_slice())?;

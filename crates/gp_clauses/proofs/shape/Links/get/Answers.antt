@@ -4,7 +4,7 @@ use Rattle.gp_syntax.specs.declared.expression.SumSign.{SumSign}
 use Rattle.gp_syntax.specs.declared.expression.ProductSign.{ProductSign}
 use Rattle.gp_syntax.specs.declared.expression.Expr.{Expr}
 use Rattle.gp_clauses.specs.declared.shape.Operation.TheVariants as operations
-use Rattle.gp_clauses.specs.inside.Shapes.{sum_operation, product_operation}
+use Rattle.gp_clauses.specs.Shapes.{sum_operation, product_operation}
 use Rattle.gp_clauses.proofs.Walks.{mapped_at, mapped_below}
 use Rattle.gp_clauses.proofs.shape.Links.get.Goals as goal
 

@@ -1,5 +1,5 @@
 use Rattle.std.proofs.Common.{sym, ◌∙◌}
-use Rattle.gp_values.specs.inside.EqualityLaws.{same_list-Decides}
+use Rattle.gp_values.specs.EqualityLaws.{same_list-Decides}
 use Rattle.gp_values.proofs.list.List.same.Goals as goal
 
 pub returns : goal.returns

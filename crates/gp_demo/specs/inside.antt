@@ -1,2 +1,0 @@
--- Stepping stones that bodies and proofs alone need.
-pub mod Depth

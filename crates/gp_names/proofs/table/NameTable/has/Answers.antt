@@ -1,6 +1,0 @@
-use Rattle.std.proofs.Common.{◌∙◌, refl}
-use Rattle.gp_names.proofs.Keys.{has_key}
-use Rattle.gp_names.proofs.table.NameTable.has.Goals as goal
-
-pub returns : goal.returns
-returns c = c.contains.ensures ∙ has_key _ c.self.inside.places.keys c.args.self.now c.self.view_is c.args.name.now c.args.name.now refl
