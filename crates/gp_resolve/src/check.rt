@@ -1,8 +1,9 @@
 //! The calls of a program text.
 
-ghost use Rattle.std.specs.Prelude.{◌≡◌, ℕ, Some, None, map, MatchOption, IfOk, IfErr, OnOk};
+ghost use Rattle.std.specs.Prelude.{◌≡◌, ℕ, ◌<◌, ◌^◌, Some, None, map, MatchOption, IfOk, IfErr, OnOk};
 ghost use Rattle.gp_syntax.specs.Tree.{command_of};
 ghost use Rattle.gp_scope.specs.Outline.{outline};
+ghost use Rattle.gp_scope.specs.Surveys.{declarations_in};
 ghost use Rattle.gp_scope.specs.Resolved.{ResolvedBody, resolved_bodies, others, main_of};
 ghost use Rattle.gp_scope.specs.Fault.{Fault, IsFault, fault_of_names, told};
 ghost use Rattle.gp_resolve.specs.inside.Procedures.{IsFirstIn, IsMarked};
@@ -25,15 +26,13 @@ pub(crate) fn check_calls(
     procedures: &[Command],
 ) -> Result<(), ScopeFault>
     requires names { fault_of_names (outline declarations.now) ≡ None }
+    requires few { declarations_in (outline declarations.now) < 2 ^ 32 }
     requires main { command_of main.now ≡ main_of (resolved_bodies (outline declarations.now)) }
     requires procedures { map command_of procedures.now ≡ map (λ (b : ResolvedBody). b.command) (others (resolved_bodies (outline declarations.now))) }
     ensures ok { OnOk result (IsFaultless (outline declarations.now)) }
     ensures err { IfErr result (λ e. (f : Fault) → told e ≡ Some f → IsFault (outline declarations.now) f) }
 {
     let callees = callees_of(alloc, procedures)?;
-    if u32::try_from(callees.len()).is_err() {
-        return Err(ScopeFault::NoMemory);
-    }
     let deep = deep_ones(alloc, callees.as_slice())?;
     if let Some(number) = first_recursive(alloc, callees.as_slice(), deep.as_slice())? {
         let name = name_at(alloc, declarations, number as usize)?;

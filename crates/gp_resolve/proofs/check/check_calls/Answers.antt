@@ -1,4 +1,4 @@
-use Rattle.std.proofs.Common.{◌≡◌, ◌∙◌, sym, subst, ℕ, arith}
+use Rattle.std.proofs.Common.{◌≡◌, ◌∙◌, ◌<◌, ◌^◌, List, length, sym, subst, ℕ, arith}
 use Rattle.gp_resolve.proofs.Lists.{clash}
 use Rattle.gp_resolve.proofs.Visits.{marked_within}
 use Rattle.gp_resolve.specs.inside.Procedures.{InRange, ReachesIn, IsFirstIn, IsMarked, MarksChains}
@@ -6,7 +6,7 @@ use Rattle.gp_scope.specs.Outline.{outline}
 use Rattle.gp_scope.specs.Fault.{Recursive, DeepCalls, StrayBreak, IsFault}
 use Rattle.gp_resolve.proofs.Joined.{if_some, if_none, callees_are, strays_are}
 use Rattle.gp_resolve.proofs.Chains.{callees_in, reach_from}
-use Rattle.gp_resolve.proofs.Programs.{in_range}
+use Rattle.gp_resolve.proofs.Programs.{in_range, few_called}
 use Rattle.gp_resolve.proofs.Faults.{commands, has_name, recursive_told, deep_told, stray_told, faultless, recursive_marked}
 use Rattle.gp_resolve.proofs.check.check_calls.Goals as goal
 
@@ -21,6 +21,12 @@ first_recursive-requires-clause-range c =
     let os = outline c.args.declarations.now in
     let e : c.as_slice-2.result.now ≡ callees_in (commands os) = c.as_slice-2.ensures.value ∙ c.in_ok-callees.ensures ∙ callees_are c.args.procedures.now (commands os) c.requires.procedures in
     subst InRange (sym e) (in_range os c.requires.names)
+
+pub first_recursive-requires-clause-few : goal.first_recursive-requires-clause-few
+first_recursive-requires-clause-few c =
+    let os = outline c.args.declarations.now in
+    let e : c.as_slice-2.result.now ≡ callees_in (commands os) = c.as_slice-2.ensures.value ∙ c.in_ok-callees.ensures ∙ callees_are c.args.procedures.now (commands os) c.requires.procedures in
+    subst (λ (l : List (List ℕ)). length l < 2 ^ 32) (sym e) (few_called os (2 ^ 32) c.requires.few)
 
 pub first_recursive-requires-clause-all : goal.first_recursive-requires-clause-all
 first_recursive-requires-clause-all c =
