@@ -97,7 +97,7 @@ run_well faultless hp hh n (at_run _ _ x) shown = comes_well x shown
 
 demo_well : {k : DemoCommand} {said : Said} {asked : Bool} {s : ℕ} {journal result text : List ℕ} → DemoAnswers k said → Shows asked said s journal result text → OfDemo s
 demo_well (demo_program_is_bad _) bad_program_shown = inr (inr (inl refl))
-demo_well (demo_host_is_bad _ _) (bad_host_shown _) = inr (inr (inr (inl refl)))
+demo_well (demo_host_is_bad _ _) bad_host_shown = inr (inr (inr (inl refl)))
 demo_well {k} (demo_runs _ _ x) shown = demo_comes_well k x shown
 
 -- ---- what is refused
@@ -122,7 +122,7 @@ module _ {asked : Bool} where
 
   stops_at_host : {old new : KnownFiles} {name : Name} {said : Said} {s : ℕ} {journal result text : List ℕ} → StopsAtHost old new name said → Shows asked said s journal result text → AtHost s
   stops_at_host (host_is_long _) long_host_shown = inl refl
-  stops_at_host (host_is_bad _ _) (bad_host_shown _) = inl refl
+  stops_at_host (host_is_bad _ _) bad_host_shown = inl refl
   stops_at_host (host_is_unread _) unread_shown = inr (inr (inl refl))
 
   refused_program : {held : Content} {faults : ℕ} {new : KnownFiles} {k : RunCommand} {said : Said} {s : ℕ} {journal result text : List ℕ} → TextsHaveNoFault → HasFaultyProgram (Some held) k.program →
@@ -152,7 +152,7 @@ module _ {asked : Bool} where
       HasProgram (Some held) k.program p names → HasFaultyHost (Some held) k.host → RunAnswers (Holding held faults) new k said → Shows asked said s journal result text → s ≡ 4
   surely_host faultless n h f (at_program x) shown = absurd (loads_program faultless h n x)
   surely_host faultless n h f (at_host _ (host_is_long _)) long_host_shown = refl
-  surely_host faultless n h f (at_host _ (host_is_bad _ _)) (bad_host_shown _) = refl
+  surely_host faultless n h f (at_host _ (host_is_bad _ _)) bad_host_shown = refl
   surely_host {held} {faults} {new} {k} faultless n h f (at_host _ (host_is_unread u)) shown = absurd (reads_host held faults new k.host n f u)
   surely_host {held} {k = k} faultless n h f (at_run {g = g} _ hh x) shown = absurd (sound_host held k.host g hh f)
 
@@ -164,7 +164,7 @@ module _ {asked : Bool} where
   refused_demo_host : {k : DemoCommand} {p : Program} {f : HostFault} {said : Said} {s : ℕ} {journal result text : List ℕ} → TextsHaveNoFault → IsProgramText (demo_program k) p → IsHostFault (demo_host k) f →
       DemoAnswers k said → Shows asked said s journal result text → s ≡ 4
   refused_demo_host {k} {p} faultless t f (demo_program_is_bad {f = e} x) shown = absurd (faultless (demo_program k) p e t x)
-  refused_demo_host faultless t f (demo_host_is_bad _ _) (bad_host_shown _) = refl
+  refused_demo_host faultless t f (demo_host_is_bad _ _) bad_host_shown = refl
   refused_demo_host {k} faultless t f (demo_runs {g = g} _ h _) shown = absurd (no_fault (demo_host k) g _ h f)
 
 -- ---- the same, by the words

@@ -101,7 +101,7 @@ pub data StopsAtProgram (old new : KnownFiles) (name : Name) : Said → Type 0 w
 -- and in place of a host
 pub data StopsAtHost (old new : KnownFiles) (name : Name) : Said → Type 0 where
   host_is_long : HasLongFile old.content name → StopsAtHost old new name long_host
-  host_is_bad : {bytes : List ℕ} {f : HostFault} → HasBytes old.content name bytes → IsHostFault bytes f → StopsAtHost old new name (bad_host bytes f)
+  host_is_bad : {bytes : List ℕ} {f : HostFault} → HasBytes old.content name bytes → IsHostFault bytes f → StopsAtHost old new name (bad_host f)
   host_is_unread : CannotRead old new name → StopsAtHost old new name (unread name)
 
 -- The order is: program read, program, host read, host, run.
@@ -137,7 +137,7 @@ of_demo_run k said = said
 pub data DemoAnswers (k : DemoCommand) : Said → Type 0 where
   demo_program_is_bad : {f : ProgramFault} → IsFaultyText (demo_program k) f → DemoAnswers k (bad_program f)
   demo_host_is_bad : {p : Program} {rule_names : List Name} {f : HostFault} → TellsProgram (demo_program k) p rule_names → IsHostFault (demo_host k) f →
-      DemoAnswers k (bad_host (demo_host k) f)
+      DemoAnswers k (bad_host f)
   demo_runs : {p : Program} {rule_names : List Name} {g : Graph} {said : Said} → TellsProgram (demo_program k) p rule_names → IsHostText (demo_host k) g →
       Comes demo_bound demo_choices p rule_names g said → DemoAnswers k (of_demo_run k said)
 

@@ -10,10 +10,10 @@ use Rattle.gp_trace.specs.TraceText.{trace_text}
 use Rattle.gp_reader.specs.declared.fault.ProgramFault.{ProgramFault}
 use Rattle.gp_reader.specs.FaultLines.{line_of}
 use Rattle.gp_hostfile.specs.declared.fault.HostFault.{HostFault}
+use Rattle.gp_hostfile.specs.FaultLines as host
 use Rattle.gp_hostfile.specs.GraphText.{IsGraphText}
 use Rattle.gp_gen.specs.declared.kind.Kind.{Kind}
 use Rattle.gp_cli.specs.Summary.{summary_text}
-use Rattle.gp_cli.specs.HostLines.{IsHostLine}
 
 -- an answer, apart from its text
 pub data Said : Type 0 where
@@ -26,8 +26,7 @@ pub data Said : Type 0 where
   long_program : Said
   bad_program : ProgramFault → Said
   long_host : Said
-  -- the bytes of the host's file, and their fault
-  bad_host : List ℕ → HostFault → Said
+  bad_host : HostFault → Said
   bound_spent : ℕ → Said
   -- the name of the rule
   number_fault : Name → NumberKind → Said
@@ -74,7 +73,7 @@ pub data Shows (asked : Bool) : Said → ℕ → List ℕ → List ℕ → List 
   long_program_shown : Shows asked long_program 3 [] [] program_too_long
   bad_program_shown : {f : ProgramFault} → Shows asked (bad_program f) 3 [] [] (line_of f)
   long_host_shown : Shows asked long_host 4 [] [] host_too_long
-  bad_host_shown : {bytes : List ℕ} {f : HostFault} {line : List ℕ} → IsHostLine bytes f line → Shows asked (bad_host bytes f) 4 [] [] line
+  bad_host_shown : {f : HostFault} → Shows asked (bad_host f) 4 [] [] (host.line_of f)
   bound_shown : {bound : ℕ} → Shows asked (bound_spent bound) 5 [] [] (bound_text bound)
   number_shown : {rule : Name} {kind : NumberKind} → Shows asked (number_fault rule kind) 6 [] [] (number_text rule kind)
   unread_shown : {name : Name} → Shows asked (unread name) 8 [] [] (read_text name)

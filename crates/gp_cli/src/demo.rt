@@ -33,7 +33,7 @@ pub(crate) fn demo<'a, R: Threads + Wait + Sync>(
 {
     let texts = generate(alloc, command.kind, command.size, command.seed)?;
     let program = program_of(alloc, &texts.0)?;
-    let graph = host_of(alloc, texts.1)?;
+    let graph = host_of(alloc, &texts.1)?;
     let crew = Crew {
         workers: command.workers,
         fan: command.fan,

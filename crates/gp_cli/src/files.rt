@@ -58,5 +58,5 @@ pub(crate) fn load_host<'a, F: Files>(
     ensures same { (F.known files.new).content ≡ (F.known files.old).content }
 {
     let text = read_file(alloc, files, name, Said::LongHost)?;
-    host_of(alloc, text)
+    host_of(alloc, &text)
 }

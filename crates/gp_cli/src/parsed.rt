@@ -21,13 +21,13 @@ fn program_refused<'a>(fault: ProgramFault) -> Stop<'a>
     }
 }
 
-// The same of a host of these bytes.
-fn host_refused<'a>(bytes: Vec<u8>, fault: HostFault) -> Stop<'a>
-    ensures { result ≡ host_refused bytes fault }
+// The same of a host.
+fn host_refused<'a>(fault: HostFault) -> Stop<'a>
+    ensures { result ≡ host_refused fault }
 {
     match fault {
         HostFault::NoMemory => Stop::NoMemory,
-        other => Stop::Said(Said::BadHost(bytes, other)),
+        other => Stop::Said(Said::BadHost(other)),
     }
 }
 
@@ -42,11 +42,11 @@ pub(crate) fn program_of<'a>(alloc: Global, text: &[u8]) -> Result<Program, Stop
 }
 
 /// The graph of a host's text.
-pub(crate) fn host_of<'a>(alloc: Global, text: Vec<u8>) -> Result<Graph, Stop<'a>>
-    ensures { HostsOrFaults text.items result }
+pub(crate) fn host_of<'a>(alloc: Global, text: &[u8]) -> Result<Graph, Stop<'a>>
+    ensures { HostsOrFaults text.now result }
 {
-    match read_host(alloc, &text) {
+    match read_host(alloc, text) {
         Ok(graph) => Ok(graph),
-        Err(fault) => Err(host_refused(text, fault)),
+        Err(fault) => Err(host_refused(fault)),
     }
 }

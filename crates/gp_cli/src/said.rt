@@ -24,8 +24,7 @@ pub(crate) enum Said<'a> {
     LongProgram,
     BadProgram(ProgramFault),
     LongHost,
-    /// The bytes of the host's file, and their fault.
-    BadHost(Vec<u8>, HostFault),
+    BadHost(HostFault),
     /// The bound that is spent.
     Bound(u64),
     /// The name of the rule that has a faulty match.
@@ -40,10 +39,7 @@ impl Drop for Said<'_> {
         match self {
             Said::Graph(journal) | Said::Fail(journal) | Said::Demo(_, _, journal) => drop(journal),
             Said::BadProgram(fault) => drop(fault),
-            Said::BadHost(bytes, fault) => {
-                drop(bytes);
-                drop(fault);
-            }
+            Said::BadHost(fault) => drop(fault),
             Said::Number(name, _) => drop(name),
             Said::Usage | Said::LongProgram | Said::LongHost | Said::Bound(_) | Said::Unread(_) =>
                 {}

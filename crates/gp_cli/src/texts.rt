@@ -3,20 +3,20 @@
 ghost use Rattle.std.specs.Prelude.{◌≡◌, Bool, [], IfOk, codes};
 ghost use Rattle.std.specs.Fmt.{decimal};
 ghost use Rattle.gp_hostfile.specs.GraphText.{IsGraphText};
+ghost use Rattle.gp_hostfile.specs.FaultLines.{line_of as host_line};
 ghost use Rattle.gp_reader.specs.FaultLines.{line_of};
 ghost use Rattle.gp_cli.specs.Texts.{Shows, graph, failed, demo_done, kind_text, number_text, bound_text, read_text, journal_text};
 ghost use Rattle.gp_cli.specs.inside.Statuses.{status_code};
 ghost use Rattle.gp_cli.specs.inside.Told.{said_of};
 ghost use Rattle.gp_journal.specs.Journal.{items_of};
 
-use crate::host_line::host_line;
 use crate::reply::Reply;
 use crate::said::Said;
 use crate::status::Status;
 use crate::summary_lines::summary;
 use gp_gen::Kind;
 use gp_graph::Graph;
-use gp_hostfile::write_graph;
+use gp_hostfile::{HostFault, write_graph};
 use gp_journal::Journal;
 use gp_memory::NoMemory;
 use gp_reader::ProgramFault;
@@ -68,6 +68,14 @@ fn read_text(alloc: Global, name: &str) -> Result<Vec<u8>, NoMemory>
 
 fn program_line(alloc: Global, fault: &ProgramFault) -> Result<Vec<u8>, NoMemory>
     ensures { IfOk result (λ v. v.items ≡ line_of fault.now) }
+{
+    let mut line = Vec::new(alloc);
+    fault.write_line(alloc, &mut line)?;
+    Ok(line)
+}
+
+fn host_line(alloc: Global, fault: &HostFault) -> Result<Vec<u8>, NoMemory>
+    ensures { IfOk result (λ v. v.items ≡ host_line fault.now) }
 {
     let mut line = Vec::new(alloc);
     fault.write_line(alloc, &mut line)?;
@@ -176,8 +184,8 @@ pub(crate) fn reply_of(alloc: Global, asked: bool, said: &Said<'_>) -> Result<Re
             let text = constant(alloc, b"host: TooLong\n")?;
             Ok(on_err(alloc, Status::Host, text))
         }
-        Said::BadHost(bytes, fault) => {
-            let line = host_line(alloc, bytes, fault)?;
+        Said::BadHost(fault) => {
+            let line = host_line(alloc, fault)?;
             Ok(on_err(alloc, Status::Host, line))
         }
         Said::Bound(bound) => Ok(on_err(alloc, Status::Bound, bound_text(alloc, *bound)?)),

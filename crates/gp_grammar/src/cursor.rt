@@ -2,6 +2,7 @@
 
 ghost use Rattle.std.specs.Prelude.{◌≡◌, length, OnErr, IfErr};
 ghost use Rattle.gp_grammar.specs.Cursor.{Reads, ReadsAs};
+ghost use Rattle.gp_grammar.specs.Ahead as ahead;
 ghost use Rattle.gp_grammar.specs.Reading as spec;
 
 use crate::error::ReadError;
@@ -142,7 +143,7 @@ impl<'s, 't> Tokens<'s, 't> {
 
 /// Whether a token that is what is wanted stands before the next one that stops the search.
 pub fn stands_before(tokens: &[Token<'_>], want: Want, stop: Want) -> bool
-    ensures { result ≡ spec.stands_before want stop tokens.now }
+    ensures { result ≡ ahead.stands_before want stop tokens.now }
 {
     let mut rest = tokens;
     'each: while let [first, after @ ..] = rest {

@@ -5,6 +5,7 @@ use Rattle.std.proofs.lemmas.List.{length-map}
 use Rattle.gp_tokens.specs.declared.fault.LexFault.{LexFault}
 use Rattle.gp_tokens.specs.declared.token.Token.{Token}
 use Rattle.gp_tokens.specs.Lexed.{tokens_of}
+use Rattle.gp_tokens.specs.Lines.{token_line}
 use Rattle.gp_grammar.specs.Grammar.{Made, At, ◌followed_by◌, shape_of}
 use Rattle.gp_grammar.specs.Shape.{one, other, second_of}
 use Rattle.gp_grammar.specs.Signs.{less}
@@ -93,7 +94,7 @@ module _ (bytes : List ℕ) (ts : List Token) (lexed : tokens_of bytes ≡ Ok ts
   checked None f = built f (graph_made (node_names t) t) refl
 
 tree_answer : (bytes : List ℕ) (ts : List Token) → tokens_of bytes ≡ Ok ts → (o : Option HostTree) → all_read (reader_of host ts) ≡ o → HasAnswer bytes
-tree_answer bytes ts h None f = has_fault (faults.Syntax 0) (spec.syntax ts h (unread ts f) (omega arith))
+tree_answer bytes ts h None f = has_fault (faults.Syntax (token_line bytes ts 0)) (spec.syntax ts h (unread ts f) (0, omega arith, refl))
 tree_answer bytes ts h (Some t) f = checked bytes ts h t f (first_fault t) refl
 
 text_answer : (bytes : List ℕ) (r : Result (List Token) LexFault) → tokens_of bytes ≡ r → HasAnswer bytes

@@ -101,7 +101,7 @@ lex_refused bytes (lex_faults.OpenComment at) h = spec.lex h (λ e. cc)
 lex_refused bytes (lex_faults.NumberTooLong at) h = spec.lex h (λ e. cc)
 
 module _ (bytes : List ℕ) (ts : List Token) (lexed : tokens_of bytes ≡ Ok ts) where
-  pub tree_refused : (e : HostFault) → ReadsTree ts (Err e) → IsRefusal bytes e
+  pub tree_refused : (e : HostFault) → ReadsTree bytes ts (Err e) → IsRefusal bytes e
   tree_refused faults.NoMemory h = tt
   tree_refused (faults.Lex x) h = absurd h
   tree_refused (faults.Syntax k) h = spec.syntax ts lexed (unread ts h.0) h.1
@@ -111,7 +111,7 @@ module _ (bytes : List ℕ) (ts : List Token) (lexed : tokens_of bytes ≡ Ok ts
   tree_refused (faults.NoSuchEnd n) h = absurd h
   tree_refused (faults.WrongMark n) h = absurd h
 
-  pub tree_answered : (r : Result HeldTree HostFault) → ReadsTree ts r → ReadsText bytes r
+  pub tree_answered : (r : Result HeldTree HostFault) → ReadsTree bytes ts r → ReadsText bytes r
   tree_answered (Ok t) h = record { tokens = ts; lexed = lexed; read = h }
   tree_answered (Err e) h = tree_refused e h
 
@@ -239,7 +239,7 @@ one_fault bytes _ _ (spec.lex {e = x} h m) (spec.lex {e = y} i n) = inl (ap faul
 one_fault bytes _ _ (spec.lex {e = x} h m) (spec.syntax us i none within) = absurd (different (tokens_of bytes) us x i h)
 one_fault bytes _ f (spec.lex {e = x} h m) (spec.tree us u i shape fault) = absurd (different (tokens_of bytes) us x i h)
 one_fault bytes _ _ (spec.syntax ts h none within) (spec.lex {e = y} i n) = absurd (different (tokens_of bytes) ts y h i)
-one_fault bytes _ _ (spec.syntax {k = j} ts h none within) (spec.syntax {k = k} us i no_tree so) = inr (record { one = j; other = k; one_is = refl; other_is = refl })
+one_fault bytes _ _ (spec.syntax {line = j} ts h none within) (spec.syntax {line = k} us i no_tree so) = inr (record { one = j; other = k; one_is = refl; other_is = refl })
 one_fault bytes _ f (spec.syntax ts h none within) (spec.tree us u i shape fault) = absurd (not_both bytes ts us h i u none shape)
 one_fault bytes e _ (spec.tree ts t h shape fault) (spec.lex {e = y} i n) = absurd (different (tokens_of bytes) ts y h i)
 one_fault bytes e _ (spec.tree ts t h shape fault) (spec.syntax us i none within) = absurd (not_both bytes us ts i h t none shape)

@@ -5,6 +5,7 @@ use Rattle.gp_tokens.specs.declared.fault.LexFault.{LexFault}
 use Rattle.gp_tokens.specs.declared.fault.LexFault.TheVariants as lex_faults
 use Rattle.gp_tokens.specs.declared.token.Token.{Token}
 use Rattle.gp_tokens.specs.Lexed.{tokens_of}
+use Rattle.gp_tokens.specs.Lines.{token_line}
 use Rattle.gp_grammar.specs.Numerals.{signed}
 use Rattle.gp_grammar.specs.Ahead.{◌>>=◌}
 use Rattle.gp_values.specs.declared.atom.Atom.{Atom}
@@ -100,10 +101,14 @@ first_fault t =
     (option_or (option_map faults.NoSuchEnd (first_unknown (node_names t) (end_names t)))
     (option_map faults.WrongMark (first_wrong_mark t)))))
 
--- The first fault of a text.
+-- the line of one of the tokens, or that on which the text ends
+abbrev pub IsLineOfSome : List ℕ → List Token → ℕ → Type 0
+IsLineOfSome bytes tokens line = (k : ℕ) × (k ≤ length tokens) × (line ≡ token_line bytes tokens k)
+
+-- The first fault of a text. It is left open which token a fault of syntax tells the line of.
 pub data IsHostFault (bytes : List ℕ) : HostFault → Type 0 where
   lex : {e : LexFault} → tokens_of bytes ≡ Err e → e ≢ lex_faults.NoMemory → IsHostFault bytes (faults.Lex e)
-  syntax : {k : ℕ} (tokens : List Token) → tokens_of bytes ≡ Ok tokens → ((t : HostTree) → IsHostShape tokens [] t → ⊥) → k ≤ length tokens → IsHostFault bytes (faults.Syntax k)
+  syntax : {line : ℕ} (tokens : List Token) → tokens_of bytes ≡ Ok tokens → ((t : HostTree) → IsHostShape tokens [] t → ⊥) → IsLineOfSome bytes tokens line → IsHostFault bytes (faults.Syntax line)
   tree : {e : HostFault} (tokens : List Token) (t : HostTree) → tokens_of bytes ≡ Ok tokens → IsHostShape tokens [] t → first_fault t ≡ Some e → IsHostFault bytes e
 
 -- ---- graphs
@@ -152,7 +157,7 @@ pub record IsHostText (bytes : List ℕ) (g : HostGraph) : Type 0 where
 abbrev pub IsRefusal : List ℕ → HostFault → Type 0
 IsRefusal bytes faults.NoMemory = Free
 IsRefusal bytes (faults.Lex e) = IsHostFault bytes (faults.Lex e)
-IsRefusal bytes (faults.Syntax k) = IsHostFault bytes (faults.Syntax k)
+IsRefusal bytes (faults.Syntax line) = IsHostFault bytes (faults.Syntax line)
 IsRefusal bytes (faults.NumberRange at) = IsHostFault bytes (faults.NumberRange at)
 IsRefusal bytes (faults.TwoNodes n) = IsHostFault bytes (faults.TwoNodes n)
 IsRefusal bytes (faults.TwoEdges n) = IsHostFault bytes (faults.TwoEdges n)

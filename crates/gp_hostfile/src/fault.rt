@@ -13,8 +13,8 @@ pub enum HostFault {
     /// The text has no tokens, and this is why.
     #[error("{0}")]
     Lex(LexFault),
-    /// The tokens are no host. The number is the place, counted from 0, of a token that fits nothing: at most
-    /// their count.
+    /// The tokens are no host. The number is the line, counted from 1, of a token that fits nothing, or that on which
+    /// the text ends.
     #[error("Syntax {0}")]
     Syntax(u64),
     /// An integer of a label is 2 to the power of 127; the offset of its Number in bytes.

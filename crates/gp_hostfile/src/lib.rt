@@ -2,7 +2,8 @@
 //!
 //! Call `read_host` for the graph of a text, and `write_graph` for the text of a graph. A text goes through these stages:
 //! its tokens, their tree (`grammar`), the tree checked (`check`), and the graph built (`build`); a text that has no
-//! graph is answered with its first fault, `HostFault`, in the order of that enum. What a host text and its graph are
+//! graph is answered with its first fault, `HostFault`, in the order of that enum, whose line `HostFault::write_line`
+//! writes. What a host text and its graph are
 //! stands in specs/Host; that each text has one graph or a fault, and that the text of a graph is read back as that
 //! graph, are the functions of `laws`.
 #![tactic(auto)]
@@ -12,6 +13,7 @@ mod check;
 mod fault;
 mod grammar;
 pub mod laws;
+mod line;
 mod read;
 mod text;
 mod tree;

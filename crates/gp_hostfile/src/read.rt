@@ -1,7 +1,6 @@
 //! Host texts.
 
-ghost use Rattle.std.specs.Prelude.{◌≤◌, length};
-ghost use Rattle.gp_hostfile.specs.Host.{ReadsHost};
+ghost use Rattle.gp_hostfile.specs.Host.{IsLineOfSome, ReadsHost};
 ghost use Rattle.gp_hostfile.specs.inside.Stages.{ReadsTree, ReadsText};
 
 use crate::build::build;
@@ -11,7 +10,7 @@ use crate::grammar::read_host_tree;
 use crate::tree::HostTree;
 use gp_grammar::{ReadError, Tokens};
 use gp_graph::Graph;
-use gp_tokens::{Token, lex};
+use gp_tokens::{Token, lex, line_of_token};
 use std::alloc::Global;
 
 /// The graph of a host text: nodes and edges get their numbers in the order of the text. Any other text is answered
@@ -29,25 +28,30 @@ fn tree_of_text(alloc: Global, text: &[u8]) -> Result<HostTree<'_>, HostFault>
     ensures { ReadsText text.now result }
 {
     let tokens = lex(alloc, text)?;
-    tree_of_tokens(alloc, &tokens)
+    tree_of_tokens(alloc, text, &tokens)
 }
 
-// The tree of all tokens.
-fn tree_of_tokens<'t>(alloc: Global, tokens: &[Token<'t>]) -> Result<HostTree<'t>, HostFault>
-    ensures { ReadsTree tokens.now result }
+// The tree of all tokens of a text.
+fn tree_of_tokens<'t>(
+    alloc: Global,
+    text: &[u8],
+    tokens: &[Token<'t>],
+) -> Result<HostTree<'t>, HostFault>
+    ensures { ReadsTree text.now tokens.now result }
 {
     let mut cursor = Tokens::new(alloc, tokens);
     match read_host_tree(&mut cursor) {
         Ok(tree) if cursor.count() == 0 => Ok(tree),
-        Ok(_) => Err(HostFault::Syntax(place(tokens, cursor.count() as u64))),
-        Err(ReadError::Syntax(left)) => Err(HostFault::Syntax(place(tokens, left))),
+        Ok(_) => Err(HostFault::Syntax(line(text, tokens, cursor.count() as u64))),
+        Err(ReadError::Syntax(left)) => Err(HostFault::Syntax(line(text, tokens, left))),
         Err(ReadError::NoMemory) => Err(HostFault::NoMemory),
     }
 }
 
-// The place of the first of so many tokens at the end.
-fn place(tokens: &[Token<'_>], left: u64) -> u64
-    ensures { result ≤ length tokens.now }
+// The line of the first of so many tokens at the end.
+fn line(text: &[u8], tokens: &[Token<'_>], left: u64) -> u64
+    ensures { IsLineOfSome text.now tokens.now result }
 {
-    (tokens.len() as u64).saturating_sub(left)
+    let place = (tokens.len() as u64).saturating_sub(left);
+    line_of_token(text, tokens, place)
 }

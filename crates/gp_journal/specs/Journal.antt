@@ -7,8 +7,8 @@ use Rattle.gp_syntax.specs.declared.found.Item.{Item}
 use Rattle.gp_syntax.specs.declared.found.Item.TheVariants.{Step, Turn, Back}
 use Rattle.gp_syntax.specs.contracts.found.Item.{the_row as item_row}
 use Rattle.gp_syntax.specs.Tree.{item_of}
-use Rattle.opt_system.specs.declared.answers.Mode.{Mode}
-use Rattle.opt_system.specs.declared.answers.Mode.TheVariants.{Once, Saturate}
+use Rattle.gp_journal.specs.declared.mode.Mode.{Mode}
+use Rattle.gp_journal.specs.declared.mode.Mode.TheVariants.{Once, Saturate}
 use Rattle.gp_journal.specs.Trail.{Trail, trail_code, advanced, back_by, rooted}
 use Rattle.gp_journal.specs.Leads.{Leads}
 

@@ -4,10 +4,10 @@ ghost use Rattle.std.specs.Prelude.{◌≡◌, ◌≤◌, ◌+◌, ◌++◌, ◌
 ghost use Rattle.gp_journal.specs.Journal.{noted};
 ghost use Rattle.gp_journal.specs.inside.Items.{items_each};
 
+use crate::mode::Mode;
 use crate::trail::push_spare;
 use gp_memory::NoMemory;
 use gp_syntax::{Found, Item};
-use opt_system::Mode;
 use std::marker::Model;
 
 /// The items of a journal, with the room for those that take steps back. Contracts see the items, and for how many more

@@ -11,10 +11,11 @@
 mod items;
 mod journal;
 pub mod laws;
+mod mode;
 pub mod sharing;
 mod trail;
 
 pub use items::Items;
 pub use journal::Journal;
-pub use opt_system::Mode;
+pub use mode::Mode;
 pub use trail::Trail;

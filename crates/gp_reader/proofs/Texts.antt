@@ -4,8 +4,7 @@ use Rattle.std.specs.Prelude.{Result}
 use Rattle.gp_tokens.specs.declared.fault.LexFault.{LexFault}
 use Rattle.gp_tokens.specs.declared.fault.LexFault.TheVariants as lex_faults
 use Rattle.gp_tokens.specs.declared.token.Token.{Token}
-use Rattle.gp_tokens.specs.Lexed.{Outcome, tokens_of, Fails}
-use Rattle.gp_tokens.specs.Lines.{token_line, GivesLine}
+use Rattle.gp_tokens.specs.Lexed.{tokens_of, Fails}
 use Rattle.gp_syntax.specs.declared.tree.Ast.{Ast}
 use Rattle.gp_syntax.specs.declared.rule.RuleParts.{RuleParts}
 use Rattle.gp_syntax.specs.declared.command.ProgramParts.{ProgramParts}
@@ -13,6 +12,7 @@ use Rattle.gp_syntax.specs.declared.tree.RuleDecl.{RuleDecl}
 use Rattle.gp_syntax.specs.Tree.{declaration_of, rule_of_tree, program_of_tree}
 use Rattle.gp_syntax.specs.Run.{Program}
 use Rattle.gp_program.specs.declared.parse.ParseFault.{ParseFault}
+use Rattle.gp_program.specs.declared.parse.ParseFault.TheVariants as parse_faults
 use Rattle.gp_program.specs.Program.{ParsesProgram}
 use Rattle.gp_scope.specs.declared.fault.ScopeFault.{ScopeFault}
 use Rattle.gp_scope.specs.declared.fault.ScopeFault.TheVariants as scope_faults
@@ -26,7 +26,7 @@ use Rattle.gp_reader.specs.declared.fault.ProgramFault.{ProgramFault}
 use Rattle.gp_reader.specs.declared.fault.ProgramFault.TheVariants as faults
 use Rattle.gp_reader.specs.Program.{HasTree, IsScopedText, IsProgramText, IsRefusal, ReadsProgram, ReadsRules, declared_rules}
 use Rattle.gp_reader.specs.Program as spec
-use Rattle.gp_reader.specs.inside.Stages.{lex_fault, scope_fault, IsLine, IsTurned, too_deep, syntax, number_range, RefusesRules, AreChecked, ChecksRules, HasScoped}
+use Rattle.gp_reader.specs.inside.Stages.{lex_fault, scope_fault, with_line, RefusesRules, AreChecked, ChecksRules, HasScoped}
 
 -- ---- tokens
 
@@ -37,25 +37,17 @@ lex_refused bytes (lex_faults.OpenString at) h = spec.lex h (λ e. cc)
 lex_refused bytes (lex_faults.OpenComment at) h = spec.lex h (λ e. cc)
 lex_refused bytes (lex_faults.NumberTooLong at) h = spec.lex h (λ e. cc)
 
--- ---- lines
-
-line_told : (bytes : List ℕ) (k line : ℕ) (outcome : Outcome) → GivesLine bytes k (Ok line) outcome → (tokens : List Token) → outcome ≡ Ok tokens → line ≡ token_line bytes tokens k
-line_told bytes k line (Ok others) h tokens e = let same : others ≡ tokens = cc in h ∙ ap (λ ts. token_line bytes ts k) same
-line_told bytes k line (Err f) h tokens e = absurd h
-
-pub is_line : (bytes : List ℕ) (k line : ℕ) → GivesLine bytes k (Ok line) (tokens_of bytes) → IsLine bytes k line
-is_line bytes k line h = line_told bytes k line (tokens_of bytes) h
-
 -- ---- trees
 
 module _ (bytes : List ℕ) (tokens : List Token) (lexed : tokens_of bytes ≡ Ok tokens) where
   pub tree_read : (tree : Ast) → ParsesProgram tokens (Ok tree) → HasTree bytes tree
   tree_read tree h = record { tokens = tokens; has_tokens = record { lexed = lexed; shallow = h.0 }; is_tree = h.1 }
 
-  pub tree_refused : (f : ParseFault) (e : ProgramFault) → IsTurned bytes f e → ParsesProgram tokens (Err f) → IsRefusal bytes e
-  tree_refused _ _ (too_deep {k} {line} l) h = subst (λ n. spec.IsFaultyText bytes (faults.TooDeep n)) (sym (l tokens lexed)) (spec.too_deep tokens k lexed h)
-  tree_refused _ _ (syntax {k} {line} l) h = subst (λ n. spec.IsFaultyText bytes (faults.Syntax n)) (sym (l tokens lexed)) (spec.syntax tokens k (record { lexed = lexed; shallow = h.0 }) h.1)
-  tree_refused _ _ (number_range {k} {line} l) h = subst (λ n. spec.IsFaultyText bytes (faults.NumberRange n)) (sym (l tokens lexed)) (spec.number_range tokens k (record { lexed = lexed; shallow = h.0 }) h.1)
+  pub tree_refused : (f : ParseFault) → ParsesProgram tokens (Err f) → IsRefusal bytes (with_line bytes tokens f)
+  tree_refused (parse_faults.TooDeep k) h = spec.too_deep tokens k lexed h
+  tree_refused (parse_faults.Syntax k) h = spec.syntax tokens k (record { lexed = lexed; shallow = h.0 }) h.1
+  tree_refused (parse_faults.NumberRange k) h = spec.number_range tokens k (record { lexed = lexed; shallow = h.0 }) h.1
+  tree_refused parse_faults.NoMemory h = tt
 
 -- ---- names and calls
 

@@ -1,22 +1,13 @@
 -- The line that names why a program is refused: `program: `, the fault, and a line feed.
 use Rattle.std.specs.Prelude.{ℕ, List, ◌++◌, codes}
 use Rattle.std.specs.Fmt.{decimal}
-use Rattle.gp_tokens.specs.declared.fault.LexFault.{LexFault}
-use Rattle.gp_tokens.specs.declared.fault.LexFault.TheVariants as lex_faults
+use Rattle.gp_tokens.specs.FaultText.{lex_text}
 use Rattle.gp_scope.specs.declared.fault.ScopeFault.{ScopeFault}
 use Rattle.gp_scope.specs.declared.fault.ScopeFault.TheVariants as scope_faults
 use Rattle.gp_check.specs.declared.fault.RuleFault.{RuleFault}
 use Rattle.gp_check.specs.declared.fault.RuleFault.TheVariants as rule_faults
 use Rattle.gp_reader.specs.declared.fault.ProgramFault.{ProgramFault}
 use Rattle.gp_reader.specs.declared.fault.ProgramFault.TheVariants as faults
-
--- why a text has no tokens, with its offset
-abbrev pub lex_text : LexFault → List ℕ
-lex_text (lex_faults.BadByte at) = codes "BadByte " ++ decimal at
-lex_text (lex_faults.OpenString at) = codes "OpenString " ++ decimal at
-lex_text (lex_faults.OpenComment at) = codes "OpenComment " ++ decimal at
-lex_text (lex_faults.NumberTooLong at) = codes "NumberTooLong " ++ decimal at
-lex_text lex_faults.NoMemory = codes "NoMemory"
 
 -- what is wrong with names and calls
 abbrev pub scope_text : ScopeFault → List ℕ

@@ -2,14 +2,13 @@
 
 ghost use Rattle.std.specs.Prelude.{◌≡◌, ◌++◌, IfOk, OnErr, OnOk};
 ghost use Rattle.std.specs.Fmt.{decimal};
-ghost use Rattle.gp_reader.specs.FaultLines.{fault_text, lex_text, line_of, rule_text, scope_text};
+ghost use Rattle.gp_reader.specs.FaultLines.{fault_text, line_of, rule_text, scope_text};
 
 use crate::fault::ProgramFault;
 use gp_check::RuleFault;
 use gp_memory::NoMemory;
 use gp_scope::ScopeFault;
 use gp_syntax::Name;
-use gp_tokens::LexFault;
 use itoa::Buffer;
 use std::alloc::Global;
 
@@ -61,7 +60,7 @@ fn write_fault(fault: &ProgramFault, text: &mut Vec<u8>) -> Result<(), NoMemory>
     ensures { OnOk result (text.new.items ≡ text.old.items ++ fault_text fault.now) }
 {
     match fault {
-        ProgramFault::Lex(fault) => write_lex(fault, text),
+        ProgramFault::Lex(fault) => fault.write_text(text),
         ProgramFault::TooDeep { line } => write_number(b"TooDeep line ", *line, text),
         ProgramFault::Syntax { line } => write_number(b"Syntax line ", *line, text),
         ProgramFault::NumberRange { line } => write_number(b"NumberRange line ", *line, text),
@@ -72,18 +71,6 @@ fn write_fault(fault: &ProgramFault, text: &mut Vec<u8>) -> Result<(), NoMemory>
             write_rule(fault, text)
         }
         ProgramFault::NoMemory => write(b"NoMemory", text),
-    }
-}
-
-fn write_lex(fault: &LexFault, text: &mut Vec<u8>) -> Result<(), NoMemory>
-    ensures { OnOk result (text.new.items ≡ text.old.items ++ lex_text fault.now) }
-{
-    match fault {
-        LexFault::BadByte(at) => write_number(b"BadByte ", *at, text),
-        LexFault::OpenString(at) => write_number(b"OpenString ", *at, text),
-        LexFault::OpenComment(at) => write_number(b"OpenComment ", *at, text),
-        LexFault::NumberTooLong(at) => write_number(b"NumberTooLong ", *at, text),
-        LexFault::NoMemory => write(b"NoMemory", text),
     }
 }
 

@@ -1,12 +1,11 @@
 //! Program texts.
 
-ghost use Rattle.std.specs.Prelude.{IfOk};
+ghost use Rattle.std.specs.Prelude.{◌≡◌};
 ghost use Rattle.gp_reader.specs.Program.{IsRefusal, ReadsProgram, ReadsRules};
-ghost use Rattle.gp_reader.specs.inside.Stages.{IsLine, IsParsed, IsTurned, ReadsScoped, ReadsTree};
+ghost use Rattle.gp_reader.specs.inside.Stages.{IsParsed, ReadsScoped, ReadsTree, with_line};
 
 use crate::fault::ProgramFault;
 use crate::rules::checked_rules;
-use gp_memory::NoMemory;
 use gp_program::{ParseFault, parse_program};
 use gp_resolve::{Scoped, resolve};
 use gp_syntax::{Ast, Items, Program, Rule};
@@ -52,37 +51,27 @@ fn tree_of_tokens(alloc: Global, bytes: &[u8], tokens: &[Token<'_>]) -> Result<A
 {
     match parse_program(alloc, tokens) {
         Ok(tree) => Ok(tree),
-        Err(fault) => Err(fault_of_text(alloc, bytes, fault)?),
+        Err(fault) => Err(fault_of_text(bytes, tokens, fault)),
     }
 }
 
 // The fault of a text by that of its tokens: with a line in place of a token's number.
-fn fault_of_text(alloc: Global, bytes: &[u8], fault: ParseFault) -> Result<ProgramFault, NoMemory>
-    ensures { IfOk result (λ e. IsTurned bytes.now fault e) }
+fn fault_of_text(bytes: &[u8], tokens: &[Token<'_>], fault: ParseFault) -> ProgramFault
+    ensures { result ≡ with_line bytes.now tokens.now fault }
 {
     match fault {
         ParseFault::TooDeep(place) => {
-            let line = line(alloc, bytes, place)?;
-            Ok(ProgramFault::TooDeep { line })
+            let line = line_of_token(bytes, tokens, place);
+            ProgramFault::TooDeep { line }
         }
         ParseFault::Syntax(place) => {
-            let line = line(alloc, bytes, place)?;
-            Ok(ProgramFault::Syntax { line })
+            let line = line_of_token(bytes, tokens, place);
+            ProgramFault::Syntax { line }
         }
         ParseFault::NumberRange(place) => {
-            let line = line(alloc, bytes, place)?;
-            Ok(ProgramFault::NumberRange { line })
+            let line = line_of_token(bytes, tokens, place);
+            ProgramFault::NumberRange { line }
         }
-        ParseFault::NoMemory => Err(NoMemory),
-    }
-}
-
-// The line of a token of a text that has tokens.
-fn line(alloc: Global, bytes: &[u8], place: u64) -> Result<u64, NoMemory>
-    ensures { IfOk result (λ line. IsLine bytes.now place line) }
-{
-    match line_of_token(alloc, bytes, place) {
-        Ok(line) => Ok(line),
-        Err(_) => Err(NoMemory),
+        ParseFault::NoMemory => ProgramFault::NoMemory,
     }
 }

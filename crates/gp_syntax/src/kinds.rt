@@ -1,5 +1,6 @@
 //! The types of variables, the comparisons, and why an expression may have no value.
 
+ghost use Rattle.std.specs.Prelude.{◌≡◌};
 ghost use Rattle.gp_syntax.specs.Value.{is_of};
 
 use gp_values::Atom;

@@ -24,7 +24,8 @@ use Rattle.opt_core.specs.Core.{Core, Legal, IsUsed, reached, AllApply}
 use Rattle.opt_worker.specs.Replica.{IsReplica}
 use Rattle.gp_journal.specs.Trail.{Trail, root_of, rooted, fresh, led, advanced}
 use Rattle.gp_journal.specs.Leads.{StepsBy, Goes, Leads}
-use Rattle.gp_journal.specs.Journal.{items_of, noted, IsJournalOf}
+use Rattle.gp_journal.specs.Journal.{items_of, IsJournalOf}
+use Rattle.gp_system.specs.inside.Noted.{noted}
 use Rattle.gp_journal.proofs.Replays.{caught_back}
 use Rattle.gp_system.specs.declared.goal.CallGoal.{CallGoal}
 use Rattle.gp_system.specs.declared.goal.Fault.{Fault}

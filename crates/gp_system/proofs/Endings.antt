@@ -24,7 +24,8 @@ use Rattle.opt_core.specs.declared.event.Ending.{Ending}
 use Rattle.opt_core.specs.declared.event.Ending.TheVariants as ending
 use Rattle.opt_core.specs.Core.{reached, AllApply, IsLegal}
 use Rattle.gp_journal.specs.Trail.{Trail, root_of, advanced}
-use Rattle.gp_journal.specs.Journal.{items_of, noted}
+use Rattle.gp_journal.specs.Journal.{items_of}
+use Rattle.gp_system.specs.inside.Noted.{noted}
 use Rattle.gp_run.specs.Engine.{View, Adds, MakesCall, IsSpent, HasFaulty, HasCalled, HasRepeated, HasTurned, TurnMade}
 use Rattle.gp_run.specs.declared.engine.Turned.TheVariants as turned
 use Rattle.gp_run.specs.declared.engine.Repeated.{Repeated}

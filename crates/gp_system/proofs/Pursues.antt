@@ -7,7 +7,7 @@ use Rattle.gp_syntax.specs.Tree.{rule_of_tree}
 use Rattle.gp_syntax.specs.WellFormed.{IsWellFormed}
 use Rattle.gp_step.specs.Laws.{IsNumbered}
 use Rattle.gp_journal.specs.Trail.{Trail}
-use Rattle.gp_journal.specs.Journal.{noted}
+use Rattle.gp_system.specs.inside.Noted.{noted}
 use Rattle.opt_core.specs.declared.event.Ending.{Ending}
 use Rattle.gp_system.specs.declared.goal.CallGoal.{CallGoal}
 use Rattle.gp_system.specs.declared.goal.Fault.{Fault}

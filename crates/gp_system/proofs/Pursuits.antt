@@ -20,7 +20,8 @@ use Rattle.opt_system.specs.declared.answers.Mode.TheVariants.{Once, Saturate}
 use Rattle.opt_core.specs.Core.{reached, AllApply}
 use Rattle.gp_journal.specs.Trail.{Trail, root_of, led_by, advanced}
 use Rattle.gp_journal.specs.Leads.{AppliesBy, Goes, Leads}
-use Rattle.gp_journal.specs.Journal.{items_of, noted}
+use Rattle.gp_journal.specs.Journal.{items_of}
+use Rattle.gp_system.specs.inside.Noted.{noted}
 use Rattle.gp_system.specs.declared.goal.CallGoal.{CallGoal}
 use Rattle.gp_system.specs.Gp.{RuleSystem, rules_of, has, judged_by, judged_in, gp_means}
 use Rattle.gp_system.specs.Laws.{EntriesAreCalls}

@@ -3,5 +3,6 @@ pub mod Among
 pub mod Viewed
 pub mod Planned
 pub mod Laws
+pub mod Noted
 pub mod Pursued
 pub mod Finishing

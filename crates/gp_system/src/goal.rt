@@ -1,7 +1,7 @@
 //! Goals of calls.
 
-use gp_journal::Mode;
 use gp_syntax::NumberKind;
+use opt_system::Mode;
 
 /// The call of a rule set, by its number, and how often its matches are taken.
 #[derive(Clone, Copy)]

@@ -5,16 +5,18 @@ ghost use Rattle.gp_syntax.specs.Tree.{rule_of_tree};
 ghost use Rattle.gp_syntax.specs.WellFormed.{IsWellFormed};
 ghost use Rattle.gp_journal.specs.Trail.{Trail as AnyTrail};
 ghost use Rattle.gp_journal.specs.Leads.{Leads};
-ghost use Rattle.gp_journal.specs.Journal.{items_of, noted};
+ghost use Rattle.gp_journal.specs.Journal.{items_of};
+ghost use Rattle.gp_system.specs.inside.Noted.{noted};
 ghost use Rattle.gp_system.specs.inside.Pursued.{IsPursued, IsBehind, HasUsed, noted_but_last_turn};
 
 use crate::goal::{CallGoal, Fault};
 use crate::gp::Gp;
-use gp_journal::{Items, Mode, Trail};
+use gp_journal::{Items, Mode as Noting, Trail};
 use gp_memory::NoMemory;
 use gp_syntax::{Found, Item, Rule};
 use opt_core::{Core, Ending};
 use opt_crew::pursue;
+use opt_system::Mode;
 use opt_worker::{Pace, follow};
 use std::alloc::Global;
 use std::sync::Wait;
@@ -159,8 +161,8 @@ fn note_but_last_turn(items: &mut Items, entries: Vec<Found>) -> Result<(), NoMe
         Some(found) => last.push(found)?,
         None => return Ok(()),
     }
-    items.note(entries, Mode::Saturate)?;
-    items.note(last, Mode::Once)
+    items.note(entries, Noting::Saturate)?;
+    items.note(last, Noting::Once)
 }
 
 /// Puts the items of the matches that were taken at the end, as many as were used: where none was left for the turn after
@@ -176,12 +178,12 @@ pub(crate) fn note_used(
     ensures backs { items.new.backs ≡ items.old.backs }
 {
     match mode {
-        Mode::Once => items.note(entries, Mode::Once),
+        Mode::Once => items.note(entries, Noting::Once),
         Mode::Saturate => {
             if used % 2 == 1 {
                 return note_but_last_turn(items, entries);
             }
-            items.note(entries, Mode::Saturate)
+            items.note(entries, Noting::Saturate)
         }
     }
 }

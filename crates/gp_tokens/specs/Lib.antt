@@ -7,4 +7,5 @@ pub mod Front
 pub mod Lexed
 pub mod Cut
 pub mod Lines
+pub mod FaultText
 pub mod Laws

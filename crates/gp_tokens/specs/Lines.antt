@@ -1,8 +1,6 @@
 -- The lines of a text, counted from 1.
-use Rattle.std.specs.Prelude.{◌≡◌, ℕ, ◌+◌, Bool, ◌==◌, List, length, take, count_by, Option, Some, None, slice_get, Result, Ok, Err}
-use Rattle.gp_tokens.specs.declared.fault.LexFault.{LexFault}
+use Rattle.std.specs.Prelude.{ℕ, ◌+◌, Bool, ◌==◌, List, length, take, count_by, Option, Some, None, slice_get}
 use Rattle.gp_tokens.specs.declared.token.Token.{Token}
-use Rattle.gp_tokens.specs.Lexed.{Outcome, Fails}
 
 abbrev pub is_line_feed : ℕ → Bool
 is_line_feed b = b == 10
@@ -19,9 +17,3 @@ start_of text None = length text
 -- the line of the token at this place, counted from 0; past the last token it is the line on which the text ends
 abbrev pub token_line : List ℕ → List Token → ℕ → ℕ
 token_line text tokens place = line_at text (start_of text (slice_get tokens place))
-
--- the result is the line in a text of this outcome, or what the text has no tokens for
-abbrev pub GivesLine : List ℕ → ℕ → Result ℕ LexFault → Outcome → Type 0
-GivesLine text place (Ok line) (Ok tokens) = line ≡ token_line text tokens place
-GivesLine text place (Ok line) (Err fault) = ⊥
-GivesLine text place (Err e) outcome = Fails e outcome

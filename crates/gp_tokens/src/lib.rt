@@ -1,6 +1,7 @@
 //! The tokens of texts: of programs and hosts alike.
 //!
-//! Call `lex` first: it answers the tokens of a text in order, or its first fault, and `line_of_token` the line of one.
+//! Call `lex` first: it answers the tokens of a text in order, or its first fault (whose text `LexFault::write_text`
+//! writes), and `line_of_token` the line of one.
 //! A token tells its kind, its offset and its bytes, whether it may name a thing, and the value of a number.
 //! What the tokens of a text are, and what its first fault is, `specs/Cut` says, over the classes of bytes, the signs
 //! and the words of `specs/Bytes`, `Signs` and `Words`. Each text has one cut into tokens or one first fault, and
@@ -9,6 +10,7 @@
 
 mod cut;
 mod fault;
+mod fault_text;
 mod front;
 mod keyword;
 pub mod laws;

@@ -1,23 +1,16 @@
 //! The lines on which tokens stand.
 
 ghost use Rattle.std.specs.Prelude.{◌≡◌, ◌≤◌, length, count_by, slice_get};
-ghost use Rattle.gp_tokens.specs.Lexed.{tokens_of};
-ghost use Rattle.gp_tokens.specs.Lines.{GivesLine, is_line_feed, line_at, start_of};
+ghost use Rattle.gp_tokens.specs.Lines.{is_line_feed, line_at, start_of, token_line};
 
-use crate::cut::lex;
-use crate::fault::LexFault;
 use crate::token::Token;
-use std::alloc::Global;
 
-/// The line, counted from 1, on which the token at this place stands. Places are counted from 0, and past the last
-/// token it is the line on which the text ends. The text is cut into tokens again, and where it has none, the answer
-/// is that of `lex`.
-pub fn line_of_token(alloc: Global, text: &[u8], place: u64) -> Result<u64, LexFault>
-    ensures { GivesLine text.now place result (tokens_of text.now) }
+/// The line, counted from 1, on which the token of the text at this place stands. Places are counted from 0, and past the
+/// last token it is the line on which the text ends.
+pub fn line_of_token(text: &[u8], tokens: &[Token<'_>], place: u64) -> u64
+    ensures { result ≡ token_line text.now tokens.now place }
 {
-    let tokens = lex(alloc, text)?;
-    let start = start_of(text, &tokens, place);
-    Ok(line_at(text, start))
+    line_at(text, start_of(text, tokens, place))
 }
 
 fn start_of(text: &[u8], tokens: &[Token<'_>], place: u64) -> usize

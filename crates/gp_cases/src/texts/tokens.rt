@@ -19,8 +19,8 @@ pub(crate) fn answer(alloc: Global, fields: &[Vec<u8>], out: &mut Answer) {
 
 /// The line on which a token of a text stands.
 pub(crate) fn line(alloc: Global, fields: &[Vec<u8>], out: &mut Answer) {
-    match line_of_token(alloc, field(fields, 0), number(fields, 1)) {
-        Ok(line) => out.number(line),
+    match lex(alloc, field(fields, 0)) {
+        Ok(tokens) => out.number(line_of_token(field(fields, 0), &tokens, number(fields, 1))),
         Err(fault) => out.show(&fault),
     }
 }

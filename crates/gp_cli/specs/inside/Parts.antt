@@ -47,7 +47,7 @@ TellsOrFaults bytes (Err stops.NoMemory) = Free
 -- a host of the bytes, or its first fault
 abbrev pub HostsOrFaults : List ℕ → Result Graph Stop → Type 0
 HostsOrFaults bytes (Ok g) = IsHostText bytes g.graph
-HostsOrFaults bytes (Err (stops.Said s)) = (f : HostFault) × (said_of s ≡ texts.bad_host bytes f) × IsHostFault bytes f
+HostsOrFaults bytes (Err (stops.Said s)) = (f : HostFault) × (said_of s ≡ texts.bad_host f) × IsHostFault bytes f
 HostsOrFaults bytes (Err stops.NoMemory) = Free
 
 abbrev pub LoadsProgram : KnownFiles → KnownFiles → Name → Result ProgramParts Stop → Type 0

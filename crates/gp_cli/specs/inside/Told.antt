@@ -3,9 +3,7 @@ use Rattle.gp_journal.specs.Journal.{items_of}
 use Rattle.gp_cli.specs.declared.said.Said.{Said}
 use Rattle.gp_cli.specs.declared.said.Said.TheVariants as code
 use Rattle.gp_cli.specs.Texts as texts
-use Rattle.std.specs.Prelude.{◌≡◌, ℕ, Result, Ok, Err}
-use Rattle.std.specs.declared.vec.Vec.{Vec}
-use Rattle.std.specs.declared.alloc.Global.{Global}
+use Rattle.std.specs.Prelude.{◌≡◌, Result, Ok, Err}
 use Rattle.gp_reader.specs.declared.fault.ProgramFault.{ProgramFault}
 use Rattle.gp_reader.specs.declared.fault.ProgramFault.TheVariants as program
 use Rattle.gp_hostfile.specs.declared.fault.HostFault.{HostFault}
@@ -21,7 +19,7 @@ said_of code.Usage = texts.usage
 said_of code.LongProgram = texts.long_program
 said_of (code.BadProgram f) = texts.bad_program f
 said_of code.LongHost = texts.long_host
-said_of (code.BadHost bytes f) = texts.bad_host bytes.items f
+said_of (code.BadHost f) = texts.bad_host f
 said_of (code.Bound n) = texts.bound_spent n
 said_of (code.Number name kind) = texts.number_fault name kind
 said_of (code.Unread name) = texts.unread name.now
@@ -36,16 +34,16 @@ program_refused (program.Scope e) = stops.Said (code.BadProgram (program.Scope e
 program_refused (program.Rule name e) = stops.Said (code.BadProgram (program.Rule name e))
 program_refused program.NoMemory = stops.NoMemory
 
--- of a host of these bytes
-abbrev pub host_refused : Vec ℕ Global → HostFault → Stop
-host_refused bytes (host.Lex e) = stops.Said (code.BadHost bytes (host.Lex e))
-host_refused bytes (host.Syntax k) = stops.Said (code.BadHost bytes (host.Syntax k))
-host_refused bytes (host.NumberRange at) = stops.Said (code.BadHost bytes (host.NumberRange at))
-host_refused bytes (host.TwoNodes name) = stops.Said (code.BadHost bytes (host.TwoNodes name))
-host_refused bytes (host.TwoEdges name) = stops.Said (code.BadHost bytes (host.TwoEdges name))
-host_refused bytes (host.NoSuchEnd name) = stops.Said (code.BadHost bytes (host.NoSuchEnd name))
-host_refused bytes (host.WrongMark name) = stops.Said (code.BadHost bytes (host.WrongMark name))
-host_refused bytes host.NoMemory = stops.NoMemory
+-- of a host
+abbrev pub host_refused : HostFault → Stop
+host_refused (host.Lex e) = stops.Said (code.BadHost (host.Lex e))
+host_refused (host.Syntax k) = stops.Said (code.BadHost (host.Syntax k))
+host_refused (host.NumberRange at) = stops.Said (code.BadHost (host.NumberRange at))
+host_refused (host.TwoNodes name) = stops.Said (code.BadHost (host.TwoNodes name))
+host_refused (host.TwoEdges name) = stops.Said (code.BadHost (host.TwoEdges name))
+host_refused (host.NoSuchEnd name) = stops.Said (code.BadHost (host.NoSuchEnd name))
+host_refused (host.WrongMark name) = stops.Said (code.BadHost (host.WrongMark name))
+host_refused host.NoMemory = stops.NoMemory
 
 -- this is answered, and not want of memory
 abbrev pub IsAnswer : Result Said Stop → texts.Said → Type 0

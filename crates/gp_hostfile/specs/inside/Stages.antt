@@ -15,7 +15,7 @@ use Rattle.gp_hostfile.specs.declared.tree.HostTree.{HostTree as HeldTree}
 use Rattle.gp_hostfile.specs.declared.fault.HostFault.{HostFault}
 use Rattle.gp_hostfile.specs.declared.fault.HostFault.TheVariants as faults
 use Rattle.gp_hostfile.specs.Grammar.{HostTree, host}
-use Rattle.gp_hostfile.specs.Host.{atoms_of, node_mark, edge_mark, unless, first_found, out_of_range, IsRefusal}
+use Rattle.gp_hostfile.specs.Host.{atoms_of, node_mark, edge_mark, unless, first_found, out_of_range, IsLineOfSome, IsRefusal}
 use Rattle.gp_memory.specs.Free.{Free}
 
 -- ---- answers
@@ -68,17 +68,17 @@ all_read (Some (t, [])) = Some t
 all_read (Some (t, u ∷ us)) = None
 all_read None = None
 
--- the answer is the tree of all tokens, or a place where there is none
-abbrev pub ReadsTree : List Token → Result HeldTree HostFault → Type 0
-ReadsTree tokens (Ok t) = all_read (reader_of host tokens) ≡ Some (tree_in t)
-ReadsTree tokens (Err faults.NoMemory) = Free
-ReadsTree tokens (Err (faults.Lex e)) = ⊥
-ReadsTree tokens (Err (faults.Syntax k)) = (all_read (reader_of host tokens) ≡ None) × (k ≤ length tokens)
-ReadsTree tokens (Err (faults.NumberRange at)) = ⊥
-ReadsTree tokens (Err (faults.TwoNodes n)) = ⊥
-ReadsTree tokens (Err (faults.TwoEdges n)) = ⊥
-ReadsTree tokens (Err (faults.NoSuchEnd n)) = ⊥
-ReadsTree tokens (Err (faults.WrongMark n)) = ⊥
+-- the answer is the tree of all tokens of a text, or a line where there is none
+abbrev pub ReadsTree : List ℕ → List Token → Result HeldTree HostFault → Type 0
+ReadsTree bytes tokens (Ok t) = all_read (reader_of host tokens) ≡ Some (tree_in t)
+ReadsTree bytes tokens (Err faults.NoMemory) = Free
+ReadsTree bytes tokens (Err (faults.Lex e)) = ⊥
+ReadsTree bytes tokens (Err (faults.Syntax line)) = (all_read (reader_of host tokens) ≡ None) × IsLineOfSome bytes tokens line
+ReadsTree bytes tokens (Err (faults.NumberRange at)) = ⊥
+ReadsTree bytes tokens (Err (faults.TwoNodes n)) = ⊥
+ReadsTree bytes tokens (Err (faults.TwoEdges n)) = ⊥
+ReadsTree bytes tokens (Err (faults.NoSuchEnd n)) = ⊥
+ReadsTree bytes tokens (Err (faults.WrongMark n)) = ⊥
 
 -- the text has these tokens, and they this tree
 pub record HasTree (bytes : List ℕ) (t : HostTree) : Type 0 where

@@ -1,7 +1,7 @@
 -- How many items a match takes.
 use Rattle.std.specs.Prelude.{ℕ}
-use Rattle.opt_system.specs.declared.answers.Mode.{Mode}
-use Rattle.opt_system.specs.declared.answers.Mode.TheVariants.{Once, Saturate}
+use Rattle.gp_journal.specs.declared.mode.Mode.{Mode}
+use Rattle.gp_journal.specs.declared.mode.Mode.TheVariants.{Once, Saturate}
 
 abbrev pub items_each : Mode → ℕ
 items_each Once = 1

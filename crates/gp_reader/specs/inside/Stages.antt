@@ -58,15 +58,12 @@ rule_fault name rule_faults.BadMark = faults.Rule name rule_faults.BadMark
 rule_fault name (rule_faults.BadBidi n) = faults.Rule name (rule_faults.BadBidi n)
 rule_fault name rule_faults.NoMemory = faults.NoMemory
 
--- the line of a token of a text that has tokens
-abbrev pub IsLine : List ℕ → ℕ → ℕ → Type 0
-IsLine bytes k line = (tokens : List Token) → tokens_of bytes ≡ Ok tokens → line ≡ token_line bytes tokens k
-
--- the same fault of tokens, with the line of the token
-pub data IsTurned (bytes : List ℕ) : ParseFault → ProgramFault → Type 0 where
-  too_deep : {k line : ℕ} → IsLine bytes k line → IsTurned bytes (parse_faults.TooDeep k) (faults.TooDeep line)
-  syntax : {k line : ℕ} → IsLine bytes k line → IsTurned bytes (parse_faults.Syntax k) (faults.Syntax line)
-  number_range : {k line : ℕ} → IsLine bytes k line → IsTurned bytes (parse_faults.NumberRange k) (faults.NumberRange line)
+-- the fault of a text by that of its tokens: with the line of the token
+abbrev pub with_line : List ℕ → List Token → ParseFault → ProgramFault
+with_line bytes tokens (parse_faults.TooDeep k) = faults.TooDeep (token_line bytes tokens k)
+with_line bytes tokens (parse_faults.Syntax k) = faults.Syntax (token_line bytes tokens k)
+with_line bytes tokens (parse_faults.NumberRange k) = faults.NumberRange (token_line bytes tokens k)
+with_line bytes tokens parse_faults.NoMemory = faults.NoMemory
 
 -- ---- what the stages answer
 

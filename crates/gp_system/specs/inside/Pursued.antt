@@ -9,7 +9,8 @@ use Rattle.gp_syntax.specs.WellFormed.{IsWellFormed}
 use Rattle.gp_step.specs.Laws.{IsNumbered}
 use Rattle.gp_journal.specs.Trail.{Trail, root_of, fresh}
 use Rattle.gp_journal.specs.Leads.{Leads}
-use Rattle.gp_journal.specs.Journal.{items_of, noted}
+use Rattle.gp_journal.specs.Journal.{items_of}
+use Rattle.gp_system.specs.inside.Noted.{noted}
 use Rattle.gp_run.specs.declared.engine.Called.{Called}
 use Rattle.gp_run.specs.declared.engine.Called.TheVariants as called
 use Rattle.opt_system.specs.declared.answers.Mode.{Mode}

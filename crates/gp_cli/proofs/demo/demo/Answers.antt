@@ -17,11 +17,11 @@ pub returns-in_err-graph : goal.returns-in_err-graph
 returns-in_err-graph g c =
     let p = err_from_is_err_and c.from_residual-in_err-graph.result c.from_residual-in_err-graph.ensures.1 in
     let t = rw (c.deref.ensures.value, c.in_ok-texts.ensures.program) at c.in_ok-program.ensures in
-    let h = subst (λ (b : List ℕ). HostsOrFaults b (Err c.in_err-graph.field-0.0)) c.in_ok-texts.ensures.host c.in_err-graph.ensures in
+    let h = subst (λ (b : List ℕ). HostsOrFaults b (Err c.in_err-graph.field-0.0)) (c.deref-2.ensures.value ∙ c.in_ok-texts.ensures.host) c.in_err-graph.ensures in
     rw (p.1, p.2) (demo_host_stops (demo_now c.args.command) _ _ t h)
 
 pub returns : goal.returns
 returns g c =
     let t = rw (c.deref.ensures.value, c.in_ok-texts.ensures.program) at c.in_ok-program.ensures in
-    let h = rw c.in_ok-texts.ensures.host at c.in_ok-graph.ensures in
+    let h = rw (c.deref-2.ensures.value, c.in_ok-texts.ensures.host) at c.in_ok-graph.ensures in
     subst (DemoAnswers (demo_now c.args.command)) (sym c.into_demo.ensures) (demo_runs t h c.in_ok-said.ensures)

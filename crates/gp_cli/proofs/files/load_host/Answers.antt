@@ -8,4 +8,4 @@ returns-in_err-text-clause-loads g c =
     rw (p.1, p.2) (host_stops _ _ _ _ c.in_err-text.ensures.reads)
 
 pub returns-clause-loads : goal.returns-clause-loads
-returns-clause-loads g c = host_loads _ _ _ _ _ c.in_ok-text.ensures.reads c.host_of.ensures
+returns-clause-loads g c = host_loads _ _ _ _ _ c.in_ok-text.ensures.reads (rw c.deref.ensures.value at c.host_of.ensures)

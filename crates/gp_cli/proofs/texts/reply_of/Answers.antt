@@ -39,5 +39,4 @@ returns-in_ok-read_text-in-Unread c =
 pub returns-in_ok-line-in-BadHost : goal.returns-in_ok-line-in-BadHost
 returns-in_ok-line-in-BadHost c =
     let r = c.on_err-in-BadHost.ensures in
-    let l = rw c.deref.ensures.value at c.in_ok-line-in-BadHost.ensures in
-    rw (c.in-BadHost.is, r.status, r.journal, r.text, r.err) (bad_host_shown l)
+    rw (c.in-BadHost.is, r.status, r.journal, r.text, r.err, c.in_ok-line-in-BadHost.ensures) bad_host_shown

@@ -13,4 +13,4 @@ returns-in_err-tokens c =
 pub returns : goal.returns
 returns c =
     tree_answered c.args.text.now c.in_ok-tokens.tokens.items c.in_ok-tokens.ensures.gives c.tree_of_tokens.result
-    (subst (λ (ts : List Token). ReadsTree ts c.tree_of_tokens.result) c.deref.ensures.value c.tree_of_tokens.ensures)
+    (subst (λ (ts : List Token). ReadsTree c.args.text.now ts c.tree_of_tokens.result) c.deref.ensures.value c.tree_of_tokens.ensures)

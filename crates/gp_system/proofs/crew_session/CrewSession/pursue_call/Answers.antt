@@ -4,7 +4,8 @@ use Rattle.gp_syntax.specs.declared.found.Item.{Item}
 use Rattle.gp_syntax.specs.Tree.{rule_of_tree}
 use Rattle.gp_journal.specs.Trail.{rooted}
 use Rattle.gp_journal.specs.Leads.{Leads}
-use Rattle.gp_journal.specs.Journal.{items_of, noted, Kept}
+use Rattle.gp_journal.specs.Journal.{items_of, Kept}
+use Rattle.gp_system.specs.inside.Noted.{noted}
 use Rattle.gp_system.specs.inside.Viewed.{Shown}
 use Rattle.gp_system.proofs.Crews.{way_all, led_on, settled_on, crewed_put, used_now}
 use Rattle.gp_system.proofs.Pursues.{pursued_put}
