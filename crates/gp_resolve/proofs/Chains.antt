@@ -7,7 +7,7 @@ use Rattle.gp_syntax.specs.Run.{Command, Program}
 use Rattle.gp_syntax.specs.Scoped.{procedures_in, CallsProcedure, IsChain, ReachesProcedure}
 use Rattle.gp_syntax.specs.Scoped as there
 use Rattle.gp_syntax.proofs.Unique.{element}
-use Rattle.gp_calls.specs.Procedures.{Called, ReachesIn, directly, further, HasChain}
+use Rattle.gp_resolve.specs.inside.Procedures.{Called, ReachesIn, directly, further, HasChain}
 use Rattle.gp_scope.specs.Fault.{IsDeep}
 
 abbrev pub callees_in : List Command → List (List ℕ)

@@ -8,8 +8,8 @@ use Rattle.gp_syntax.specs.Tree.{command_of}
 use Rattle.gp_syntax.specs.Scoped.{IsScoped, IsChain, MayBreak, ReachesProcedure, bodies, conditions_in}
 use Rattle.gp_syntax.specs.Scoped as there
 use Rattle.gp_syntax.proofs.Unique.{element}
-use Rattle.gp_calls.specs.Procedures.{ReachesIn, IsFirstIn, IsMarked, HasChain, MarksChains, Strays}
-use Rattle.gp_calls.proofs.Visits.{marked_within}
+use Rattle.gp_resolve.specs.inside.Procedures.{ReachesIn, IsFirstIn, IsMarked, HasChain, MarksChains, Strays}
+use Rattle.gp_resolve.proofs.Visits.{marked_within}
 use Rattle.gp_scope.specs.Outline.{Outline, rules_in}
 use Rattle.gp_scope.specs.Names.{all_bodies}
 use Rattle.gp_scope.specs.Resolved.{ResolvedBody, resolved_bodies, others, main_of, sets_of, program_with}
@@ -20,7 +20,7 @@ use Rattle.gp_resolve.specs.Laws.{OneFault, ProgramsHaveNoFault}
 use Rattle.gp_resolve.specs.inside.Named.{procedure_names}
 use Rattle.gp_resolve.proofs.Each.{each_contained}
 use Rattle.gp_resolve.proofs.Chains.{callees_in, callees, calls_from, reached, reaches, deep_chain, chain_deep, goes_on, reach_from}
-use Rattle.gp_resolve.proofs.Breaks.{strays_in, strays_of}
+use Rattle.gp_resolve.proofs.Strays_in_programs.{strays_in, strays_of}
 use Rattle.gp_resolve.proofs.Named.{names_listed, how_many_names, how_many_procedures}
 use Rattle.gp_resolve.proofs.Programs.{procedures_low, calls_low, rules_low}
 

@@ -5,7 +5,7 @@ use Rattle.gp_syntax.specs.declared.command.Command.{Command as Tree}
 use Rattle.gp_syntax.specs.Run.{Command}
 use Rattle.gp_syntax.specs.Tree.{command_of}
 use Rattle.gp_syntax.specs.Scoped.{procedures_in}
-use Rattle.gp_calls.specs.Procedures.{Strays}
+use Rattle.gp_resolve.specs.inside.Procedures.{Strays}
 use Rattle.gp_syntax.specs.declared.tree.RuleDecl.{RuleDecl}
 use Rattle.gp_scope.specs.declared.bodies.Bodies.{Bodies}
 use Rattle.gp_scope.specs.Outline.{Outline, rules_in}

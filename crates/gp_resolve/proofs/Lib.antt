@@ -1,6 +1,15 @@
+pub mod Lists
+pub mod Called
+pub mod Trees
+pub mod Visits
+pub mod Reached
+pub mod Judges
+pub mod Breaking
+pub mod Round
+pub mod Strays_found
 pub mod Each
 pub mod Chains
-pub mod Breaks
+pub mod Strays_in_programs
 pub mod Named
 pub mod Numbers
 pub mod Programs
@@ -8,3 +17,6 @@ pub mod Faults
 pub mod Own_names
 pub mod Joined
 pub mod Takes
+pub mod Rows
+pub mod Visible
+pub mod Visible_calls

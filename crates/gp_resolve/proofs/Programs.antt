@@ -6,10 +6,11 @@ use Rattle.gp_values.specs.Names.{Name}
 use Rattle.gp_syntax.specs.Run as meant
 use Rattle.gp_syntax.specs.Scoped.{calls_in}
 use Rattle.gp_syntax.specs.Scoped as there
-use Rattle.gp_calls.specs.Procedures.{Called, InRange}
-use Rattle.gp_scope.specs.Outline.{Outline, is_main, rules_in, procedures_in}
+use Rattle.gp_resolve.specs.inside.Procedures.{Called, InRange}
+use Rattle.gp_scope.specs.Outline.{Outline, nothing, rule, procedure, is_main, own_number, rules_in, procedures_in}
 use Rattle.gp_scope.specs.Names.{Body, entries, all_bodies}
 use Rattle.gp_scope.specs.Resolved.{ResolvedBody, called_sets, rule_number, resolved_from, resolved_bodies, others, main_of, sets_of}
+use Rattle.gp_scope.specs.Surveys.{declarations_in}
 use Rattle.gp_scope.specs.Fault.{NoMain, TwoMains, TwoRules, Unknown, declares_main, mains_in, doubled_behind, unknown_name, fault_of_names}
 use Rattle.gp_resolve.proofs.Each.{Each, each_of_map, each_of_all, each_of_some, each_contained}
 use Rattle.gp_resolve.proofs.Chains.{callees_in}
@@ -51,6 +52,25 @@ main_is Q (r ∷ rs) skip u = go (is_main r.name) refl (main_is Q rs skip u.1)
 
 pub all_commands : (Q : meant.Command → Type 0) (rs : List ResolvedBody) → Q meant.Skip → Each (λ (r : ResolvedBody). Q r.command) rs → Each Q (main_of rs ∷ map (λ (r : ResolvedBody). r.command) (others rs))
 all_commands Q rs skip u = (main_is Q rs skip u, each_of_map Q (λ (r : ResolvedBody). r.command) (others rs) (each_of_some (λ (r : ResolvedBody). Q r.command) (λ (r : ResolvedBody). not (is_main r.name)) rs u))
+
+-- ---- how many there are
+
+one_or_none : (m : Bool) → cond m 0 1 ≤ 1
+one_or_none true = omega arith
+one_or_none false = omega arith
+
+procedures_declared : (os : Outline) → procedures_in os ≤ declarations_in os
+procedures_declared nothing = omega arith
+procedures_declared (rule d os) = let a = procedures_declared os in omega (arith, a)
+procedures_declared (procedure n local body os) =
+    let a = procedures_declared local in let b = procedures_declared os in let o : own_number n ≤ 1 = one_or_none (is_main n) in omega (arith, a, b, o)
+
+pub few_called : (os : Outline) (most : ℕ) → declarations_in os < most → length (callees_in (map (λ (r : ResolvedBody). r.command) (others (resolved_bodies os)))) < most
+few_called os most few =
+    let a = procedures_declared os in
+    let b = how_many_procedures os in
+    let c = length-map (map (λ (r : ResolvedBody). r.command) (others (resolved_bodies os))) there.procedures_in in
+    omega (arith, a, b, c, few)
 
 -- ---- a text whose names are in order
 

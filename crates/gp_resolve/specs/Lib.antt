@@ -1,3 +1,4 @@
 pub mod Resolution
+pub mod Places
 pub mod Laws
 pub mod inside

@@ -1,2 +1,5 @@
+pub mod Procedures
+pub mod Visits
+pub mod Judged
 pub mod Named
 pub mod Taken

@@ -6,7 +6,7 @@ ghost use Rattle.gp_scope.specs.Fault.{Fault, IsFault, told};
 ghost use Rattle.gp_scope.specs.Bodies.{AreBodies};
 ghost use Rattle.gp_resolve.specs.Resolution.{IsFaultless, IsResolved};
 
-use crate::calls::check_calls;
+use crate::check::check_calls;
 use crate::scoped::{Scoped, ScopedParts};
 use crate::taken::take_rules;
 use gp_memory::NoMemory;

@@ -17,9 +17,11 @@ use gp_syntax::{Decl, Name};
 use std::alloc::Global;
 
 /// Whether the names of a program text are in order: Main is declared once, no name twice among the same declarations,
-/// and each name that is called is visible where it is called. The first fault, if they are not.
+/// and each name that is called is visible where it is called. The first fault, if they are not. More declarations than a
+/// `u32` can count are want of memory.
 pub fn check_names(alloc: Global, declarations: &[Decl]) -> Result<(), ScopeFault>
     ensures ok { OnOk result (fault_of_names (outline declarations.now) ≡ None) }
+    ensures few { OnOk result (declarations_in (outline declarations.now) < 2 ^ 32) }
     ensures err { IfErr result (λ e. (f : Fault) → told e ≡ Some f → fault_of_names (outline declarations.now) ≡ Some f) }
 {
     if !has_main(declarations) {

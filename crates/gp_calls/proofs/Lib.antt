@@ -1,9 +1,0 @@
-pub mod Lists
-pub mod Called
-pub mod Trees
-pub mod Visits
-pub mod Reached
-pub mod Judges
-pub mod Breaking
-pub mod Round
-pub mod Strays_found
