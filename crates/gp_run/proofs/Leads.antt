@@ -337,7 +337,7 @@ module _ {S : Type 0} (answer : S → Bool) (next : S → S) where
   pub call_stops : (c : ℕ) (r : Called) (v w : View) (s : S) → HasCalled c r v w → HasStopped answer next (stop_of_call r) (Call c) v w s s
   call_stops c called.Stepped v w s h = (called_so c v w s _ h, omega (arith, h.room))
   call_stops c called.Blocked v w s h = (called_so c v w s _ h, omega (arith, h.room))
-  call_stops c called.Bound v w s h = (At c w.graph, called_so c v w s _ h.0, (refl, h.1))
+  call_stops c called.Bound v w s h = (At c w.graph, called_so c v w s _ h.0, ((refl, h.1.0), h.1.1))
   call_stops c (called.Fault r k) v w s h = (c, called_so c v w s _ h.0, h.1)
   call_stops c called.NoMemory v w s h = tt
 

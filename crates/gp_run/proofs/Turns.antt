@@ -62,7 +62,7 @@ turns_spent c v w x y t a m = (
     makes = record { run = body_stands t.so_far (called_on c v w x y _ t a m.0) at_call; adds = adds_on c v w x y _ t a m.0 };
     room = room_on c v w x y _ t a m.0;
   },
-  (refl, m.1),
+  ((refl, m.1.0), m.1.1),
 )
 
 pub turns_faulty : (c r : ℕ) (k : NumberKind) (v w x y : View) → Turns c v w → HasTurned turned.Made w x → HasCalled c (called.Fault r k) x y → HasRepeated c (repeated.Fault r k) v y
