@@ -2,3 +2,4 @@ pub mod Stages
 pub mod Lines
 pub mod Held
 pub mod Edges
+pub mod Passing

@@ -5,6 +5,7 @@ ghost use Rattle.gp_grammar.specs.Cursor.{Reads, ReadsAs};
 ghost use Rattle.gp_grammar.specs.Reading.{reader_of};
 ghost use Rattle.gp_hostfile.specs.Grammar as spec;
 ghost use Rattle.gp_hostfile.specs.inside.Edges.{rest_of_edge};
+ghost use Rattle.gp_hostfile.specs.inside.Passing.{Passes};
 
 use crate::tree::{AtomTree, AtomTrees, EdgeTree, HostTree, NodeTree};
 use gp_grammar::{ReadError, Tokens, Want, repeated_by, separated_by, stands_before};
@@ -79,39 +80,31 @@ fn read_label<'t>(tokens: &mut Tokens<'_, 't>) -> Result<(AtomTrees, Option<Slic
 
 // Coord = ["-"] Number ["." Number]
 #[tactic(auto, unfolding(crate::specs::Grammar::coord))]
-fn pass_coord(tokens: &mut Tokens<'_, '_>) -> Result<(), ReadError>
-    ensures { Reads (reader_of spec.coord tokens.old) result tokens.new }
+fn passes_coord(tokens: &mut Tokens<'_, '_>) -> bool
+    ensures { Passes (reader_of spec.coord tokens.old) result tokens.new }
 {
     tokens.eat(MINUS);
-    tokens.expect(NUMBER)?;
-    if tokens.eat(Want::Kind(Kind::Dot)) {
-        tokens.expect(NUMBER)?;
-    }
-    Ok(())
+    tokens.eat(NUMBER) && (!tokens.eat(Want::Kind(Kind::Dot)) || tokens.eat(NUMBER))
 }
 
 // Position = "<" Coord "," Coord ">"
 #[tactic(auto, unfolding(crate::specs::Grammar::position))]
-fn pass_position(tokens: &mut Tokens<'_, '_>) -> Result<(), ReadError>
-    ensures { Reads (reader_of spec.position tokens.old) result tokens.new }
+fn passes_position(tokens: &mut Tokens<'_, '_>) -> bool
+    ensures { Passes (reader_of spec.position tokens.old) result tokens.new }
 {
-    tokens.expect(LESS)?;
-    pass_coord(tokens)?;
-    tokens.expect(COMMA)?;
-    pass_coord(tokens)?;
-    tokens.expect(Want::Kind(Kind::Greater))?;
-    Ok(())
+    tokens.eat(LESS)
+        && passes_coord(tokens)
+        && tokens.eat(COMMA)
+        && passes_coord(tokens)
+        && tokens.eat(Want::Kind(Kind::Greater))
 }
 
 // [Position]
 #[tactic(auto, unfolding(crate::specs::Grammar::place))]
-fn pass_place(tokens: &mut Tokens<'_, '_>) -> Result<(), ReadError>
-    ensures { Reads (reader_of spec.place tokens.old) result tokens.new }
+fn passes_place(tokens: &mut Tokens<'_, '_>) -> bool
+    ensures { Passes (reader_of spec.place tokens.old) result tokens.new }
 {
-    if tokens.begins(LESS) {
-        pass_position(tokens)?;
-    }
-    Ok(())
+    !tokens.begins(LESS) || passes_position(tokens)
 }
 
 // ["(" "R" ")"]
@@ -119,12 +112,13 @@ fn pass_place(tokens: &mut Tokens<'_, '_>) -> Result<(), ReadError>
 fn read_root(tokens: &mut Tokens<'_, '_>) -> Result<bool, ReadError>
     ensures { Reads (reader_of spec.root tokens.old) result tokens.new }
 {
-    let rooted = tokens.eat(OPEN);
-    if rooted {
-        tokens.expect(Want::Keyword(Keyword::Root))?;
-        tokens.expect(CLOSE)?;
+    if !tokens.eat(OPEN) {
+        return Ok(false);
     }
-    Ok(rooted)
+    if tokens.eat(Want::Keyword(Keyword::Root)) && tokens.eat(CLOSE) {
+        return Ok(true);
+    }
+    Err(tokens.refusal())
 }
 
 // Node = "(" Item ["(" "R" ")"] "," Label [Position] ")"
@@ -132,13 +126,16 @@ fn read_root(tokens: &mut Tokens<'_, '_>) -> Result<bool, ReadError>
 fn read_node<'t>(tokens: &mut Tokens<'_, 't>, _nothing: ()) -> Result<NodeTree<'t>, ReadError>
     ensures { Reads (reader_of spec.node tokens.old) result tokens.new }
 {
-    tokens.expect(OPEN)?;
+    if !tokens.eat(OPEN) {
+        return Err(tokens.refusal());
+    }
     let name = tokens.expect(Want::Item)?;
     let root = read_root(tokens)?;
     tokens.expect(COMMA)?;
     let (label, mark) = read_label(tokens)?;
-    pass_place(tokens)?;
-    tokens.expect(CLOSE)?;
+    if !passes_place(tokens) || !tokens.eat(CLOSE) {
+        return Err(tokens.refusal());
+    }
     Ok(NodeTree {
         name: name.text.again(),
         label,
@@ -201,9 +198,13 @@ fn read_body<'t>(tokens: &mut Tokens<'_, 't>) -> Result<HostTree<'t>, ReadError>
     ensures { ReadsAs (λ x. (x.nodes.items, x.edges.items)) (reader_of spec.body tokens.old) result tokens.new }
 {
     let nodes = read_nodes(tokens)?;
-    tokens.expect(BAR)?;
+    if !tokens.eat(BAR) {
+        return Err(tokens.refusal());
+    }
     let edges = read_edges(tokens)?;
-    tokens.expect(CLOSE_BRACKET)?;
+    if !tokens.eat(CLOSE_BRACKET) {
+        return Err(tokens.refusal());
+    }
     Ok(HostTree { nodes, edges })
 }
 
@@ -223,7 +224,7 @@ fn read_barred<'t>(tokens: &mut Tokens<'_, 't>) -> Result<HostTree<'t>, ReadErro
     ensures { ReadsAs (λ x. (x.nodes.items, x.edges.items)) (reader_of spec.barred tokens.old) result tokens.new }
 {
     if has_two_bars(tokens.left()) {
-        tokens.expect(BAR)?;
+        tokens.eat(BAR);
         return read_body(tokens);
     }
     read_body(tokens)
@@ -234,9 +235,13 @@ fn read_barred<'t>(tokens: &mut Tokens<'_, 't>) -> Result<HostTree<'t>, ReadErro
 pub(crate) fn read_host_tree<'t>(tokens: &mut Tokens<'_, 't>) -> Result<HostTree<'t>, ReadError>
     ensures { ReadsAs (λ x. (x.nodes.items, x.edges.items)) (reader_of spec.host tokens.old) result tokens.new }
 {
-    tokens.expect(Want::Kind(Kind::OpenBracket))?;
+    if !tokens.eat(Want::Kind(Kind::OpenBracket)) {
+        return Err(tokens.refusal());
+    }
     if tokens.begins(LESS) {
-        pass_position(tokens)?;
+        if !passes_position(tokens) {
+            return Err(tokens.refusal());
+        }
         return read_barred(tokens);
     }
     read_body(tokens)

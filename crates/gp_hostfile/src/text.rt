@@ -52,6 +52,13 @@ fn write_number(number: u64, text: &mut Vec<u8>) -> Result<(), NoMemory>
     write(Buffer::new().format(number).as_bytes(), text)
 }
 
+fn write_numbered(piece: &[u8], number: u64, text: &mut Vec<u8>) -> Result<(), NoMemory>
+    ensures { OnOk result (text.new.items ≡ (text.old.items ++ piece.now) ++ decimal number) }
+{
+    write(piece, text)?;
+    write_number(number, text)
+}
+
 fn write_nodes(graph: &Graph, text: &mut Vec<u8>) -> Result<(), NoMemory>
     ensures { OnOk result (text.new.items ≡ text.old.items ++ flat_map node_line (nodes_from graph.now.graph 0 graph.now.graph.next_node)) }
 {
@@ -80,8 +87,7 @@ fn write_node(
 ) -> Result<(), NoMemory>
     ensures { OnOk result (text.new.items ≡ text.old.items ++ node_line (n, record { label = label.now; mark = mark; root = root })) }
 {
-    write(b"  (n", text)?;
-    write_number(n, text)?;
+    write_numbered(b"  (n", n, text)?;
     write(root_text(root), text)?;
     write(b", ", text)?;
     label.write_label(text)?;
@@ -162,12 +168,9 @@ fn write_edges(lines: &[EdgeLine], text: &mut Vec<u8>) -> Result<(), NoMemory>
 fn write_edge(i: u64, line: &EdgeLine, text: &mut Vec<u8>) -> Result<(), NoMemory>
     ensures { OnOk result (text.new.items ≡ text.old.items ++ key_line i (line_key line.now)) }
 {
-    write(b"  (e", text)?;
-    write_number(i, text)?;
-    write(b", n", text)?;
-    write_number(line.source, text)?;
-    write(b", n", text)?;
-    write_number(line.target, text)?;
+    write_numbered(b"  (e", i, text)?;
+    write_numbered(b", n", line.source, text)?;
+    write_numbered(b", n", line.target, text)?;
     write(b", ", text)?;
     write(&line.label, text)?;
     write(edge_mark_text(line.mark), text)?;
