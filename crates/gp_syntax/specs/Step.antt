@@ -1,6 +1,7 @@
 -- What an applying match makes of a graph: the double pushout with relabelling (Plump 2012, section 3: direct
--- derivations).
-use Rattle.std.specs.Prelude.{◌≡◌, ◌⊎◌, ℕ, ◌+◌, ◌<◌, ◌&&◌, ◌||◌, not, Bool, true, false, if◌then◌else◌, List, [], ◌∷◌, ◌++◌, map, take, length, count_by, slice_get, slice_index, slice_index_or, Option, Some, None, is_none, option_and_then, Contains}
+-- derivations). The two sides share the interface and the edges that are kept: the images of the right side and what
+-- the host has outside those of the left side cover the new graph, and meet in what is shared alone.
+use Rattle.std.specs.Prelude.{◌≡◌, ◌⊎◌, ℕ, ◌+◌, ◌&&◌, ◌||◌, not, Bool, true, false, if◌then◌else◌, List, [], ◌∷◌, ◌++◌, map, take, length, count_by, slice_get, slice_index, slice_index_or, Option, Some, None, is_none, option_and_then, Contains}
 use Rattle.std.specs.Option.{option_map, option_map_or}
 use Rattle.gp_values.specs.declared.atom.Atom.{Atom}
 use Rattle.gp_values.specs.declared.marks.NodeMark.TheVariants as node_marks
@@ -10,7 +11,7 @@ use Rattle.gp_syntax.specs.declared.kinds.NumberKind.{NumberKind}
 use Rattle.gp_syntax.specs.Expression.{Expression, MarkPattern, Marked, AnyMark}
 use Rattle.gp_syntax.specs.Value.{Assignment, Setting, Valued, Value, NoValue, value_of}
 use Rattle.gp_syntax.specs.Truth.{truth_of}
-use Rattle.gp_syntax.specs.Rule.{Rule, LeftNode, RightNode, RightEdge, Found}
+use Rattle.gp_syntax.specs.Rule.{Rule, LeftNode, RightNode, RightEdge, Found, differ, kept_nodes, kept_edges}
 use Rattle.gp_values.specs.Apart.{AreApart}
 use Rattle.gp_syntax.specs.Match.{MatchBy, setting_of}
 
@@ -76,9 +77,6 @@ pub record MakesNode (r : Rule) (g : Graph) (m : Found) (a : Assignment) (q : Ri
 abbrev pub found_edge : Graph → Found → Option ℕ → Option Edge
 found_edge g m origin = option_and_then (λ i. edge_at g (slice_index m.edges i)) origin
 
-abbrev pub differ : Bool → Bool → Bool
-differ a b = (a && not b) || (b && not a)
-
 -- a right `(B)` edge begins at the name where the found edge began
 abbrev pub is_exchanged : Found → RightEdge → Bool
 is_exchanged m q = q.bidirectional && differ (option_map_or (λ i. slice_index_or m.reversed i false) q.origin false) q.turned
@@ -91,36 +89,30 @@ pub record MakesEdge (r : Rule) (g : Graph) (m : Found) (a : Assignment) (images
 
 -- ---- the step
 
--- how many of the right nodes before this place are made anew
-abbrev pub is_new : RightNode → Bool
-is_new q = is_none q.origin
-
-abbrev pub new_before : Rule → ℕ → ℕ
-new_before r j = count_by is_new (take j r.right_nodes)
-
--- images: an injective map of the right nodes, which is the match on nodes of the interface, and takes the others in
--- text order to the next numbers
-pub record Places (r : Rule) (g : Graph) (m : Found) (images : List ℕ) : Type 0 where
-  pub count : length images ≡ length r.right_nodes
+-- images: an injective map of the nodes, or of the edges, of the right side. What is kept goes to the image of the left
+-- item that it keeps, and the others in text order to the next numbers.
+pub record Places (kept : List (Option ℕ)) (found : List ℕ) (next : ℕ) (images : List ℕ) : Type 0 where
+  pub count : length images ≡ length kept
   pub apart : AreApart images
-  pub kept : (j i : ℕ) (q : RightNode) → slice_get r.right_nodes j ≡ Some q → q.origin ≡ Some i → slice_index images j ≡ slice_index m.nodes i
-  pub new : (j : ℕ) (q : RightNode) → slice_get r.right_nodes j ≡ Some q → q.origin ≡ None → slice_index images j ≡ g.next_node + new_before r j
+  pub old : (j i : ℕ) → slice_get kept j ≡ Some (Some i) → slice_index images j ≡ slice_index found i
+  pub new : (j : ℕ) → slice_get kept j ≡ Some None → slice_index images j ≡ next + count_by is_none (take j kept)
 
 -- the graph that the match leads to, by this assignment
 pub record StepBy (r : Rule) (g : Graph) (m : Found) (a : Assignment) (h : Graph) : Type 0 where
   pub images : List ℕ
-  pub places : Places r g m images
-  pub next_node : h.next_node ≡ g.next_node + new_before r (length r.right_nodes)
-  -- right edges take the next numbers, in text order
-  pub next_edge : h.next_edge ≡ g.next_edge + length r.right_edges
+  pub edge_images : List ℕ
+  pub places : Places (kept_nodes r) m.nodes g.next_node images
+  pub edge_places : Places (kept_edges r) m.edges g.next_edge edge_images
+  pub next_node : h.next_node ≡ g.next_node + count_by is_none (kept_nodes r)
+  pub next_edge : h.next_edge ≡ g.next_edge + count_by is_none (kept_edges r)
   -- at the images of the right side stands what it says
   pub right_nodes : (j : ℕ) (q : RightNode) → slice_get r.right_nodes j ≡ Some q → (x : Node) × (node_at h (slice_index images j) ≡ Some x) × MakesNode r g m a q x
-  pub right_edges : (k : ℕ) (q : RightEdge) → slice_get r.right_edges k ≡ Some q → (d : Edge) × (edge_at h (g.next_edge + k) ≡ Some d) × MakesEdge r g m a images q d
+  pub right_edges : (k : ℕ) (q : RightEdge) → slice_get r.right_edges k ≡ Some q → (d : Edge) × (edge_at h (slice_index edge_images k) ≡ Some d) × MakesEdge r g m a images q d
   -- outside them is what the host has outside the images of the left side, with all that it carries
   pub deleted_nodes : (n : ℕ) → (Contains images n → ⊥) → Contains m.nodes n → node_at h n ≡ None
   pub other_nodes : (n : ℕ) → (Contains images n → ⊥) → (Contains m.nodes n → ⊥) → node_at h n ≡ node_at g n
-  pub deleted_edges : (e : ℕ) → Contains m.edges e → edge_at h e ≡ None
-  pub other_edges : (e : ℕ) → ((k : ℕ) → k < length r.right_edges → e ≡ g.next_edge + k → ⊥) → (Contains m.edges e → ⊥) → edge_at h e ≡ edge_at g e
+  pub deleted_edges : (e : ℕ) → (Contains edge_images e → ⊥) → Contains m.edges e → edge_at h e ≡ None
+  pub other_edges : (e : ℕ) → (Contains edge_images e → ⊥) → (Contains m.edges e → ⊥) → edge_at h e ≡ edge_at g e
 
 -- one step by an applying match
 abbrev pub Step : Rule → Graph → Found → Graph → Type 0

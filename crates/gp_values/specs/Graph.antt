@@ -2,6 +2,7 @@
 -- section 2: graphs over labels; Bak 2015: root nodes and marks).
 use Rattle.std.specs.Prelude.{◌≡◌, ℕ, ◌+◌, ◌-◌, ◌<◌, ◌==◌, Bool, List, count_by, refl, Option, IsSome, Some}
 use Rattle.std.specs.Coded.{Coded, code_by, coded×, coded_ℕ, coded_bool, coded_list}
+use Rattle.std.specs.Option.{option_map_or}
 use Rattle.std.specs.Ordering.{nat_cmp}
 use Rattle.std.specs.FinMap as map
 use Rattle.gp_values.specs.declared.atom.Atom.{Atom}
@@ -87,6 +88,10 @@ without_edge g e = record g { edges = map.remove g.edges e }
 -- the node of this number carries something else
 abbrev pub relabeled : Graph → ℕ → Node → Graph
 relabeled g n x = record g { nodes = map.insert g.nodes n x }
+
+-- the edge of this number carries another label and mark, and its ends stay
+abbrev pub relabeled_edge : Graph → ℕ → List Atom → EdgeMark → Graph
+relabeled_edge g e l m = option_map_or (λ (d : Edge). record g { edges = map.insert g.edges e (record d { label = l; mark = m }) }) (edge_at g e) g
 
 -- a node stands at a number below the next one
 abbrev pub with_node_at : Graph → ℕ → Node → Graph
