@@ -16,7 +16,7 @@ Decides-some_element xs t Q each =
     (λ h. (h.0, slice_get_within xs h.0 h.1 h.2, λ d. subst Q (sym (get_or_from_slice_get xs h.0 h.1 d h.2)) h.3))
     (Decides-by_or t Q (list_any t) each refl (λ _ _. refl) xs)
 
-Decides-origin : (o : Option ℕ) (i : ℕ) → Decides (is_origin i o) (o ≡ Some i)
+pub Decides-origin : (o : Option ℕ) (i : ℕ) → Decides (is_origin i o) (o ≡ Some i)
 Decides-origin None i = (λ e. absurd (true≢false (sym e)), λ e. absurd cc)
 Decides-origin (Some k) i = Decides-like (k == i) (λ e. ap (λ z. Some z) e) some_same (Decides-eqb k i)
 

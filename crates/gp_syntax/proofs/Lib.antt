@@ -12,6 +12,7 @@ pub mod Assignments
 pub mod Trees
 pub mod Simples
 pub mod Kept
+pub mod KeptEdges
 pub mod Values
 pub mod OneEdge
 pub mod Patterns

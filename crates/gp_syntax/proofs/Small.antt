@@ -1,5 +1,5 @@
 -- Matches and steps in graphs of one node and two.
-use Rattle.std.proofs.Common.{◌≡◌, ℕ, zero, suc, ◌+◌, ◌<◌, Bool, true, false, List, [], ◌∷◌, length, slice_get, slice_index, slice_index_or, get_or, Option, Some, None, IsSomeAnd, Contains, refl, sym, ap, subst, ◌∙◌, arith}
+use Rattle.std.proofs.Common.{◌≡◌, ℕ, zero, suc, ◌+◌, ◌<◌, Bool, true, false, List, [], ◌∷◌, length, take, count_by, is_none, slice_get, slice_index, slice_index_or, get_or, Option, Some, None, IsSomeAnd, Contains, refl, sym, ap, subst, ◌∙◌, arith}
 use Rattle.std.proofs.lemmas.Grind.{common_steps}
 use Rattle.std.proofs.lemmas.Option.{same_Some, none-some}
 use Rattle.std.specs.Ordering.{nat_cmp}
@@ -9,6 +9,7 @@ use Rattle.std.specs.FinMap as map
 use Rattle.gp_values.specs.declared.atom.Atom.{Atom}
 use Rattle.gp_values.specs.declared.marks.NodeMark.{NodeMark}
 use Rattle.gp_values.specs.declared.marks.NodeMark.TheVariants as node_marks
+use Rattle.gp_values.specs.Apart.{AreApart}
 use Rattle.gp_values.specs.Graph.{Graph, Node, Edge, node_at, edge_at}
 use Rattle.gp_syntax.specs.declared.kinds.VariableType.{VariableType}
 use Rattle.gp_syntax.specs.declared.kinds.VariableType.TheVariants as types
@@ -16,7 +17,7 @@ use Rattle.gp_syntax.specs.Expression.{Expression, Variable, MarkPattern}
 use Rattle.gp_syntax.specs.Value.{Setting, Value, Assignment, is_of, value_of}
 use Rattle.gp_syntax.specs.Rule.{Rule, LeftNode, LeftEdge, RightNode, Found}
 use Rattle.gp_syntax.specs.Match.{MatchBy, FitsEdge, FitsNode, Agrees, setting_of}
-use Rattle.gp_syntax.specs.Step.{MakesNode, Step, Blocked, kind_or, new_before, made_mark, made_root}
+use Rattle.gp_syntax.specs.Step.{MakesNode, Places, Step, Blocked, kind_or, made_mark, made_root}
 use Rattle.gp_syntax.specs.Rows.{one_node, no_nodes, one_left, left, right, at_first}
 
 -- ---- lists of no element and of one
@@ -41,6 +42,32 @@ only_contains n k c = go c.0 c.1 c.2
 -- the empty list has nothing
 pub nothing_contains : (k : ℕ) → Contains [] k → ⊥
 nothing_contains k c = let l : c.0 < 0 = c.1 in omega arith
+
+-- ---- where the right side lies
+
+-- nothing lies anywhere
+pub none_placed : (found : List ℕ) (next : ℕ) → Places [] found next []
+none_placed found next = record { count = refl; apart = λ i j l h e. let u : j < 0 = h in omega arith; old = λ j i e. absurd (none-some (Some i) e); new = λ j e. absurd (none-some None e) }
+
+-- one item lies where it was, or at the next number
+pub one_apart : (n : ℕ) → AreApart (n ∷ [])
+one_apart n i j l h e = let u : i < j = l in let v : j < 1 = h in omega arith
+
+pub one_stays : (next : ℕ) → Places (Some 0 ∷ []) (0 ∷ []) next (0 ∷ [])
+one_stays next = record {
+  count = refl;
+  apart = one_apart 0;
+  old = λ j i e. at_only (λ j o. o ≡ Some i → slice_index (0 ∷ []) j ≡ slice_index (0 ∷ []) i) (Some 0) (λ s. ap (λ n. slice_index (0 ∷ []) n) (same_Some 0 i s)) j (Some i) e refl;
+  new = λ j e. absurd (at_only (λ j o. o ≡ None → ⊥) (Some 0) (λ s. none-some 0 (sym s)) j None e refl);
+}
+
+pub one_comes : (found : List ℕ) (next : ℕ) → Places (None ∷ []) found next (next ∷ [])
+one_comes found next = record {
+  count = refl;
+  apart = one_apart next;
+  old = λ j i e. absurd (at_only (λ j o. o ≡ Some i → ⊥) None (λ s. none-some i s) j (Some i) e refl);
+  new = λ j e. at_only (λ j (o : Option ℕ). slice_index (next ∷ []) j ≡ next + count_by (is_none {T = ℕ}) (take j (None ∷ []))) None (let z : next ≡ next + 0 = omega arith in z) j None e;
+}
 
 -- ---- graphs
 
@@ -125,14 +152,16 @@ step_deleted t mark root x k typed agrees rooted = (
   record { is_match = match_one (t ∷ []) (x.label ∷ []) (Variable 0) mark root [] x k refl (one_typed t x.label typed) refl agrees rooted; condition = refl; values = refl },
   record {
     images = [];
-    places = record { count = refl; apart = λ i j l h e. let u : j < 0 = h in omega arith; kept = λ j i q e o. absurd (none-some q e); new = λ j q e o. absurd (none-some q e) };
+    edge_images = [];
+    places = none_placed (0 ∷ []) 1;
+    edge_places = none_placed [] 0;
     next_node = refl;
     next_edge = refl;
     right_nodes = at_none _;
     right_edges = at_none _;
     deleted_nodes = λ n out c. map.get-empty nat_cmp n;
     other_nodes = λ n out none. map.get-empty nat_cmp n ∙ sym (past_one x n (λ e. none (0, let l : 0 < 1 = omega arith in l, e)));
-    deleted_edges = λ e c. map.get-empty nat_cmp e;
+    deleted_edges = λ e out c. map.get-empty nat_cmp e;
     other_edges = λ e out none. refl;
   },
 )
@@ -147,19 +176,16 @@ step_made ts a p mark root e new_mark new_root x y k count typed found agrees ro
   record { is_match = match_one ts a p mark root (q ∷ []) x k count typed found agrees rooted; condition = refl; values = ap (λ v. kind_or v None) valued },
   record {
     images = 0 ∷ [];
-    places = record {
-      count = refl;
-      apart = λ i j l h u. let a : i < j = l in let b : j < 1 = h in omega arith;
-      kept = kept;
-      new = at_only (λ j z. z.origin ≡ None → slice_index (0 ∷ []) j ≡ 1 + new_before r j) q (λ o. absurd (none-some 0 (sym o)));
-    };
+    edge_images = [];
+    places = one_stays 1;
+    edge_places = none_placed [] 0;
     next_node = refl;
     next_edge = refl;
     right_nodes = at_only (λ j z. (w : Node) × (node_at (one_node y) (slice_index (0 ∷ []) j) ≡ Some w) × MakesNode r (one_node x) (at_first k) a z w) q (y, at_one y, made);
     right_edges = at_none _;
     deleted_nodes = λ n out c. absurd (out c);
     other_nodes = λ n out none. past_one y n (apart n none) ∙ sym (past_one x n (apart n none));
-    deleted_edges = λ n c. absurd (nothing_contains n c);
+    deleted_edges = λ n out c. absurd (nothing_contains n c);
     other_edges = λ n out none. refl;
   },
 )
@@ -176,9 +202,6 @@ step_made ts a p mark root e new_mark new_root x y k count typed found agrees ro
       mark = marked ∙ ap (λ o. made_mark new_mark (option_map (λ (z : Node). z.mark) o) node_marks.None) (sym (at_one x));
       root = roots ∙ ap (λ o. made_root root new_root (option_map_or (λ (z : Node). z.root) o false)) (sym (at_one x));
     }
-
-    kept : (j i : ℕ) (z : RightNode) → slice_get (q ∷ []) j ≡ Some z → z.origin ≡ Some i → slice_index (0 ∷ []) j ≡ slice_index (0 ∷ []) i
-    kept j i z s o = at_only (λ j z. z.origin ≡ Some i → slice_index (0 ∷ []) j ≡ slice_index (0 ∷ []) i) q (λ o. ap (λ n. slice_index (0 ∷ []) n) (same_Some 0 i o)) j z s o
 
     apart : (n : ℕ) → (Contains (0 ∷ []) n → ⊥) → 0 ≡ n → ⊥
     apart n none e = none (0, let l : 0 < 1 = omega arith in l, e)

@@ -1,14 +1,14 @@
 -- A match leads to one graph: all that stands at a number of the new graph is told by the rule, the match and the
 -- assignment.
-use Rattle.std.proofs.Common.{◌≡◌, ◌⊎◌, inl, inr, ℕ, zero, suc, ◌+◌, ◌-◌, ◌<◌, ◌≤◌, List, [], ◌∷◌, length, slice_get, slice_index, get_or, Option, Some, None, Contains, refl, sym, ap, subst, ◌∙◌, arith, ext_get_or}
-use Rattle.std.proofs.lemmas.Bool.{cases_eq, cases_lt}
+use Rattle.std.proofs.Common.{◌≡◌, ◌⊎◌, inl, inr, ℕ, zero, suc, ◌<◌, ◌≤◌, List, [], ◌∷◌, length, slice_get, slice_index, get_or, Option, Some, None, Contains, sym, ap, subst, ◌∙◌, arith, ext_get_or}
+use Rattle.std.proofs.lemmas.Bool.{cases_eq}
 use Rattle.std.proofs.lemmas.Option.{slice_get_cases}
-use Rattle.std.proofs.lemmas.List.{get_or_default, nil_from_length}
+use Rattle.std.proofs.lemmas.List.{get_or_default, length-map, nil_from_length}
 use Rattle.gp_values.specs.Graph.{Graph, Node, Edge, node_at, edge_at}
 use Rattle.gp_values.proofs.Graphs.{same_graph}
 use Rattle.gp_syntax.specs.declared.kinds.VariableType.{VariableType}
 use Rattle.gp_syntax.specs.Value.{Assignment}
-use Rattle.gp_syntax.specs.Rule.{Rule, RightNode, RightEdge, Found}
+use Rattle.gp_syntax.specs.Rule.{Rule, RightNode, RightEdge, Found, kept_edge, kept_nodes, kept_edges}
 use Rattle.gp_syntax.specs.Step.{Places, MakesNode, MakesEdge, StepBy, Step}
 
 -- a number that is not the first one stands behind it
@@ -36,20 +36,20 @@ standing ns n c = get_or_default ns c.0 0 n c.1 ∙ c.2
 pub element : {X : Type 0} (xs : List X) (i : ℕ) → i < length xs → (x : X) × (slice_get xs i ≡ Some x)
 element xs i l = elim (slice_get_cases xs i).1 [ inl s ↦ (s.0, s.2) | inr p ↦ (let h : length xs ≤ i = p.0 in absurd (omega arith)) ]
 
--- ---- the images of the right nodes
+-- ---- the images of the right side
 
--- the image of a right node, by its origin
-same_image : (r : Rule) (g : Graph) (m : Found) (is js : List ℕ) → Places r g m is → Places r g m js → (j : ℕ) (q : RightNode) (o : Option ℕ) → slice_get r.right_nodes j ≡ Some q → q.origin ≡ o → slice_index is j ≡ slice_index js j
-same_image r g m is js a b j q None h e = a.new j q h e ∙ sym (b.new j q h e)
-same_image r g m is js a b j q (Some i) h e = a.kept j i q h e ∙ sym (b.kept j i q h e)
+-- the image of an item, by what it keeps
+same_image : (kept : List (Option ℕ)) (found : List ℕ) (next : ℕ) (is js : List ℕ) → Places kept found next is → Places kept found next js → (j : ℕ) (o : Option ℕ) → slice_get kept j ≡ Some o → slice_index is j ≡ slice_index js j
+same_image kept found next is js a b j None h = a.new j h ∙ sym (b.new j h)
+same_image kept found next is js a b j (Some i) h = a.old j i h ∙ sym (b.old j i h)
 
--- two maps of the right nodes are one
-pub same_images : (r : Rule) (g : Graph) (m : Found) (is js : List ℕ) → Places r g m is → Places r g m js → is ≡ js
-same_images r g m is js a b =
+-- two maps of the right side are one
+pub same_images : (kept : List (Option ℕ)) (found : List ℕ) (next : ℕ) (is js : List ℕ) → Places kept found next is → Places kept found next js → is ≡ js
+same_images kept found next is js a b =
     ext_get_or 0 is js (a.count ∙ sym b.count) (λ j l.
-    let k : length is ≡ length r.right_nodes = a.count in
-    let s = element r.right_nodes j (omega arith) in
-    same_image r g m is js a b j s.0 s.0.origin s.1 refl)
+    let k : length is ≡ length kept = a.count in
+    let s = element kept j (omega arith) in
+    same_image kept found next is js a b j s.0 s.1)
 
 -- ---- what is made
 
@@ -76,14 +76,17 @@ made_edge {x = x} {y = y} b c =
 -- ---- what stands at each number
 
 module _ {r : Rule} {g : Graph} {m : Found} {a : Assignment} {h k : Graph} where
-  -- both steps put the right nodes at one place
+  -- both steps put the right side at one place
   one_places : (s : StepBy r g m a h) (t : StepBy r g m a k) → t.images ≡ s.images
-  one_places s t = same_images r g m t.images s.images t.places s.places
+  one_places s t = same_images (kept_nodes r) m.nodes g.next_node t.images s.images t.places s.places
+
+  one_edge_places : (s : StepBy r g m a h) (t : StepBy r g m a k) → t.edge_images ≡ s.edge_images
+  one_edge_places s t = same_images (kept_edges r) m.edges g.next_edge t.edge_images s.edge_images t.edge_places s.edge_places
 
   -- at an image of a right node
   nodes_at_image : (s : StepBy r g m a h) (t : StepBy r g m a k) (n : ℕ) → Contains s.images n → node_at h n ≡ node_at k n
   nodes_at_image s t n c =
-      let l : length s.images ≡ length r.right_nodes = s.places.count in
+      let l : length s.images ≡ length r.right_nodes = s.places.count ∙ length-map r.right_nodes (λ (q : RightNode). q.origin) in
       let i : c.0 < length s.images = c.1 in
       let q = element r.right_nodes c.0 (omega arith) in
       let x = s.right_nodes c.0 q.0 q.1 in
@@ -107,34 +110,32 @@ module _ {r : Rule} {g : Graph} {m : Found} {a : Assignment} {h k : Graph} where
             ])
       ]
 
-  -- at the number of a right edge
-  edges_at_new : (s : StepBy r g m a h) (t : StepBy r g m a k) (i : ℕ) → i < length r.right_edges → edge_at h (g.next_edge + i) ≡ edge_at k (g.next_edge + i)
-  edges_at_new s t i l =
-      let q = element r.right_edges i l in
-      let x = s.right_edges i q.0 q.1 in
-      let y = t.right_edges i q.0 q.1 in
+  -- at an image of a right edge
+  edges_at_image : (s : StepBy r g m a h) (t : StepBy r g m a k) (e : ℕ) → Contains s.edge_images e → edge_at h e ≡ edge_at k e
+  edges_at_image s t n c =
+      let l : length s.edge_images ≡ length r.right_edges = s.edge_places.count ∙ length-map r.right_edges (kept_edge r) in
+      let i : c.0 < length s.edge_images = c.1 in
+      let q = element r.right_edges c.0 (omega arith) in
+      let x = s.right_edges c.0 q.0 q.1 in
+      let y = t.right_edges c.0 q.0 q.1 in
+      let e : slice_index s.edge_images c.0 ≡ n = standing s.edge_images n c in
+      let f : slice_index t.edge_images c.0 ≡ n = ap (λ is. slice_index is c.0) (one_edge_places s t) ∙ e in
       let made : MakesEdge r g m a s.images q.0 y.0 = subst (λ is. MakesEdge r g m a is q.0 y.0) (one_places s t) y.2 in
       let z : x.0 ≡ y.0 = made_edge x.2 made in
-      x.1 ∙ ap (λ w. Some w) z ∙ sym y.1
-
-  -- at another number of an edge
-  edges_elsewhere : (s : StepBy r g m a h) (t : StepBy r g m a k) (e : ℕ) → ((i : ℕ) → i < length r.right_edges → e ≡ g.next_edge + i → ⊥) → edge_at h e ≡ edge_at k e
-  edges_elsewhere s t e out =
-      elim (contained m.edges e) [
-        | inl c ↦ s.deleted_edges e c ∙ sym (t.deleted_edges e c)
-        | inr none ↦ s.other_edges e out none ∙ sym (t.other_edges e out none)
-      ]
+      let u : edge_at h n ≡ Some x.0 = subst (λ i. edge_at h i ≡ Some x.0) e x.1 in
+      let v : edge_at k n ≡ Some y.0 = subst (λ i. edge_at k i ≡ Some y.0) f y.1 in
+      u ∙ ap (λ w. Some w) z ∙ sym v
 
   -- at each number of an edge
   edges_same : (s : StepBy r g m a h) (t : StepBy r g m a k) (e : ℕ) → edge_at h e ≡ edge_at k e
   edges_same s t e =
-      elim (cases_lt e g.next_edge) [
-        | inl b ↦ edges_elsewhere s t e (λ i l p. omega arith)
-        | inr b ↦ elim (cases_lt (e - g.next_edge) (length r.right_edges)) [
-          | inl l ↦ (let p : g.next_edge + (e - g.next_edge) ≡ e = omega arith in
-              subst (λ n. edge_at h n ≡ edge_at k n) p (edges_at_new s t (e - g.next_edge) l))
-          | inr l ↦ edges_elsewhere s t e (λ i o p. omega arith)
-        ]
+      elim (contained s.edge_images e) [
+        | inl c ↦ edges_at_image s t e c
+        | inr out ↦ (let out' : Contains t.edge_images e → ⊥ = subst (λ is. Contains is e → ⊥) (sym (one_edge_places s t)) out in
+            elim (contained m.edges e) [
+              | inl c ↦ s.deleted_edges e out c ∙ sym (t.deleted_edges e out' c)
+              | inr none ↦ s.other_edges e out none ∙ sym (t.other_edges e out' none)
+            ])
       ]
 
   -- two graphs that a match leads to by one assignment

@@ -87,16 +87,20 @@ abbrev pub cut : Rule
 cut = one_left (types.String ∷ types.Char ∷ []) (left (Dot (Dot (Text (codes "a")) (Variable 0)) (Variable 1)) unmarked false) (right (Join (Variable 0) (Variable 1)) unmarked false ∷ [])
 
 -- par(x,y,z,w:list) [ (n0, x) (n1, y) | (e0, n0, n1, z) (e1, n0, n1, w) ] => [ (n0, x) (n1, y) | ] interface = {n0, n1}
-abbrev pub par : Rule
-par = record {
+-- and with these edges on its right side
+abbrev pub par_with : List RightEdge → Rule
+par_with qs = record {
   types = types.List ∷ types.List ∷ types.List ∷ types.List ∷ [];
   left_nodes = left (Variable 0) unmarked false ∷ left (Variable 1) unmarked false ∷ [];
   left_edges = record { source = 0; target = 1; label = Variable 2; mark = Marked edge_marks.None; bidirectional = false }
       ∷ record { source = 0; target = 1; label = Variable 3; mark = Marked edge_marks.None; bidirectional = false } ∷ [];
   right_nodes = record { origin = Some 0; label = Variable 0; mark = unmarked; root = false } ∷ record { origin = Some 1; label = Variable 1; mark = unmarked; root = false } ∷ [];
-  right_edges = [];
+  right_edges = qs;
   condition = Holds;
 }
+
+abbrev pub par : Rule
+par = par_with []
 
 -- two nodes that stay, with one edge on each side: (x,y,z:list) [ (n0, x) (n1, y) | (e0, .., z) ] => [ (n0, x) (n1, y) | (e0, ..) ]
 abbrev pub one_edge : LeftEdge → RightEdge → Rule
@@ -109,23 +113,19 @@ one_edge p q = record {
   condition = Holds;
 }
 
--- (e0(B), n0, n1, z) on the left
-abbrev pub either_way : LeftEdge
-either_way = record { source = 0; target = 1; label = Variable 2; mark = Marked edge_marks.None; bidirectional = true }
+abbrev pub unmarked_edge : MarkPattern EdgeMark
+unmarked_edge = Marked edge_marks.None
 
--- (e0(B), n0, n1, z) on the right, and the same with its names exchanged
-abbrev pub as_found : RightEdge
-as_found = record { origin = Some 0; turned = false; source = 0; target = 1; label = Variable 2; mark = Marked edge_marks.None; bidirectional = true }
+-- (e0, n0, n1, z # mark) on the left, with `(B)` or without
+abbrev pub left_edge : MarkPattern EdgeMark → Bool → LeftEdge
+left_edge mark both = record { source = 0; target = 1; label = Variable 2; mark = mark; bidirectional = both }
 
-abbrev pub exchanged : RightEdge
-exchanged = record { origin = Some 0; turned = true; source = 1; target = 0; label = Variable 2; mark = Marked edge_marks.None; bidirectional = true }
+-- the left edge of that place with the names n0, n1 on the right, and with them exchanged
+abbrev pub as_written : ℕ → Expression ℕ → MarkPattern EdgeMark → Bool → RightEdge
+as_written i e mark both = record { origin = Some i; turned = false; source = 0; target = 1; label = e; mark = mark; bidirectional = both }
 
--- (e0, n0, n1, z # any) on the left, and (e0, n0, n1, 5 # any) on the right
-abbrev pub any_edge : LeftEdge
-any_edge = record { source = 0; target = 1; label = Variable 2; mark = AnyMark; bidirectional = false }
-
-abbrev pub any_kept : RightEdge
-any_kept = record { origin = Some 0; turned = false; source = 0; target = 1; label = Number (pos 5); mark = AnyMark; bidirectional = false }
+abbrev pub exchanged : ℕ → Expression ℕ → MarkPattern EdgeMark → Bool → RightEdge
+exchanged i e mark both = record { origin = Some i; turned = true; source = 1; target = 0; label = e; mark = mark; bidirectional = both }
 
 -- ---- what they say
 
@@ -180,8 +180,8 @@ pub record StringPatterns : Type 0 where
   pub too_short : Blocked (cut ∷ []) (0 ∷ []) (with_label (Str (codes "a") ∷ []))
   pub no_string : Blocked (cut ∷ []) (0 ∷ []) (with_label (Int (pos 1) ∷ []))
 
--- A `(B)` edge is matched in both directions, and the edge that is made begins at the name where the found one began,
--- in whichever order the right side has the names.
+-- ---- edges that are kept, and edges that are made
+
 abbrev pub labelled : ℕ → ℕ → ℤ → EdgeMark → Edge
 labelled a b z mark = record { source = a; target = b; label = Int z ∷ []; mark = mark }
 
@@ -195,15 +195,42 @@ behind d = two_nodes ((1, d) ∷ []) 2
 abbrev pub over_edge : Bool → Found
 over_edge reversed = found 0 (0 ∷ 1 ∷ []) (0 ∷ []) (reversed ∷ [])
 
+-- A right edge with the name and the ends of a left one keeps its number and gets the right label and mark. No number is
+-- used up.
+abbrev pub KeptEdgeIsRelabelled : Type 0
+KeptEdgeIsRelabelled = Step (one_edge (left_edge unmarked_edge false) (as_written 0 (Number (pos 5)) (Marked edge_marks.Red) false))
+    (before (labelled 0 1 (pos 7) edge_marks.None)) (over_edge false) (before (labelled 0 1 (pos 5) edge_marks.Red))
+
+-- With other ends it is another edge: the left one is removed, and it is made anew.
+abbrev pub OtherEndsAreAnotherEdge : Type 0
+OtherEndsAreAnotherEdge = Step (one_edge (left_edge unmarked_edge false) (exchanged 0 (Variable 2) unmarked_edge false))
+    (before (labelled 0 1 (pos 7) edge_marks.None)) (over_edge false) (behind (labelled 1 0 (pos 7) edge_marks.None))
+
+-- A `(B)` edge is matched in both directions and keeps its own, in whichever order the right side has the names.
 pub record DirectionIsKept : Type 0 where
-  pub forward : Step (one_edge either_way as_found) (before (labelled 0 1 (pos 7) edge_marks.None)) (over_edge false) (behind (labelled 0 1 (pos 7) edge_marks.None))
-  pub reversed : Step (one_edge either_way as_found) (before (labelled 1 0 (pos 7) edge_marks.None)) (over_edge true) (behind (labelled 1 0 (pos 7) edge_marks.None))
-  pub forward_exchanged : Step (one_edge either_way exchanged) (before (labelled 0 1 (pos 7) edge_marks.None)) (over_edge false) (behind (labelled 0 1 (pos 7) edge_marks.None))
-  pub reversed_exchanged : Step (one_edge either_way exchanged) (before (labelled 1 0 (pos 7) edge_marks.None)) (over_edge true) (behind (labelled 1 0 (pos 7) edge_marks.None))
+  pub forward : Step (one_edge (left_edge unmarked_edge true) (as_written 0 (Number (pos 5)) unmarked_edge true))
+      (before (labelled 0 1 (pos 7) edge_marks.None)) (over_edge false) (before (labelled 0 1 (pos 5) edge_marks.None))
+  pub reversed : Step (one_edge (left_edge unmarked_edge true) (as_written 0 (Number (pos 5)) unmarked_edge true))
+      (before (labelled 1 0 (pos 7) edge_marks.None)) (over_edge true) (before (labelled 1 0 (pos 5) edge_marks.None))
+  pub forward_exchanged : Step (one_edge (left_edge unmarked_edge true) (exchanged 0 (Number (pos 5)) unmarked_edge true))
+      (before (labelled 0 1 (pos 7) edge_marks.None)) (over_edge false) (before (labelled 0 1 (pos 5) edge_marks.None))
+  pub reversed_exchanged : Step (one_edge (left_edge unmarked_edge true) (exchanged 0 (Number (pos 5)) unmarked_edge true))
+      (before (labelled 1 0 (pos 7) edge_marks.None)) (over_edge true) (before (labelled 1 0 (pos 5) edge_marks.None))
+
+-- Where the right side has it without `(B)` it is another edge, which goes as it is written.
+abbrev pub OneWayIsAnotherEdge : Type 0
+OneWayIsAnotherEdge = Step (one_edge (left_edge unmarked_edge true) (as_written 0 (Variable 2) unmarked_edge false))
+    (before (labelled 1 0 (pos 7) edge_marks.None)) (over_edge true) (behind (labelled 0 1 (pos 7) edge_marks.None))
 
 -- `any` on an edge takes each mark, and keeps it.
 abbrev pub AnyKeepsMarkOfEdge : Type 0
-AnyKeepsMarkOfEdge = (mark : EdgeMark) → Step (one_edge any_edge any_kept) (before (labelled 0 1 (pos 7) mark)) (over_edge false) (behind (labelled 0 1 (pos 5) mark))
+AnyKeepsMarkOfEdge = (mark : EdgeMark) → Step (one_edge (left_edge AnyMark false) (as_written 0 (Number (pos 5)) AnyMark false))
+    (before (labelled 0 1 (pos 7) mark)) (over_edge false) (before (labelled 0 1 (pos 5) mark))
+
+-- Of two parallel edges the one that the right side has is kept, and the other is removed.
+abbrev pub KeptBesideRemoved : Type 0
+KeptBesideRemoved = Step (par_with (as_written 1 (Variable 3) unmarked_edge false ∷ []))
+    (two_nodes ((0, edge 0 1) ∷ (1, edge 0 1) ∷ []) 2) (found 0 (0 ∷ 1 ∷ []) (0 ∷ 1 ∷ []) (false ∷ false ∷ [])) (two_nodes ((1, edge 0 1) ∷ []) 2)
 
 -- ---- shares
 

@@ -4,7 +4,7 @@ ghost use Rattle.gp_syntax.specs.Laws.{StepIsUnique, StepWithoutVariablesIsUniqu
 ghost use Rattle.gp_syntax.specs.Simple.{SimpleLabelsAreThese};
 ghost use Rattle.gp_values.specs.Names.{Name};
 ghost use Rattle.std.specs.Prelude.{ℕ};
-ghost use Rattle.gp_syntax.specs.Rows.{DanglingEdgeBlocks, IsolatedNodeIsDeleted, OneEdgeIsNotTwo, ParallelEdgesMatch, RootWantsRoot, RootIsTakenAway, OtherWantsNoRoot, AnyKeepsMark, IfTakesBack, TryTakesBack, FailedBodyIsTakenBack, BreakKeepsBody, EmptySetEndsLoop, SkipLoopStands, ThenBegins, OrTakesEither, ProceduresRun, StringPatterns, DirectionIsKept, AnyKeepsMarkOfEdge, SharesGoByFirstNode};
+ghost use Rattle.gp_syntax.specs.Rows.{DanglingEdgeBlocks, IsolatedNodeIsDeleted, OneEdgeIsNotTwo, ParallelEdgesMatch, RootWantsRoot, RootIsTakenAway, OtherWantsNoRoot, AnyKeepsMark, IfTakesBack, TryTakesBack, FailedBodyIsTakenBack, BreakKeepsBody, EmptySetEndsLoop, SkipLoopStands, ThenBegins, OrTakesEither, ProceduresRun, StringPatterns, KeptEdgeIsRelabelled, OtherEndsAreAnotherEdge, DirectionIsKept, OneWayIsAnotherEdge, AnyKeepsMarkOfEdge, KeptBesideRemoved, SharesGoByFirstNode};
 ghost use Rattle.gp_syntax.specs.ValueRows.{ArithmeticHasEnds, DivisionTruncates, FirstKindIsTold, LengthGoesByType, DegreesCountLoops, ChainsJoin, SecondPartWaits, EdgeTests, OtherTests};
 
 /// A match leads, by its assignment, to one graph.
@@ -82,10 +82,14 @@ pub fn string_pattern_examples()
     ensures { StringPatterns }
 {}
 
-/// What a made edge keeps of the one that was found: with `(B)` its direction, with `any` its mark.
+/// Which edges a step keeps, with what they carry, and which it makes anew.
 pub fn kept_edge_examples()
+    ensures relabelled { KeptEdgeIsRelabelled }
+    ensures other_ends { OtherEndsAreAnotherEdge }
     ensures direction { DirectionIsKept }
+    ensures one_way { OneWayIsAnotherEdge }
     ensures any { AnyKeepsMarkOfEdge }
+    ensures parallel { KeptBesideRemoved }
 {}
 
 /// Integers of 128 bits, division, and the kind that is met first.

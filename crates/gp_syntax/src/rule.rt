@@ -2,7 +2,9 @@
 
 ghost use Rattle.std.specs.Prelude.{◌≡◌};
 ghost use Rattle.gp_syntax.specs.Checked.{IsChecked};
-ghost use Rattle.gp_syntax.specs.Tree.{rule_of_tree};
+ghost use Rattle.gp_syntax.specs.Rule.{kept_edge};
+ghost use Rattle.gp_syntax.specs.Rule as meant;
+ghost use Rattle.gp_syntax.specs.Tree.{rule_of_tree, left_edge_of, right_edge_of};
 ghost use Rattle.gp_syntax.specs.WellFormed.{IsWellFormed};
 
 use crate::expression::{Cond, Expr};
@@ -91,6 +93,49 @@ impl Drop for RuleParts {
         drop(right_edges);
         drop(condition);
     }
+}
+
+impl RuleParts {
+    /// The place of the left edge that this right edge keeps, or none where a step makes it anew.
+    pub fn kept_edge(&self, edge: &RightEdge) -> Option<u32>
+        ensures { result ≡ kept_edge (rule_of_tree self.now) (right_edge_of edge.now) }
+    {
+        let place = edge.origin?;
+        let left = self.left_edges.as_slice().get(place as usize)?;
+        if is_same_edge(self, edge, left) {
+            Some(place)
+        } else {
+            None
+        }
+    }
+}
+
+// Whether the right node of the one place is the left node of the other.
+fn keeps_node(parts: &RuleParts, right: u32, left: u32) -> bool
+    ensures { result ≡ meant.keeps_node (rule_of_tree parts.now) right left }
+{
+    match parts.right_nodes.as_slice().get(right as usize) {
+        Some(node) => match node.origin {
+            Some(place) => place == left,
+            None => false,
+        },
+        None => false,
+    }
+}
+
+// Whether a right edge is the left edge of its name.
+fn is_same_edge(parts: &RuleParts, edge: &RightEdge, left: &LeftEdge) -> bool
+    ensures { result ≡ meant.is_same_edge (rule_of_tree parts.now) (right_edge_of edge.now) (left_edge_of left.now) }
+{
+    let (source, target) = if edge.turned {
+        (left.target, left.source)
+    } else {
+        (left.source, left.target)
+    };
+    left.bidirectional == edge.bidirectional
+        && (edge.bidirectional || !edge.turned)
+        && keeps_node(parts, edge.source, source)
+        && keeps_node(parts, edge.target, target)
 }
 
 /// A checked rule: that of a declaration without a fault. Contracts see its parts.
