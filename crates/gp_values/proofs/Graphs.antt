@@ -1,12 +1,15 @@
 -- Each edit of a graph changes one place, and leaves a graph.
-use Rattle.std.proofs.Common.{inl, inr, ◌≡◌, ℕ, ◌<◌, ◌≢◌, sym, subst, ◌∙◌, arith}
-use Rattle.std.specs.Prelude.{◌⊎◌, Some, None, IsSome}
+use Rattle.std.proofs.Common.{inl, inr, ◌≡◌, ℕ, ◌<◌, ◌≢◌, refl, sym, subst, ◌∙◌, arith}
+use Rattle.std.specs.Prelude.{◌⊎◌, List, Option, Some, None, IsSome}
+use Rattle.std.specs.Option.{option_map_or}
 use Rattle.std.specs.Ordering.{nat_cmp}
 use Rattle.std.specs.Cmp.{nat_cmp_total, unsigned_tied}
 use Rattle.std.specs.FinMap.{FinMap, get, insert, remove, gets, get-empty, same_map, nat_cmp-IsAntisymmetric}
 use Rattle.std.proofs.lemmas.Grind.{common_steps}
+use Rattle.gp_values.specs.declared.atom.Atom.{Atom}
+use Rattle.gp_values.specs.declared.marks.EdgeMark.{EdgeMark}
 use Rattle.gp_values.specs.Atoms.{AreAtoms}
-use Rattle.gp_values.specs.Graph.{Node, Edge, Graph, IsGraph, HasNoEdges, empty_graph, with_node, with_edge, without_node, without_edge, relabeled, node_at, edge_at}
+use Rattle.gp_values.specs.Graph.{Node, Edge, Graph, IsGraph, HasNoEdges, empty_graph, with_node, with_edge, without_node, without_edge, relabeled, relabeled_edge, with_edge_at, node_at, edge_at}
 
 -- what a map has after a change at one key
 pub get-insert_here : {X : Type 0} (m : FinMap nat_cmp X) (k : ℕ) (v : X) → get (insert m k v) k ≡ Some v
@@ -112,6 +115,27 @@ IsGraph-relabeled g k x w s v = record {
   node_labels = each-insert (λ (y : Node). AreAtoms y.label) g.nodes k x v w.node_labels;
   edge_labels = w.edge_labels;
 }
+
+some_of : {X : Type 0} (o : Option X) (x : X) → o ≡ Some x → IsSome o
+some_of None x e = cc
+some_of (Some y) x e = refl
+
+relabeled_edge-at : (g : Graph) (k : ℕ) (l : List Atom) (m : EdgeMark) (o : Option Edge) → edge_at g k ≡ o → IsGraph g → AreAtoms l
+    → IsGraph (option_map_or (λ (d : Edge). with_edge_at g k (record d { label = l; mark = m })) o g)
+relabeled_edge-at g k l m None is w v = w
+relabeled_edge-at g k l m (Some d) is w v =
+    let x : Edge = record d { label = l; mark = m } in
+    record {
+      nodes_below = w.nodes_below;
+      edges_below = λ n h. elim (IsSome-inserted g.edges k n x h) [ inl e ↦ rw e (w.edges_below k (some_of (edge_at g k) d is)) | inr s ↦ w.edges_below n s ];
+      sources = each-insert (λ (z : Edge). IsSome (node_at g z.source)) g.edges k x (w.sources k d is) w.sources;
+      targets = each-insert (λ (z : Edge). IsSome (node_at g z.target)) g.edges k x (w.targets k d is) w.targets;
+      node_labels = w.node_labels;
+      edge_labels = each-insert (λ (z : Edge). AreAtoms z.label) g.edges k x v w.edge_labels;
+    }
+
+pub IsGraph-relabeled_edge : (g : Graph) (e : ℕ) (l : List Atom) (m : EdgeMark) → IsGraph g → AreAtoms l → IsGraph (relabeled_edge g e l m)
+IsGraph-relabeled_edge g e l m w v = relabeled_edge-at g e l m (edge_at g e) refl w v
 
 pub same_graph : (g h : Graph) → ((n : ℕ) → node_at g n ≡ node_at h n) → ((e : ℕ) → edge_at g e ≡ edge_at h e) → g.next_node ≡ h.next_node → g.next_edge ≡ h.next_edge → g ≡ h
 same_graph g h a b c d =
