@@ -9,6 +9,7 @@ use Rattle.gp_syntax.specs.Value.{Assignment}
 use Rattle.gp_syntax.specs.Rule.{Rule, LeftEdge, RightNode, RightEdge, Found, is_origin, differ, keeps_node, is_same_edge, kept_edge, kept_nodes}
 use Rattle.gp_syntax.specs.Match.{MatchBy, FitsEdge, setting_of}
 use Rattle.gp_syntax.specs.Step.{Places, is_exchanged}
+use Rattle.gp_syntax.specs.Laws.{KeptEdgesStay}
 use Rattle.gp_syntax.proofs.Kept.{Decides-origin}
 
 some_same : {X : Type 0} {x y : X} → Some x ≡ Some y → x ≡ y
@@ -80,3 +81,17 @@ kept_ends r g m a next images w places q i d h s =
     (kept_lies r m next images places q.source (if q.turned then p.target else p.source) ends.0) (kept_lies r m next images places q.target (if q.turned then p.source else p.target) ends.1) in
     subst (λ o. LiesBetween images (q.bidirectional && differ (option_map_or (λ i. slice_index_or m.reversed i false) o false) q.turned) q d) (sym k.3)
     (fits.source ∙ way.0, fits.target ∙ way.1)
+
+-- ---- after a step
+
+-- of one edge that is made between the images of its ends, another that lies between them has the ends
+same_ends : (images : List ℕ) (exchanged : Bool) (q : RightEdge) (d e : Edge) → LiesBetween images exchanged q d → LiesBetween images exchanged q e → (e.source ≡ d.source) × (e.target ≡ d.target)
+same_ends images exchanged q d e b c = (c.0 ∙ sym b.0, c.1 ∙ sym b.1)
+
+pub kept_edges_stay : KeptEdgesStay
+kept_edges_stay r g m a h w s k i q at keeps d there =
+    let made = s.right_edges k q at in
+    let place : slice_index s.edge_images k ≡ slice_index m.edges i = s.edge_places.old k i (slice_get-map (kept_edge r) r.right_edges k ∙ ap (option_map (kept_edge r)) at ∙ ap (λ o. Some o) keeps) in
+    let stands : edge_at h (slice_index m.edges i) ≡ Some made.0 = subst (λ n. edge_at h n ≡ Some made.0) place made.1 in
+    let ends = same_ends s.images (is_exchanged m q) q d made.0 (kept_ends r g m a g.next_node s.images w s.places q i d keeps there) (made.2.source, made.2.target) in
+    subst (λ o. IsSomeAnd o (λ (e : Edge). (e.source ≡ d.source) × (e.target ≡ d.target))) (sym stands) ends

@@ -1,12 +1,12 @@
 -- What holds of matches, steps and runs, whoever makes them.
-use Rattle.std.specs.Prelude.{◌≡◌, ◌↔◌, ℕ, ◌<◌, Bool, List, [], ◌++◌, length, slice_get, Some}
-use Rattle.gp_values.specs.Graph.{Graph}
+use Rattle.std.specs.Prelude.{◌≡◌, ◌↔◌, ℕ, ◌<◌, Bool, List, [], ◌++◌, length, slice_get, slice_index, Some, IsSomeAnd}
+use Rattle.gp_values.specs.Graph.{Graph, Edge, edge_at}
 use Rattle.gp_values.specs.Names.{Name}
 use Rattle.gp_syntax.specs.declared.kinds.NumberKind.{NumberKind}
 use Rattle.gp_syntax.specs.Expression.{Expression, renamed}
 use Rattle.gp_syntax.specs.Value.{Assignment, Setting, Value, value_of}
-use Rattle.gp_syntax.specs.Match.{Match}
-use Rattle.gp_syntax.specs.Rule.{Rule, LeftEdge, RightNode, RightEdge, Found}
+use Rattle.gp_syntax.specs.Match.{Match, MatchBy}
+use Rattle.gp_syntax.specs.Rule.{Rule, LeftEdge, RightNode, RightEdge, Found, kept_edge}
 use Rattle.gp_syntax.specs.Step.{StepBy, Step, Applies, IsFaulty}
 use Rattle.gp_syntax.specs.Run.{Command, Program, Item, Ending, graph_at, Run}
 use Rattle.gp_syntax.specs.Replay.{Replays}
@@ -20,6 +20,12 @@ StepIsUnique = (r : Rule) (g : Graph) (m : Found) (a : Assignment) (h k : Graph)
 -- And by any, where no variable stands in a left label.
 abbrev pub StepWithoutVariablesIsUnique : Type 0
 StepWithoutVariablesIsUnique = (r : Rule) (g : Graph) (m : Found) (h k : Graph) → r.types ≡ [] → Step r g m h → Step r g m k → h ≡ k
+
+-- A kept edge stays at its number and between its nodes.
+abbrev pub KeptEdgesStay : Type 0
+KeptEdgesStay = (r : Rule) (g : Graph) (m : Found) (a : Assignment) (h : Graph) → MatchBy r g m a → StepBy r g m a h →
+    (k i : ℕ) (q : RightEdge) → slice_get r.right_edges k ≡ Some q → kept_edge r q ≡ Some i → (d : Edge) → edge_at g (slice_index m.edges i) ≡ Some d →
+    IsSomeAnd (edge_at h (slice_index m.edges i)) (λ e. (e.source ≡ d.source) × (e.target ≡ d.target))
 
 -- The trace of a run leads from its first graph to the one at which it ends, and each beginning of it leads to some graph.
 pub record TraceReplays (program : Program) (g : Graph) (t : List Item) (x : Ending) : Type 0 where

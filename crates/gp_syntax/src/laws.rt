@@ -1,6 +1,6 @@
 //! What holds of the definitions: laws, and worked examples. Each function does nothing: its contract is the law.
 
-ghost use Rattle.gp_syntax.specs.Laws.{StepIsUnique, StepWithoutVariablesIsUnique, RunsReplay, RulesOfDeclarationsFit, ConstantsHaveTheirValue, FaultlessRulesApply};
+ghost use Rattle.gp_syntax.specs.Laws.{StepIsUnique, StepWithoutVariablesIsUnique, KeptEdgesStay, RunsReplay, RulesOfDeclarationsFit, ConstantsHaveTheirValue, FaultlessRulesApply};
 ghost use Rattle.gp_syntax.specs.Simple.{SimpleLabelsAreThese};
 ghost use Rattle.gp_values.specs.Names.{Name};
 ghost use Rattle.std.specs.Prelude.{ℕ};
@@ -11,6 +11,11 @@ ghost use Rattle.gp_syntax.specs.ValueRows.{ArithmeticHasEnds, DivisionTruncates
 pub fn step_is_unique()
     ensures by_assignment { StepIsUnique }
     ensures without_variables { StepWithoutVariablesIsUnique }
+{}
+
+/// A kept edge stays at its number and between its nodes.
+pub fn kept_edges_stay()
+    ensures { KeptEdgesStay }
 {}
 
 /// A run's trace leads to the graph at which it ends, and each beginning of it to some graph.
