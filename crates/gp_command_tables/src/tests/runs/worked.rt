@@ -312,6 +312,23 @@ bid(z:list) [ (n0, 1) (n1, 2) | (e0(B), n0, n1, z) ] => [ (n0, 1 # red) (n1, 2) 
 % 1 out
 fail
 
+Main = paint; wipe
+paint(x,y,a:list) [ (n0, x) (n1, y) | (e0, n0, n1, a) ] => [ (n0, x) (n1, y) | (e0, n0, n1, a # red) ] interface = {n0, n1}
+wipe(x,y,a:list) [ (n0, x) (n1, y) | (e0, n0, n1, a # red) ] => [ (n0, x) (n1, y) | (e0, n0, n1, a) ] interface = {n0, n1}
+% [ (a, 1) (b, 2) | (x, a, b, 3) ]
+% run p h --journal
+% 0 out
+gp2-trace 1
+step 0 nodes 0 1 edges 0
+step 1 nodes 0 1 edges 0
+end
+[
+  (n0, 1)
+  (n1, 2)
+|
+  (e0, n0, n1, 3)
+]
+
 Main = keep
 keep(x:list) [ (n0, x # any) | ] => [ (n0, 5 # any) | ] interface = {n0}
 % [ (a(R), 1) | ]
