@@ -1,18 +1,20 @@
 -- What the calls of a graph owe, over plain lists of slots.
-use Rattle.std.proofs.Common.{inl, inr, ◌≡◌, ◌≢◌, ℕ, zero, suc, ◌+◌, ◌-◌, ◌<◌, List, [], ◌∷◌, ◌++◌, length, take, refl, sym, ap, subst, ◌∙◌, arith, length-append, length-set, Bool}
-use Rattle.std.specs.Prelude.{◌⊎◌, Option, Some, None, IsSome, IsSomeAnd, IfSome, slice_set}
-use Rattle.std.specs.Option.{option_map}
+use Rattle.std.proofs.Common.{inl, inr, ◌≡◌, ℕ, zero, suc, ◌+◌, ◌-◌, ◌<◌, List, [], ◌∷◌, ◌++◌, length, take, refl, sym, ap, subst, ◌∙◌, arith, Bool}
+use Rattle.std.specs.Prelude.{◌↔◌, Option, Some, None, IsSome, IsSomeAnd, IfSome, slice_set}
+use Rattle.std.specs.Option.{option_map, option_map_or}
 use Rattle.std.specs.FinMap.{len-empty}
 use Rattle.std.specs.Ordering.{nat_cmp}
 use Rattle.std.proofs.lemmas.Bool.{cases_eq}
 use Rattle.gp_values.specs.declared.atom.Atom.{Atom}
 use Rattle.gp_values.specs.declared.marks.NodeMark.{NodeMark}
-use Rattle.gp_values.specs.Graph.{Node, Edge, Graph, IsGraph, HasNoEdges, node_at, edge_at, node_count, with_node, with_edge, with_node_at, with_edge_at, without_node, without_edge, without_node_number, without_edge_number, relabeled, empty_graph}
-use Rattle.gp_values.proofs.Graphs.{IsGraph-empty, IsGraph-without_edge}
+use Rattle.gp_values.specs.declared.marks.EdgeMark.{EdgeMark}
+use Rattle.gp_values.specs.Atoms.{AreAtoms}
+use Rattle.gp_values.specs.Graph.{Node, Edge, Graph, IsGraph, HasNoEdges, node_at, edge_at, node_count, with_edge_at, without_edge, relabeled, relabeled_edge}
+use Rattle.gp_values.proofs.Graphs.{IsGraph-empty, IsGraph-without_edge, IsGraph-relabeled_edge}
 use Rattle.gp_values.proofs.Edits.{IsGraph-without_node_number, IsGraph-without_edge_number}
-use Rattle.gp_graph.specs.inside.Slots.{slot_in, map_of}
+use Rattle.gp_graph.specs.inside.Slots.{slot_in}
 use Rattle.gp_graph.specs.inside.View.{node_of, edge_of, graph_from}
-use Rattle.gp_graph.specs.inside.Rings.{end_of, link_in, ring_in, ring_of, next_of, prev_of, first_of, count_of, changed_at, Meets, HasRings, HasRingsBut, AllRings, AllRingsBut, Links, ShowSame, ShowsSame, root_link}
+use Rattle.gp_graph.specs.inside.Rings.{end_of, link_in, ring_in, ring_of, next_of, prev_of, first_of, count_of, changed_at, Meets, HasRings, AllRings, AllRingsBut, Links, ShowsSame, root_link, rewritten_edge}
 use Rattle.gp_graph.specs.inside.Roots.{HasRoots, HasRootsBut, KeepsNodes, rewritten}
 use Rattle.gp_graph.specs.inside.Sound.{IsHeld}
 use Rattle.gp_graph.specs.declared.slots.Ring.{Ring}
@@ -21,8 +23,8 @@ use Rattle.gp_graph.specs.declared.slots.EdgeSlot.{EdgeSlot}
 use Rattle.gp_graph.specs.declared.rings.Side.{Side}
 use Rattle.gp_graph.specs.declared.rings.Side.TheVariants.{Beginning, Ending}
 use Rattle.gp_graph.proofs.SlotMaps.{seen_at}
-use Rattle.gp_graph.proofs.Views.{nothing, cleared_edge, set_node, dropped_node, dropped_edge}
-use Rattle.gp_graph.proofs.Links.{kept, slot_here, slot_other, slot_within}
+use Rattle.gp_graph.proofs.Views.{nothing, cleared_edge, set_node, set_edge, dropped_node, dropped_edge}
+use Rattle.gp_graph.proofs.Links.{kept, changed_here, some_kept, still_some, slot_here, slot_other, slot_within}
 use Rattle.gp_graph.proofs.RingSets.{rings_agree}
 use Rattle.gp_graph.proofs.Sides.{same_shown, same_rings, gone_node, no_rings, taken, freed, slot_past, slot_pushed, slot_push_other}
 use Rattle.gp_graph.proofs.RootSteps.{roots_kept, roots_but, roots_off, no_root, no_roots, ring_rewritten}
@@ -102,6 +104,69 @@ held_cleared ns es ns' es' r c e h s ln le rings l =
       roots = roots_kept r ns ns' s.nodes s.roots h.roots;
       count = h.count ∙ ap node_count (sym seen);
     }
+
+-- the links round the edges have changed and nothing else
+pub held_turned : (ns ns' : List (Option NodeSlot)) (es : List (Option EdgeSlot)) (r : Ring) (c : ℕ) → IsHeld ns es r c → ShowsSame ns es ns' es → length ns' ≡ length ns → AllRings ns' es → IsHeld ns' es r c
+held_turned ns ns' es r c h s l rings = held_same ns es ns' es r c (graph_from ns es) refl h.graph s l refl rings h.roots h.count
+
+-- ---- edges are relabelled
+
+met_rewritten-at : (side : Side) (l : List Atom) (m : EdgeMark) (o : Option EdgeSlot) (n : ℕ)
+    → IsSomeAnd (option_map edge_of o) (λ d. end_of side d ≡ n) ↔ IsSomeAnd (option_map edge_of (option_map (rewritten_edge l m) o)) (λ d. end_of side d ≡ n)
+met_rewritten-at side l m None n = (λ h. h, λ h. h)
+met_rewritten-at Beginning l m (Some s) n = (λ h. h, λ h. h)
+met_rewritten-at Ending l m (Some s) n = (λ h. h, λ h. h)
+
+met_rewritten : (side : Side) (es : List (Option EdgeSlot)) (e : ℕ) (l : List Atom) (m : EdgeMark) (n k : ℕ) → Meets side es n k ↔ Meets side (changed_at (rewritten_edge l m) es e) n k
+met_rewritten side es e l m n k =
+    elim (cases_eq k e) [
+      | inl is ↦ subst (λ i. Meets side es n i ↔ Meets side (changed_at (rewritten_edge l m) es e) n i) (sym is)
+          (subst (λ o. Meets side es n e ↔ IsSomeAnd (option_map edge_of o) (λ d. end_of side d ≡ n)) (sym (changed_here (rewritten_edge l m) es e)) (met_rewritten-at side l m (slot_in es e) n))
+      | inr ne ↦ subst (λ o. Meets side es n k ↔ IsSomeAnd (option_map edge_of o) (λ d. end_of side d ≡ n)) (sym (slot_other es e (option_map (rewritten_edge l m) (slot_in es e)) k ne)) (λ h. h, λ h. h)
+    ]
+
+link_rewritten : (side : Side) (l : List Atom) (m : EdgeMark) (o : Option EdgeSlot) → link_in side (option_map (rewritten_edge l m) o) ≡ link_in side o
+link_rewritten side l m None = refl
+link_rewritten Beginning l m (Some s) = refl
+link_rewritten Ending l m (Some s) = refl
+
+rings_rewritten_edge : (ns : List (Option NodeSlot)) (es : List (Option EdgeSlot)) (e : ℕ) (l : List Atom) (m : EdgeMark) → AllRings ns es → AllRings ns (changed_at (rewritten_edge l m) es e)
+rings_rewritten_edge ns es e l m rings side =
+    let es' = changed_at (rewritten_edge l m) es e in
+    let same : (k : ℕ) → link_in side (slot_in es' k) ≡ link_in side (slot_in es k) = kept (link_in side) (rewritten_edge l m) (link_rewritten side l m) es e in
+    rings_agree (first_of side ns) (count_of side ns) (next_of side es) (prev_of side es) (first_of side ns) (count_of side ns) (next_of side es') (prev_of side es') (Meets side es) (Meets side es') (rings side)
+    (λ n. refl) (λ n. refl) (λ n k h. ap (λ x. x.next) (same k)) (λ n k h. ap (λ x. x.prev) (same k)) (met_rewritten side es e l m)
+
+seen_edge-at : (ns : List (Option NodeSlot)) (es : List (Option EdgeSlot)) (e : ℕ) (l : List Atom) (m : EdgeMark) (o : Option EdgeSlot) → slot_in es e ≡ o → IsSome o → e < length es
+    → graph_from ns (slice_set es e (option_map (rewritten_edge l m) o)) ≡ relabeled_edge (graph_from ns es) e l m
+seen_edge-at ns es e l m None is h b = absurd cc
+seen_edge-at ns es e l m (Some s) is h b =
+    let g = graph_from ns es in
+    set_edge ns es e (rewritten_edge l m s) b ∙ sym (ap (λ o. option_map_or (λ (d : Edge). with_edge_at g e (record d { label = l; mark = m })) o g) (seen_at edge_of es e ∙ ap (option_map edge_of) is))
+
+pub seen_edge_rewritten : (ns : List (Option NodeSlot)) (es : List (Option EdgeSlot)) (e : ℕ) (l : List Atom) (m : EdgeMark) → IsSome (slot_in es e) → graph_from ns (changed_at (rewritten_edge l m) es e) ≡ relabeled_edge (graph_from ns es) e l m
+seen_edge_rewritten ns es e l m h = seen_edge-at ns es e l m (slot_in es e) refl h (slot_within es e h)
+
+pub held_edge_rewritten : (ns : List (Option NodeSlot)) (es : List (Option EdgeSlot)) (r : Ring) (c e : ℕ) (l : List Atom) (m : EdgeMark) → IsHeld ns es r c → IsSome (slot_in es e) → AreAtoms l → IsHeld ns (changed_at (rewritten_edge l m) es e) r c
+held_edge_rewritten ns es r c e l m h there atoms = record {
+  graph = subst IsGraph (sym (seen_edge_rewritten ns es e l m there)) (IsGraph-relabeled_edge (graph_from ns es) e l m h.graph atoms);
+  rings = rings_rewritten_edge ns es e l m h.rings;
+  roots = h.roots;
+  count = h.count;
+}
+
+pub edge_seen : (ns : List (Option NodeSlot)) (es : List (Option EdgeSlot)) (e : ℕ) → IsSome (slot_in es e) → IsSome (edge_at (graph_from ns es) e)
+edge_seen ns es e h = subst IsSome (sym (seen_at edge_of es e)) (some_kept edge_of (slot_in es e) h)
+
+pub edge_rewritten_seen : (ns : List (Option NodeSlot)) (es : List (Option EdgeSlot)) (e : ℕ) (l : List Atom) (m : EdgeMark) → IsSome (slot_in es e) → IsSome (edge_at (graph_from ns (changed_at (rewritten_edge l m) es e)) e)
+edge_rewritten_seen ns es e l m h = edge_seen ns (changed_at (rewritten_edge l m) es e) e (still_some (rewritten_edge l m) es e e h)
+
+edge_label_was-at : (o : Option EdgeSlot) (l : List Atom) → option_map (λ (s : EdgeSlot). s.label) o ≡ Some l → IfSome (option_map edge_of o) (λ d. l ≡ d.label)
+edge_label_was-at None l h = absurd cc
+edge_label_was-at (Some s) l h = cc
+
+pub edge_label_was : (ns : List (Option NodeSlot)) (es : List (Option EdgeSlot)) (e : ℕ) (l : List Atom) → option_map (λ (s : EdgeSlot). s.label) (slot_in es e) ≡ Some l → IfSome (edge_at (graph_from ns es) e) (λ d. l ≡ d.label)
+edge_label_was ns es e l h = subst (λ o. IfSome o (λ d. l ≡ d.label)) (sym (seen_at edge_of es e)) (edge_label_was-at (slot_in es e) l h)
 
 -- ---- nodes come, go and are relabelled: what is held before the links among the roots are mended
 

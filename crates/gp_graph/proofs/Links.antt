@@ -112,9 +112,9 @@ root_same Ending r (Some s) = refl
 abbrev pub joined : Side → List (Option EdgeSlot) → ℕ → ℕ → List (Option EdgeSlot)
 joined side es from to = changed_at (with_prev side from) (changed_at (with_next side to) es from) to
 
-some_kept : {X : Type 0} (f : X → X) (o : Option X) → IsSome o → IsSome (option_map f o)
-some_kept f None h = h
-some_kept f (Some x) h = h
+pub some_kept : {X Y : Type 0} (f : X → Y) (o : Option X) → IsSome o → IsSome (option_map f o)
+some_kept f None h = absurd cc
+some_kept f (Some x) h = refl
 
 pub still_some : {X : Type 0} (f : X → X) (xs : List (Option X)) (p k : ℕ) → IsSome (slot_in xs k) → IsSome (slot_in (changed_at f xs p) k)
 still_some f xs p k h =

@@ -1,13 +1,14 @@
 -- What entering a ring and leaving it make of all rings.
-use Rattle.std.proofs.Common.{inl, inr, ◌≡◌, ◌≢◌, ℕ, zero, suc, ◌+◌, ◌-◌, ◌==◌, Bool, true, false, if◌then◌else◌, List, [], ◌∷◌, ◌++◌, length, refl, sym, ap, subst, ◌∙◌, arith, length-append}
+use Rattle.std.proofs.Common.{inl, inr, ◌≡◌, ◌≢◌, ℕ, zero, suc, ◌+◌, ◌-◌, ◌<◌, ◌==◌, Bool, true, false, if◌then◌else◌, List, [], ◌∷◌, ◌++◌, length, get_or, refl, sym, ap, subst, ◌∙◌, arith, length-append}
 use Rattle.std.specs.Prelude.{◌⊎◌, ◌↔◌, Contains}
 use Rattle.std.proofs.lemmas.Bool.{cases_eq, eqb-true, eq-eqb}
+use Rattle.std.proofs.lemmas.List.{get_or_append_left}
 use Rattle.std.proofs.lemmas.List.Elements.{Contains-push_cases, Contains-push, Contains-append_left}
 use Rattle.gp_values.specs.Apart.{AreApart}
 use Rattle.gp_graph.specs.Walks.{Walks}
 use Rattle.gp_graph.specs.Chains.{without, follow, Goes, GoesRound, Joins, AreRings, Begins}
 use Rattle.gp_graph.proofs.Numbers.{here, later, first_or_later, first_new, others_apart, apart_more, length-without, Contains-without, Walks-same}
-use Rattle.gp_graph.proofs.Rounds.{frame_round, push_round, remove_round, next_round, prev_round, follow-round, length-follow}
+use Rattle.gp_graph.proofs.Rounds.{frame_round, push_round, remove_round, turn_round, next_round, prev_round, follow-round, length-follow}
 
 pub apart_push : (xs : List ℕ) (e : ℕ) → AreApart xs → (Contains xs e → ⊥) → AreApart (xs ++ e ∷ [])
 apart_push [] e apart new = λ i j less within same. absurd (omega arith)
@@ -81,6 +82,50 @@ rings_agree first count nx pv first' count' nx' pv' Holds Holds' r f c n p same 
       round_agree nx pv nx' pv' xs (λ e h. n k e (((r.walks k).each e).0 h)) (λ e h. p k e (((r.walks k).each e).0 h)) (r.rounds k),
       Walks-same xs (Holds k) (Holds' k) (same k) (r.walks k),
     ))
+
+-- ---- another first
+
+Walks-turn : (x : ℕ) (xs : List ℕ) (P : ℕ → Type 0) → Walks (x ∷ xs) P → Walks (xs ++ x ∷ []) P
+Walks-turn x xs P w = record {
+  once = apart_push xs x (others_apart x xs w.once) (first_new x xs w.once);
+  each = λ m. (
+    λ h. elim (Contains-push_cases xs x m h) [ inl there ↦ (w.each m).0 (later x xs m there) | inr is ↦ (w.each m).0 (here x xs m is) ],
+    λ h. elim (first_or_later x xs m ((w.each m).1 h)) [ inl is ↦ subst (Contains (xs ++ x ∷ [])) is (Contains-push xs x) | inr there ↦ Contains-append_left xs (x ∷ []) m there ],
+  );
+}
+
+-- links that go round a list go round it from any of its numbers
+turned_to : (nx pv : ℕ → ℕ) (P : ℕ → Type 0) (e i : ℕ) (xs : List ℕ) → i < length xs → get_or xs i e ≡ e → GoesRound nx pv xs → Walks xs P → (ys : List ℕ) × Begins e (length xs) ys × GoesRound nx pv ys × Walks ys P
+turned_to nx pv P e i [] within is s w = absurd (omega arith)
+turned_to nx pv P e zero (x ∷ xs) within is s w = (x ∷ xs, (sym is, refl), s, w)
+turned_to nx pv P e (suc i) (x ∷ []) within is s w = absurd (omega arith)
+turned_to nx pv P e (suc i) (x ∷ y ∷ ys) within is s w =
+    let zs = y ∷ ys in
+    let l : i < length zs = omega arith in
+    let long : length (zs ++ x ∷ []) ≡ length (x ∷ zs) = let a = length-append zs (x ∷ []) in omega (arith, a) in
+    subst (λ n. (us : List ℕ) × Begins e n us × GoesRound nx pv us × Walks us P) long
+    (turned_to nx pv P e i (zs ++ x ∷ []) (let a = length-append zs (x ∷ []) in omega (arith, a)) (get_or_append_left zs (x ∷ []) e i l ∙ is) (turn_round nx pv x y ys s) (Walks-turn x zs P w))
+
+pub rings_turn : (first count nx pv first' count' : ℕ → ℕ) (Holds : ℕ → ℕ → Type 0) (key e : ℕ) → AreRings first count nx pv Holds → Holds key e
+    → first' key ≡ e → count' key ≡ count key → ((n : ℕ) → n ≢ key → first' n ≡ first n) → ((n : ℕ) → n ≢ key → count' n ≡ count n) → AreRings first' count' nx pv Holds
+rings_turn first count nx pv first' count' Holds key e r there begins same f c =
+    let in_ : Contains (follow nx (count key) (first key)) e = ((r.walks key).each e).1 there in
+    let h = turned_to nx pv (Holds key) e in_.0 (follow nx (count key) (first key)) in_.1 in_.2 (r.rounds key) (r.walks key) in
+    rings_by first' count' nx pv Holds (λ n. elim (cases_eq n key) [
+      | inl is ↦ subst (λ i. (xs : List ℕ) × Begins (first' i) (count' i) xs × GoesRound nx pv xs × Walks xs (Holds i)) (sym is) (
+        h.0,
+        subst (λ g. Begins g (count' key) h.0) (sym begins) (subst (λ m. Begins e m h.0) (length-follow nx (count key) (first key) ∙ sym same) h.1),
+        h.2,
+        h.3,
+      )
+      | inr ne ↦
+          let xs = follow nx (count n) (first n) in (
+            xs,
+            subst (λ g. Begins g (count' n) xs) (sym (f n ne)) (subst (λ m. Begins (first n) m xs) (sym (c n ne)) (begins_follow nx (count n) (first n))),
+            r.rounds n,
+            r.walks n,
+          )
+    ])
 
 -- ---- one more
 

@@ -1,21 +1,21 @@
 -- The bodies that let an edge enter and leave a ring.
-use Rattle.std.proofs.Common.{inl, inr, ◌≡◌, ◌≢◌, ℕ, zero, suc, ◌+◌, ◌-◌, ◌<◌, ◌≤◌, List, [], ◌∷◌, length, refl, sym, ap, subst, ◌∙◌, arith}
-use Rattle.std.specs.Prelude.{◌⊎◌, ◌↔◌, Contains, Option, Some, None, IsSome, IsSomeAnd}
+use Rattle.std.proofs.Common.{inl, inr, ◌≡◌, ◌≢◌, ℕ, ◌+◌, ◌-◌, ◌<◌, ◌≤◌, List, ◌∷◌, length, refl, sym, ap, subst, ◌∙◌, arith}
+use Rattle.std.specs.Prelude.{Contains, Option, Some, None, IsSome, IsSomeAnd}
 use Rattle.std.specs.Option.{option_map}
 use Rattle.std.proofs.lemmas.Bool.{cases_eq}
 use Rattle.gp_values.specs.Graph.{Edge}
 use Rattle.gp_graph.specs.inside.Slots.{slot_in}
-use Rattle.gp_graph.specs.Chains.{Joins, AreRings, follow}
-use Rattle.gp_graph.specs.inside.View.{node_of, edge_of}
+use Rattle.gp_graph.specs.Chains.{Joins, follow}
+use Rattle.gp_graph.specs.inside.View.{edge_of}
 use Rattle.gp_graph.specs.inside.Rings.{other, end_of, link_in, ring_in, with_ring, changed_at, next_of, prev_of, first_of, count_of, Meets, HasRings, HasRingsBut, ShowSame, Keeps}
 use Rattle.gp_graph.specs.declared.slots.Link.{Link}
 use Rattle.gp_graph.specs.declared.slots.Ring.{Ring}
 use Rattle.gp_graph.specs.declared.slots.NodeSlot.{NodeSlot}
 use Rattle.gp_graph.specs.declared.slots.EdgeSlot.{EdgeSlot}
 use Rattle.gp_graph.specs.declared.rings.Side.{Side}
-use Rattle.gp_graph.proofs.Numbers.{here, first_or_later, apart_more, few}
+use Rattle.gp_graph.proofs.Numbers.{first_or_later, apart_more, few}
 use Rattle.gp_graph.proofs.Rounds.{next_round, prev_round, length-follow}
-use Rattle.gp_graph.proofs.RingSets.{rings_push, rings_remove, last_there, first_there}
+use Rattle.gp_graph.proofs.RingSets.{rings_push, rings_remove, rings_turn, last_there, first_there}
 use Rattle.gp_graph.proofs.Links.{slot_within, ring_here, ring_elsewhere, ring_other_side, ring_seen, ring_roots}
 
 one-at : (side : Side) (o : Option Edge) (j k : ℕ) → IsSomeAnd o (λ d. end_of side d ≡ j) → IsSomeAnd o (λ d. end_of side d ≡ k) → j ≡ k
@@ -110,10 +110,33 @@ entered side ns es es1 es2 n e f l r node edge rings is none some j k same =
     j
     (subst (Joins (next_of side es1) (prev_of side es1) (next_of side es2) (prev_of side es2) e) (sym first) k)
 
--- ---- leaving
+-- ---- turning and leaving
 
 pub in_ring : (side : Side) (ns : List (Option NodeSlot)) (es : List (Option EdgeSlot)) (n e : ℕ) → Meets side es n e → HasRings side ns es → Contains (follow (next_of side es) (count_of side ns n) (first_of side ns n)) e
 in_ring side ns es n e m r = ((r.walks n).each e).1 m
+
+met_node-at : (nx : ℕ → ℕ) (side : Side) (o : Option NodeSlot) (e : ℕ) → Contains (follow nx (ring_in side o).count (ring_in side o).first) e → IsSome o
+met_node-at nx side None e h = let l = h.1 in absurd (omega arith)
+met_node-at nx side (Some s) e h = refl
+
+-- the end of an edge is there
+pub met_node : (side : Side) (ns : List (Option NodeSlot)) (es : List (Option EdgeSlot)) (n e : ℕ) → Meets side es n e → HasRings side ns es → IsSome (slot_in ns n)
+met_node side ns es n e m r = met_node-at (next_of side es) side (slot_in ns n) e (in_ring side ns es n e m r)
+
+-- a node's slot, where its ring begins at this edge
+abbrev pub begun : Side → List (Option NodeSlot) → ℕ → ℕ → List (Option NodeSlot)
+begun side ns n e = changed_at (with_ring side (record { first = e; count = count_of side ns n })) ns n
+
+pub turned : (side : Side) (ns : List (Option NodeSlot)) (es : List (Option EdgeSlot)) (n e : ℕ) → Meets side es n e → HasRings side ns es → HasRings side (begun side ns n e) es
+turned side ns es n e edge rings =
+    let q : Ring = record { first = e; count = count_of side ns n } in
+    let ns' = begun side ns n e in
+    let at : ring_in side (slot_in ns' n) ≡ q = ring_here side q ns n (met_node side ns es n e edge rings) in
+    rings_turn (first_of side ns) (count_of side ns) (next_of side es) (prev_of side es) (first_of side ns') (count_of side ns') (Meets side es) n e rings edge
+    (ap (λ x. x.first) at)
+    (ap (λ x. x.count) at)
+    (λ i ne. ap (λ x. x.first) (ring_elsewhere side q ns n i ne))
+    (λ i ne. ap (λ x. x.count) (ring_elsewhere side q ns n i ne))
 
 pub prev_some : (side : Side) (ns : List (Option NodeSlot)) (es : List (Option EdgeSlot)) (n e : ℕ) (link : Link) → Meets side es n e → HasRings side ns es → link ≡ link_in side (slot_in es e) → IsSome (slot_in es link.prev)
 prev_some side ns es n e link m r is =
@@ -121,11 +144,14 @@ prev_some side ns es n e link m r is =
     subst (λ x. IsSome (slot_in es x.prev)) (sym is)
     (is_there side es n p (((r.walks n).each p).0 (prev_round (next_of side es) (prev_of side es) (follow (next_of side es) (count_of side ns n) (first_of side ns n)) e (in_ring side ns es n e m r) (r.rounds n))))
 
+-- the edge behind one has the same end
+pub next_met : (side : Side) (ns : List (Option NodeSlot)) (es : List (Option EdgeSlot)) (n e : ℕ) (link : Link) → Meets side es n e → HasRings side ns es → link ≡ link_in side (slot_in es e) → Meets side es n link.next
+next_met side ns es n e link m r is =
+    subst (λ x. Meets side es n x.next) (sym is)
+    (((r.walks n).each (next_of side es e)).0 (next_round (next_of side es) (prev_of side es) (follow (next_of side es) (count_of side ns n) (first_of side ns n)) e (in_ring side ns es n e m r) (r.rounds n)))
+
 pub next_some : (side : Side) (ns : List (Option NodeSlot)) (es : List (Option EdgeSlot)) (n e : ℕ) (link : Link) → Meets side es n e → HasRings side ns es → link ≡ link_in side (slot_in es e) → IsSome (slot_in es link.next)
-next_some side ns es n e link m r is =
-    let p = next_of side es e in
-    subst (λ x. IsSome (slot_in es x.next)) (sym is)
-    (is_there side es n p (((r.walks n).each p).0 (next_round (next_of side es) (prev_of side es) (follow (next_of side es) (count_of side ns n) (first_of side ns n)) e (in_ring side ns es n e m r) (r.rounds n))))
+next_some side ns es n e link m r is = is_there side es n link.next (next_met side ns es n e link m r is)
 
 pub may_leave : (side : Side) (ns : List (Option NodeSlot)) (es : List (Option EdgeSlot)) (n e : ℕ) (q : Ring) → Meets side es n e → HasRings side ns es → q ≡ ring_in side (slot_in ns n) → 1 ≤ q.count
 may_leave side ns es n e q m r is =
@@ -135,26 +161,27 @@ may_leave side ns es n e q m r is =
     let c : q.count ≡ count_of side ns n = ap (λ x. x.count) is in
     omega (arith, same)
 
-pub left : (side : Side) (ns : List (Option NodeSlot)) (es es' : List (Option EdgeSlot)) (n e f : ℕ) (r : Ring) (link : Link) → IsSome (slot_in ns n) → Meets side es n e → HasRings side ns es → r ≡ ring_in side (slot_in ns n) → link ≡ link_in side (slot_in es e)
-    → (r.first ≡ e → f ≡ link.next) → (r.first ≢ e → f ≡ r.first)
+pub left : (side : Side) (ns : List (Option NodeSlot)) (es es' : List (Option EdgeSlot)) (n e : ℕ) (r : Ring) (link : Link) → IsSome (slot_in ns n) → Meets side es n e → HasRings side ns es → r ≡ ring_in side (slot_in ns n) → link ≡ link_in side (slot_in es e)
     → Joins (next_of side es) (prev_of side es) (next_of side es') (prev_of side es') link.prev link.next → ShowSame edge_of es es'
-    → HasRingsBut side (changed_at (with_ring side (record { first = f; count = r.count - 1 })) ns n) es' e
-left side ns es es' n e f r link node edge rings is lis on off j same =
-    let q : Ring = record { first = f; count = r.count - 1 } in
+    → HasRingsBut side (changed_at (with_ring side (record { first = link.next; count = r.count - 1 })) ns n) es' e
+left side ns es es' n e r link node edge rings is lis j same =
+    let p : Ring = record { first = e; count = count_of side ns n } in
+    let q : Ring = record { first = link.next; count = r.count - 1 } in
+    let mid = begun side ns n e in
     let ns' = changed_at (with_ring side q) ns n in
+    let begins : ring_in side (slot_in mid n) ≡ p = ring_here side p ns n node in
     let at : ring_in side (slot_in ns' n) ≡ q = ring_here side q ns n node in
-    let first : first_of side ns' n ≡ f = ap (λ x. x.first) at in
-    let was : r.first ≡ first_of side ns n = ap (λ x. x.first) is in
-    rings_remove (first_of side ns) (count_of side ns) (next_of side es) (prev_of side es) (first_of side ns') (count_of side ns') (next_of side es') (prev_of side es')
-    (Meets side es) (λ i m. Meets side es' i m × (m ≡ e → ⊥)) n e rings
+    let apart : (i : ℕ) → i ≢ n → ring_in side (slot_in ns' i) ≡ ring_in side (slot_in mid i) = λ i ne. ring_elsewhere side q ns n i ne ∙ sym (ring_elsewhere side p ns n i ne) in
+    rings_remove (first_of side mid) (count_of side mid) (next_of side es) (prev_of side es) (first_of side ns') (count_of side ns') (next_of side es') (prev_of side es')
+    (Meets side es) (λ i m. Meets side es' i m × (m ≡ e → ⊥)) n e (turned side ns es n e edge rings)
     (one_end side es)
     edge
     (λ i m. (λ h. (met_back side es es' i m same h.0, h.1), λ h. (met_same side es es' i m same h.0, h.1)))
-    (λ h. first ∙ on (was ∙ h) ∙ ap (λ x. x.next) lis)
-    (λ h. first ∙ off (λ i. h (sym was ∙ i)) ∙ was)
-    (ap (λ x. x.count) at ∙ ap (λ x. x.count - 1) is)
-    (λ i ne. ap (λ x. x.first) (ring_elsewhere side q ns n i ne))
-    (λ i ne. ap (λ x. x.count) (ring_elsewhere side q ns n i ne))
+    (λ h. ap (λ x. x.first) at ∙ ap (λ x. x.next) lis)
+    (λ h. absurd (h (ap (λ x. x.first) begins)))
+    (ap (λ x. x.count) at ∙ ap (λ x. x.count - 1) is ∙ sym (ap (λ x. x.count - 1) begins))
+    (λ i ne. ap (λ x. x.first) (apart i ne))
+    (λ i ne. ap (λ x. x.count) (apart i ne))
     (subst (λ x. Joins (next_of side es) (prev_of side es) (next_of side es') (prev_of side es') x.prev x.next) lis j)
 
 pub keeps : (side : Side) (ns : List (Option NodeSlot)) (es es' : List (Option EdgeSlot)) (n : ℕ) (q : Ring) → ShowSame edge_of es es' → ((e : ℕ) → link_in (other side) (slot_in es' e) ≡ link_in (other side) (slot_in es e))

@@ -1,5 +1,5 @@
 -- What joining two numbers does to the lists that links go round.
-use Rattle.std.proofs.Common.{inl, inr, ◌≡◌, ℕ, zero, suc, ◌+◌, ◌==◌, Bool, true, false, if◌then◌else◌, List, [], ◌∷◌, ◌++◌, length, refl, sym, ap, subst, ◌∙◌, arith}
+use Rattle.std.proofs.Common.{inl, inr, ◌≡◌, ℕ, zero, suc, ◌==◌, Bool, true, false, if◌then◌else◌, List, [], ◌∷◌, ◌++◌, length, refl, sym, ap, subst, ◌∙◌, arith}
 use Rattle.std.specs.Prelude.{◌⊎◌, Contains}
 use Rattle.std.proofs.lemmas.Bool.{eqb-true, eq-eqb}
 use Rattle.gp_values.specs.Apart.{AreApart}
@@ -129,6 +129,10 @@ remove_round-at nx pv nx' pv' x xs e false is j apart h s =
 pub remove_round : (nx pv nx' pv' : ℕ → ℕ) (xs : List ℕ) (e : ℕ) → Joins nx pv nx' pv' (pv e) (nx e) → AreApart xs → Contains xs e → GoesRound nx pv xs → GoesRound nx' pv' (without e xs)
 remove_round nx pv nx' pv' [] e j apart h s = tt
 remove_round nx pv nx' pv' (x ∷ xs) e j apart h s = remove_round-at nx pv nx' pv' x xs e (x == e) refl j apart h s
+
+-- the first goes to the back
+pub turn_round : (nx pv : ℕ → ℕ) (x y : ℕ) (ys : List ℕ) → GoesRound nx pv (x ∷ y ∷ ys) → GoesRound nx pv (y ∷ ys ++ x ∷ [])
+turn_round nx pv x y ys s = snoc nx pv y ys x y s.1 s.0
 
 -- ---- following the links
 

@@ -1,26 +1,22 @@
 -- Rings of both sides through the calls of a graph.
-use Rattle.std.proofs.Common.{inl, inr, ◌≡◌, ◌≢◌, ℕ, zero, suc, ◌+◌, ◌<◌, ◌≤◌, List, [], ◌∷◌, ◌++◌, length, refl, sym, ap, subst, ◌∙◌, arith}
-use Rattle.std.specs.Prelude.{◌⊎◌, ◌↔◌, Contains, Option, Some, None, IsSome, IsSomeAnd, slice_set}
+use Rattle.std.proofs.Common.{inl, inr, ◌≡◌, ◌≢◌, ℕ, zero, suc, ◌<◌, List, [], ◌∷◌, ◌++◌, length, refl, sym, ap, subst, ◌∙◌, arith}
+use Rattle.std.specs.Prelude.{Option, None, IsSomeAnd, slice_set}
 use Rattle.std.specs.Option.{option_map}
 use Rattle.std.proofs.lemmas.Bool.{cases_eq}
-use Rattle.gp_values.specs.Graph.{Edge, Graph, HasNoEdges, node_at, edge_at}
 use Rattle.gp_values.proofs.Graphs.{same_graph}
 use Rattle.gp_graph.specs.inside.Slots.{slot_in}
 use Rattle.gp_graph.specs.Walks.{Walks}
-use Rattle.gp_graph.specs.Chains.{AreRings, Begins, follow}
+use Rattle.gp_graph.specs.Chains.{Begins, follow}
 use Rattle.gp_graph.specs.inside.View.{node_of, edge_of, graph_from}
-use Rattle.gp_graph.specs.inside.Rings.{other, end_of, link_in, ring_in, next_of, prev_of, first_of, count_of, Meets, HasRings, HasRingsBut, ShowSame, Keeps}
-use Rattle.gp_graph.specs.declared.slots.Link.{Link}
-use Rattle.gp_graph.specs.declared.slots.Ring.{Ring}
+use Rattle.gp_graph.specs.inside.Rings.{other, end_of, link_in, ring_in, next_of, prev_of, first_of, count_of, Meets, HasRings, HasRingsBut, ShowSame, Keeps, AllRings, ShowsSame}
 use Rattle.gp_graph.specs.declared.slots.NodeSlot.{NodeSlot}
 use Rattle.gp_graph.specs.declared.slots.EdgeSlot.{EdgeSlot}
 use Rattle.gp_graph.specs.declared.rings.Side.{Side}
 use Rattle.gp_graph.specs.declared.rings.Side.TheVariants.{Beginning, Ending}
-use Rattle.gp_graph.proofs.Numbers.{Walks-same}
 use Rattle.gp_graph.proofs.SlotMaps.{seen_at}
 use Rattle.gp_graph.proofs.RingSets.{rings_agree, rings_by, begins_follow}
-use Rattle.gp_graph.proofs.Links.{slot_other, slot_here, slot_within}
-use Rattle.gp_graph.proofs.RingSteps.{met_same, met_back}
+use Rattle.gp_graph.proofs.Links.{slot_other, slot_here}
+use Rattle.gp_graph.proofs.RingSteps.{met_same, met_back, begun, turned, keeps}
 
 pub same_shown : (ns ns' : List (Option NodeSlot)) (es es' : List (Option EdgeSlot)) → ShowSame node_of ns ns' → ShowSame edge_of es es' → length ns' ≡ length ns → length es' ≡ length es → graph_from ns' es' ≡ graph_from ns es
 same_shown ns ns' es es' n e ln le =
@@ -50,6 +46,17 @@ both_rings ns es b e Ending = e
 pub both_but : (ns : List (Option NodeSlot)) (es : List (Option EdgeSlot)) (x : ℕ) → HasRingsBut Beginning ns es x → HasRingsBut Ending ns es x → (side : Side) → HasRingsBut side ns es x
 both_but ns es x b e Beginning = b
 both_but ns es x b e Ending = e
+
+-- both rings of an edge begin elsewhere
+pub both_turned : (ns ns1 ns2 : List (Option NodeSlot)) (es : List (Option EdgeSlot)) (source target f g : ℕ) → Meets Beginning es source f → Meets Ending es target g → AllRings ns es → ns1 ≡ begun Beginning ns source f → ns2 ≡ begun Ending ns1 target g → AllRings ns2 es × ShowsSame ns es ns2 es
+both_turned ns ns1 ns2 es source target f g b t r e1 e2 =
+    let keeps1 : Keeps Beginning ns es ns1 es = subst (λ xs. Keeps Beginning ns es xs es) (sym e1) (keeps Beginning ns es es source (record { first = f; count = count_of Beginning ns source }) (λ k. refl) (λ k. refl)) in
+    let keeps2 : Keeps Ending ns1 es ns2 es = subst (λ xs. Keeps Ending ns1 es xs es) (sym e2) (keeps Ending ns1 es es target (record { first = g; count = count_of Ending ns1 target }) (λ k. refl) (λ k. refl)) in
+    let beginning : HasRings Beginning ns1 es = subst (λ xs. HasRings Beginning xs es) (sym e1) (turned Beginning ns es source f b (r Beginning)) in
+    let ending : HasRings Ending ns2 es = subst (λ xs. HasRings Ending xs es) (sym e2) (turned Ending ns1 es target g t (kept_rings Beginning ns es ns1 es keeps1 (r Ending))) in (
+      both_rings ns2 es (kept_rings Ending ns1 es ns2 es keeps2 beginning) ending,
+      record { nodes = λ k. keeps2.nodes k ∙ keeps1.nodes k; edges = λ k. refl; roots = λ k. keeps2.roots k ∙ keeps1.roots k },
+    )
 
 -- slots that differ at one place at most
 abbrev pub Off : List (Option EdgeSlot) → List (Option EdgeSlot) → ℕ → Type 0

@@ -1,10 +1,12 @@
 //! Graphs, in two vectors of slots.
 
 ghost use Rattle.std.specs.Prelude.{◌≡◌, ◌<◌, ◌≤◌, ◌+◌, ◌-◌, ◌^◌, length, IsOk, IfOk, OnOk, OnErr, IsSome, Some, None, MatchOption, IfSome};
-ghost use Rattle.gp_values.specs.Graph.{IsGraph, HasNoEdges, empty_graph, with_node, with_edge, without_node, without_edge, relabeled, with_node_at, with_edge_at, without_node_number, without_edge_number, node_at, edge_at, in_degree, out_degree, node_count, root_count};
+ghost use Rattle.gp_values.specs.Graph.{IsGraph, HasNoEdges, empty_graph, with_node, with_edge, without_node, without_edge, relabeled, relabeled_edge, with_node_at, with_edge_at, without_node_number, without_edge_number, node_at, edge_at, in_degree, out_degree, node_count, root_count};
 ghost use Rattle.gp_graph.specs.Walks.{Walks, IsNode, IsRoot, BeginsAt, EndsAt, GoesBetween};
 
-use crate::rings::{Side, ends_of, enter_both, leave_both, ring_at};
+use crate::rings::{
+    Side, begin_at, begin_behind, ends_of, enter_both, leave_both, rewrite_edge, ring_at,
+};
 use crate::roots::{admit, clear, fill, relabel};
 use crate::slots::{EdgeSlot, NodeSlot, Ring, append, copy_of, drop_last, look, put};
 use crate::walk::{Walk, over_edges, over_nodes, over_roots};
@@ -143,7 +145,8 @@ impl Graph {
         }
     }
 
-    /// Removes an edge, and hands back its source, its target, its label and its mark. It takes no memory.
+    /// Removes an edge, and hands back its source, its target, its label and its mark. It takes no memory. A walk over
+    /// the edges at either end then begins behind it.
     pub fn remove_edge(&mut self, e: u64) -> (u64, u64, List, EdgeMark)
         requires { IsSome (edge_at self.old.graph e) }
         ensures removed { self.new.graph ≡ without_edge self.old.graph e }
@@ -174,6 +177,41 @@ impl Graph {
         was
     }
 
+    /// Gives an edge another label and mark, and hands back the old label. Its ends stay. It takes no memory. A walk
+    /// over the edges at either end then begins behind it.
+    pub fn relabel_edge(&mut self, e: u64, label: List, mark: EdgeMark) -> List
+        requires { IsSome (edge_at self.old.graph e) }
+        ensures relabeled { self.new.graph ≡ relabeled_edge self.old.graph e label mark }
+        ensures was { IfSome (edge_at self.old.graph e) (λ d. result ≡ d.label) }
+        ensures node_room { self.new.node_room ≡ self.old.node_room }
+        ensures edge_room { self.new.edge_room ≡ self.old.edge_room }
+    {
+        let was = rewrite_edge(&mut self.edges, e, label, mark);
+        self.begin_behind(e);
+        was
+    }
+
+    /// Lets the walks over the edges at both ends of an edge begin at it. The graph stays. (For whoever takes a step
+    /// back.)
+    pub fn begin_at(&mut self, e: u64)
+        requires { IsSome (edge_at self.old.graph e) }
+        ensures graph { self.new.graph ≡ self.old.graph }
+        ensures node_room { self.new.node_room ≡ self.old.node_room }
+        ensures edge_room { self.new.edge_room ≡ self.old.edge_room }
+    {
+        begin_at(&mut self.nodes, &self.edges, e);
+    }
+
+    /// Lets the walks over the edges at both ends of an edge begin behind it. The graph stays.
+    pub fn begin_behind(&mut self, e: u64)
+        requires { IsSome (edge_at self.old.graph e) }
+        ensures graph { self.new.graph ≡ self.old.graph }
+        ensures node_room { self.new.node_room ≡ self.old.node_room }
+        ensures edge_room { self.new.edge_room ≡ self.old.edge_room }
+    {
+        begin_behind(&mut self.nodes, &self.edges, e);
+    }
+
     /// Puts a node back at a number that is vacant and below the next one. It takes no memory.
     pub fn put_node(&mut self, n: u64, label: List, mark: NodeMark, root: bool)
         requires below { n < self.old.graph.next_node }
@@ -189,7 +227,8 @@ impl Graph {
         self.last_changed = n;
     }
 
-    /// Puts an edge back at a number that is vacant and below the next one. It takes no memory.
+    /// Puts an edge back at a number that is vacant and below the next one. It takes no memory. A walk over the edges
+    /// at either end then begins at it.
     pub fn put_edge(&mut self, e: u64, source: u64, target: u64, label: List, mark: EdgeMark)
         requires below { e < self.old.graph.next_edge }
         requires vacant { edge_at self.old.graph e ≡ None }
@@ -203,6 +242,7 @@ impl Graph {
         let _vacant = put(&mut self.edges, e, Some(slot));
         enter_both(&mut self.nodes, &mut self.edges, source, target, e);
         self.last_changed = source;
+        self.begin_at(e);
     }
 
     /// Lowers the next number of a node by one, where the number below it is vacant. It takes no memory.

@@ -1,12 +1,16 @@
 //! Rings of edges, one of those that begin and one of those that end at each node.
 
-ghost use Rattle.std.specs.Prelude.{◌≡◌, ◌≢◌, ◌<◌, ◌≤◌, ℕ, length, IsSome};
+ghost use Rattle.std.specs.Prelude.{◌≡◌, ◌≢◌, ◌<◌, ◌≤◌, ℕ, length, IsSome, Some};
+ghost use Rattle.std.specs.Option.{option_map};
+ghost use Rattle.gp_values.specs.Atoms.{AreAtoms};
 ghost use Rattle.gp_graph.specs.inside.Slots.{slot_in};
 ghost use Rattle.gp_graph.specs.Chains.{Joins};
 ghost use Rattle.gp_graph.specs.inside.View.{edge_of};
-ghost use Rattle.gp_graph.specs.inside.Rings.{other, link_in, ring_in, with_next, with_prev, with_ring, changed_at, next_of, prev_of, first_of, count_of, Meets, HasRings, HasRingsBut, ShowSame, Keeps, AllRings, AllRingsBut, Links, ShowsSame};
+ghost use Rattle.gp_graph.specs.inside.Rings.{other, link_in, ring_in, with_next, with_prev, with_ring, changed_at, next_of, prev_of, first_of, count_of, Meets, HasRings, HasRingsBut, ShowSame, Keeps, AllRings, AllRingsBut, Links, ShowsSame, rewritten_edge};
 
 use crate::slots::{EdgeSlot, Link, NodeSlot, Ring, look};
+use gp_values::{EdgeMark, List};
+use std::mem;
 
 /// The end of an edge at which a ring holds it.
 #[derive(Clone, Copy)]
@@ -51,6 +55,18 @@ fn set_ring(nodes: &mut [Option<NodeSlot>], side: Side, place: u64, ring: Ring)
     }
 }
 
+fn set_first(nodes: &mut [Option<NodeSlot>], side: Side, place: u64, first: u64)
+    requires { place < length nodes.old }
+    ensures { nodes.new ≡ changed_at (with_ring side (record { first = first; count = count_of side nodes.old place })) nodes.old place }
+{
+    if let Some(slot) = &mut nodes[place as usize] {
+        match side {
+            Side::Beginning => slot.beginning.first = first,
+            Side::Ending => slot.ending.first = first,
+        }
+    }
+}
+
 /// The edges after and before an edge in a ring.
 pub(crate) fn link_at(edges: &[Option<EdgeSlot>], side: Side, place: u64) -> Link
     ensures { result ≡ link_in side (slot_in edges.now place) }
@@ -85,6 +101,28 @@ pub(crate) fn ends_of(edges: &[Option<EdgeSlot>], e: u64) -> (u64, u64)
 {
     match look(edges, e) {
         Some(slot) => (slot.source, slot.target),
+        None => unreachable!(),
+    }
+}
+
+/// Gives an edge another label and mark, and hands back the old label.
+pub(crate) fn rewrite_edge(
+    edges: &mut [Option<EdgeSlot>],
+    e: u64,
+    label: List,
+    mark: EdgeMark,
+) -> List
+    requires { IsSome (slot_in edges.old e) }
+    ensures in_range { AreAtoms label }
+    ensures items { edges.new ≡ changed_at (rewritten_edge label mark) edges.old e }
+    ensures was { option_map (λ s. s.label) (slot_in edges.old e) ≡ Some result }
+{
+    let _atoms = label.atoms();
+    match &mut edges[e as usize] {
+        Some(slot) => {
+            slot.mark = mark;
+            mem::replace(&mut slot.label, label)
+        }
         None => unreachable!(),
     }
 }
@@ -143,15 +181,7 @@ fn enter(nodes: &mut [Option<NodeSlot>], edges: &mut [Option<EdgeSlot>], side: S
     );
 }
 
-/// What is first in a ring that one leaves.
-pub(crate) fn first_without(first: u64, next: u64, leaving: u64) -> u64
-    ensures first { first ≡ leaving → result ≡ next }
-    ensures others { first ≢ leaving → result ≡ first }
-{
-    if first == leaving { next } else { first }
-}
-
-/// Takes an edge out of the ring of its node.
+/// Takes an edge out of the ring of its node, which then begins behind it.
 fn leave(nodes: &mut [Option<NodeSlot>], edges: &mut [Option<EdgeSlot>], side: Side, n: u64, e: u64)
     requires node { IsSome (slot_in nodes.old n) }
     requires edge { Meets side edges.old n e }
@@ -162,13 +192,12 @@ fn leave(nodes: &mut [Option<NodeSlot>], edges: &mut [Option<EdgeSlot>], side: S
     let link = link_at(edges, side, e);
     join(edges, side, link.prev, link.next);
     let ring = ring_at(nodes, side, n);
-    let first = first_without(ring.first, link.next, e);
     set_ring(
         nodes,
         side,
         n,
         Ring {
-            first,
+            first: link.next,
             count: ring.count - 1,
         },
     );
@@ -191,7 +220,7 @@ pub(crate) fn enter_both(
     enter(nodes, edges, Side::Ending, target, e);
 }
 
-/// Takes an edge out of the two rings that it belongs to.
+/// Takes an edge out of the two rings that it belongs to, which then begin behind it.
 pub(crate) fn leave_both(
     nodes: &mut [Option<NodeSlot>],
     edges: &mut [Option<EdgeSlot>],
@@ -206,4 +235,30 @@ pub(crate) fn leave_both(
 {
     leave(nodes, edges, Side::Beginning, source, e);
     leave(nodes, edges, Side::Ending, target, e);
+}
+
+/// Lets the two rings of an edge begin at it.
+pub(crate) fn begin_at(nodes: &mut [Option<NodeSlot>], edges: &[Option<EdgeSlot>], e: u64)
+    requires there { IsSome (slot_in edges.now e) }
+    requires rings { AllRings nodes.old edges.now }
+    ensures rings { AllRings nodes.new edges.now }
+    ensures same { ShowsSame nodes.old edges.now nodes.new edges.now }
+{
+    let (source, target) = ends_of(edges, e);
+    set_first(nodes, Side::Beginning, source, e);
+    set_first(nodes, Side::Ending, target, e);
+}
+
+/// Lets the two rings of an edge begin behind it.
+pub(crate) fn begin_behind(nodes: &mut [Option<NodeSlot>], edges: &[Option<EdgeSlot>], e: u64)
+    requires there { IsSome (slot_in edges.now e) }
+    requires rings { AllRings nodes.old edges.now }
+    ensures rings { AllRings nodes.new edges.now }
+    ensures same { ShowsSame nodes.old edges.now nodes.new edges.now }
+{
+    let (source, target) = ends_of(edges, e);
+    let beginning = link_at(edges, Side::Beginning, e);
+    let ending = link_at(edges, Side::Ending, e);
+    set_first(nodes, Side::Beginning, source, beginning.next);
+    set_first(nodes, Side::Ending, target, ending.next);
 }

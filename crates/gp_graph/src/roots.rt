@@ -9,7 +9,6 @@ ghost use Rattle.gp_graph.specs.inside.View.{node_of};
 ghost use Rattle.gp_graph.specs.inside.Rings.{changed_at, root_link};
 ghost use Rattle.gp_graph.specs.inside.Roots.{with_next_root, with_prev_root, next_root, prev_root, is_root_in, IsRootAt, HasRoots, HasRootsBut, KeepsNodes, rewritten};
 
-use crate::rings::first_without;
 use crate::slots::{Link, NodeSlot, Ring, look, put};
 use gp_values::{List, NodeMark};
 use std::mem;
@@ -88,6 +87,14 @@ fn enter_roots(nodes: &mut [Option<NodeSlot>], roots: Ring, n: u64) -> Ring
         first,
         count: roots.count + 1,
     }
+}
+
+// What is first in the ring when a root leaves it.
+fn first_without(first: u64, next: u64, leaving: u64) -> u64
+    ensures first { first ≡ leaving → result ≡ next }
+    ensures others { first ≢ leaving → result ≡ first }
+{
+    if first == leaving { next } else { first }
 }
 
 // Takes a root out of the ring.

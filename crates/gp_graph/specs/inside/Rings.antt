@@ -2,6 +2,8 @@
 -- there.
 use Rattle.std.specs.Prelude.{◌≡◌, ℕ, List, Option, Some, None, slice_set, IsSome, IsSomeAnd}
 use Rattle.std.specs.Option.{option_map}
+use Rattle.gp_values.specs.declared.atom.Atom.{Atom}
+use Rattle.gp_values.specs.declared.marks.EdgeMark.{EdgeMark}
 use Rattle.gp_values.specs.Graph.{Edge}
 use Rattle.gp_graph.specs.inside.Slots.{slot_in}
 use Rattle.gp_graph.specs.Chains.{AreRings}
@@ -40,6 +42,10 @@ with_prev Ending n s = record s { ending = record { next = s.ending.next; prev =
 abbrev pub with_ring : Side → Ring → NodeSlot → NodeSlot
 with_ring Beginning r s = record s { beginning = r }
 with_ring Ending r s = record s { ending = r }
+
+-- a slot with another label and mark
+abbrev pub rewritten_edge : List Atom → EdgeMark → EdgeSlot → EdgeSlot
+rewritten_edge l m s = record s { label = l; mark = m }
 
 -- the slot at a place, if it is taken, is changed
 abbrev pub changed_at : {X : Type 0} → (X → X) → List (Option X) → ℕ → List (Option X)

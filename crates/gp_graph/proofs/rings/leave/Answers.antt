@@ -1,4 +1,4 @@
-use Rattle.std.proofs.Common.{◌≡◌, ℕ, sym, subst, ◌∙◌, arith}
+use Rattle.std.proofs.Common.{sym, subst}
 use Rattle.gp_graph.specs.inside.Rings.{HasRingsBut, Keeps}
 use Rattle.gp_graph.proofs.Links.{slot_within}
 use Rattle.gp_graph.proofs.RingSteps.{left, keeps, prev_some, next_some, may_leave}
@@ -19,8 +19,8 @@ set_ring-requires c = slot_within c.args.nodes.now c.args.n c.requires.node
 pub returns-clause-rings : goal.returns-clause-rings
 returns-clause-rings c =
     subst (λ ns. HasRingsBut c.args.side ns c.join.new.edges c.args.e) (sym c.set_ring.ensures)
-    (left c.args.side c.args.nodes.now c.args.edges.now c.join.new.edges c.args.n c.args.e c.first_without-first.result c.ring_at-ring.result c.link_at-link.result c.requires.node c.requires.edge c.requires.rings c.ring_at-ring.ensures c.link_at-link.ensures
-    c.first_without-first.ensures.first c.first_without-first.ensures.others c.join.ensures.joins c.join.ensures.same)
+    (left c.args.side c.args.nodes.now c.args.edges.now c.join.new.edges c.args.n c.args.e c.ring_at-ring.result c.link_at-link.result c.requires.node c.requires.edge c.requires.rings c.ring_at-ring.ensures c.link_at-link.ensures
+    c.join.ensures.joins c.join.ensures.same)
 
 pub returns-clause-keeps : goal.returns-clause-keeps
 returns-clause-keeps c =

@@ -1,16 +1,18 @@
-use Rattle.std.proofs.Common.{◌≡◌, ◌<◌, ℕ, List, length, sym, ap, subst, ◌∙◌}
+use Rattle.std.proofs.Common.{◌≡◌, ◌<◌, length, refl, sym, ap, subst, ◌∙◌}
 use Rattle.std.specs.Prelude.{Some, IsSome, slice_set}
 use Rattle.std.specs.Vec.{with_items}
 use Rattle.std.proofs.lemmas.List.{with_items_is}
 use Rattle.gp_values.specs.Graph.{IsGraph, with_edge_at, node_at}
 use Rattle.gp_values.proofs.Edits.{IsGraph-with_edge_at}
+use Rattle.gp_graph.specs.inside.Slots.{slot_in}
 use Rattle.gp_graph.specs.inside.Roots.{HasRoots}
 use Rattle.gp_graph.specs.inside.Sound.{IsHeld}
 use Rattle.gp_graph.specs.inside.View.{edge_of, graph_from}
 use Rattle.gp_graph.specs.declared.slots.EdgeSlot.{EdgeSlot}
 use Rattle.gp_graph.proofs.Views.{set_edge}
 use Rattle.gp_graph.proofs.Links.{slot_here}
-use Rattle.gp_graph.proofs.Calls.{node_there, edge_free, links_slot, rings_put, held_same, same_seen}
+use Rattle.gp_graph.proofs.RingSteps.{still_there}
+use Rattle.gp_graph.proofs.Calls.{node_there, edge_seen, edge_free, links_slot, rings_put, held_same, same_seen}
 use Rattle.gp_graph.proofs.graph.Graph.put_edge.Goals as goal
 
 pub enter_both-requires-clause-there : goal.enter_both-requires-clause-there
@@ -56,6 +58,17 @@ invariant_of-self c =
     seen graph c.enter_both.ensures.same c.enter_both.auto.nodes c.enter_both.auto.edges c.enter_both.ensures.rings
     (subst (HasRoots c.self.inside.roots) (sym c.deref_mut-2.ensures.value) c.self.invariant.roots) c.self.invariant.count))
 
+pub begin_at-requires : goal.begin_at-requires
+begin_at-requires c =
+    let es = c.self.inside.edges.items in
+    let x = c.new-slot.result in
+    let l : c.args.e < length es = rw (← c.self.view_is) at c.requires.below in
+    let first = with_items_is c.self.inside.edges c.put-vacant.new.slots (c.put-vacant.auto.slots ∙ c.deref_mut.ensures.len) in
+    let now = c.deref_mut-3.ensures.value ∙ first ∙ c.put-vacant.ensures.items ∙ ap (λ xs. slice_set xs c.args.e (Some x)) c.deref_mut.ensures.value in
+    let e = with_items_is (with_items c.self.inside.edges c.put-vacant.new.slots) c.enter_both.new.edges (c.enter_both.auto.edges ∙ c.deref_mut-3.ensures.len) in
+    let there : IsSome (slot_in c.deref_mut-3.result.now c.args.e) = rw (now, slot_here es c.args.e (Some x) l) refl in
+    rw e (edge_seen c.enter_both.new.nodes c.enter_both.new.edges c.args.e (still_there edge_of c.deref_mut-3.result.now c.enter_both.new.edges c.args.e c.enter_both.ensures.same.edges there))
+
 pub returns-clause-put : goal.returns-clause-put
 returns-clause-put c =
     let ns = c.self.inside.nodes.items in
@@ -67,7 +80,7 @@ returns-clause-put c =
     let n = with_items_is c.self.inside.nodes c.enter_both.new.nodes (c.enter_both.auto.nodes ∙ c.deref_mut-2.ensures.len) in
     let e = with_items_is (with_items c.self.inside.edges c.put-vacant.new.slots) c.enter_both.new.edges (c.enter_both.auto.edges ∙ c.deref_mut-3.ensures.len) in
     rw (← c.self.view_is)
-    (ap (λ xs. graph_from xs (with_items (with_items c.self.inside.edges c.put-vacant.new.slots) c.enter_both.new.edges).items) n ∙ ap (graph_from c.enter_both.new.nodes) e
+    (c.begin_at.ensures.graph ∙ ap (λ xs. graph_from xs (with_items (with_items c.self.inside.edges c.put-vacant.new.slots) c.enter_both.new.edges).items) n ∙ ap (graph_from c.enter_both.new.nodes) e
     ∙ same_seen c.deref_mut-2.result.now c.deref_mut-3.result.now c.enter_both.new.nodes c.enter_both.new.edges c.enter_both.ensures.same c.enter_both.auto.nodes c.enter_both.auto.edges
     ∙ ap (λ xs. graph_from xs c.deref_mut-3.result.now) c.deref_mut-2.ensures.value ∙ ap (graph_from ns) now ∙ set_edge ns es c.args.e x l
     ∙ ap (λ s. with_edge_at (graph_from ns es) c.args.e (edge_of s)) c.new-slot.ensures.value)

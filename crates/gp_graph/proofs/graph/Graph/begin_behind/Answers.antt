@@ -1,0 +1,30 @@
+use Rattle.std.proofs.Common.{List, length, sym, ap, subst, ◌∙◌, refl}
+use Rattle.std.proofs.lemmas.List.{with_items_is}
+use Rattle.gp_graph.specs.inside.Rings.{ShowsSame, AllRings}
+use Rattle.gp_graph.specs.inside.Sound.{IsHeld}
+use Rattle.gp_graph.specs.inside.View.{graph_from}
+use Rattle.gp_graph.proofs.Calls.{edge_there, held_turned, same_seen}
+use Rattle.gp_graph.proofs.graph.Graph.begin_behind.Goals as goal
+
+pub begin_behind-requires-clause-there : goal.begin_behind-requires-clause-there
+begin_behind-requires-clause-there c = rw c.deref.ensures.value (edge_there c.self.inside.nodes.items c.self.inside.edges.items c.args.e (rw (← c.self.view_is) at c.requires))
+
+pub invariant_of-self : goal.invariant_of-self
+invariant_of-self c =
+    let ns = c.self.inside.nodes.items in
+    let es = c.self.inside.edges.items in
+    let n = with_items_is c.self.inside.nodes c.begin_behind.new.nodes (c.begin_behind.auto.nodes ∙ c.deref_mut.ensures.len) in
+    let same : ShowsSame ns es c.begin_behind.new.nodes es = rw (c.deref_mut.ensures.value, c.deref.ensures.value) at c.begin_behind.ensures.same in
+    subst (λ xs. IsHeld xs es c.self.inside.roots c.self.inside.node_count) (sym n)
+    (held_turned ns c.begin_behind.new.nodes es c.self.inside.roots c.self.inside.node_count c.self.invariant same
+    (c.begin_behind.auto.nodes ∙ ap (λ (xs : List _). length xs) c.deref_mut.ensures.value)
+    (subst (AllRings c.begin_behind.new.nodes) c.deref.ensures.value c.begin_behind.ensures.rings))
+
+pub returns-clause-graph : goal.returns-clause-graph
+returns-clause-graph c =
+    let ns = c.self.inside.nodes.items in
+    let es = c.self.inside.edges.items in
+    let n = with_items_is c.self.inside.nodes c.begin_behind.new.nodes (c.begin_behind.auto.nodes ∙ c.deref_mut.ensures.len) in
+    let same : ShowsSame ns es c.begin_behind.new.nodes es = rw (c.deref_mut.ensures.value, c.deref.ensures.value) at c.begin_behind.ensures.same in
+    rw (← c.self.view_is)
+    (ap (λ xs. graph_from xs es) n ∙ same_seen ns es c.begin_behind.new.nodes es same (c.begin_behind.auto.nodes ∙ ap (λ (xs : List _). length xs) c.deref_mut.ensures.value) refl)
