@@ -67,7 +67,7 @@ function count_degrees(   i) {
 # The right labels and marks are worked out first, since they speak of the graph before the step.
 function make_step(   k, name, w, l) {
   learn_all(); count_degrees()
-  split("", left_mark)
+  split("", left_mark); split("", left_ends)
   for (k = 0; k < size[now, 0, "nodes"]; k++) {
     name = part[now, 0, "node", k, "name"]; w = image[name]
     left_root[name] = part[now, 0, "node", k, "root"]; left_mark["node", name] = n_mark[w]
@@ -75,6 +75,7 @@ function make_step(   k, name, w, l) {
   for (k = 0; k < size[now, 0, "edges"]; k++) {
     name = part[now, 0, "edge", k, "name"]; w = took_edge[name]
     left_mark["edge", name] = e_mark[w]; began[name] = e_source[w]; ended[name] = e_target[w]
+    left_ends[name] = part[now, 0, "edge", k, "both"] SUBSEP part[now, 0, "edge", k, "source"] SUBSEP part[now, 0, "edge", k, "target"]
   }
   for (k = 0; k < size[now, 1, "nodes"]; k++) node_value[k] = list_of(part[now, 1, "node", k, "from"], part[now, 1, "node", k, "to"])
   for (k = 0; k < size[now, 1, "edges"]; k++) edge_value[k] = list_of(part[now, 1, "edge", k, "from"], part[now, 1, "edge", k, "to"])
@@ -110,9 +111,16 @@ function add_nodes(   k, name, w, is_root) {
   }
 }
 
-function add_edges(   k, name, w, from_name, to_name) {
+# Whether right edge k is the left edge of its name.
+function is_kept(k, name,   both, from_name, to_name) {
+  both = part[now, 1, "edge", k, "both"]; from_name = part[now, 1, "edge", k, "source"]; to_name = part[now, 1, "edge", k, "target"]
+  if (!(name in left_ends) || !((now, from_name) in in_interface) || !((now, to_name) in in_interface)) return 0
+  return left_ends[name] == both SUBSEP from_name SUBSEP to_name || (both && left_ends[name] == both SUBSEP to_name SUBSEP from_name)
+}
+
+function add_edges(   k, name, w) {
   for (k = 0; k < size[now, 1, "edges"]; k++) {
-    name = part[now, 1, "edge", k, "name"]; w = next_edge++
+    name = part[now, 1, "edge", k, "name"]; w = is_kept(k, name) ? took_edge[name] : next_edge++
     if (part[now, 1, "edge", k, "both"]) { e_source[w] = began[name]; e_target[w] = ended[name] }
     else { e_source[w] = place[part[now, 1, "edge", k, "source"]]; e_target[w] = place[part[now, 1, "edge", k, "target"]] }
     e_label[w] = edge_value[k]; e_mark[w] = mark_after("edge", k, name)
