@@ -142,6 +142,9 @@ fn make(
     if word == b"label".as_slice() {
         return relabel(alloc, graph, words, out);
     }
+    if word == b"relabel-edge".as_slice() {
+        return relabel_edge(alloc, graph, words, out);
+    }
     if word == b"cut".as_slice() {
         return cut(alloc, graph, words, out);
     }
@@ -159,6 +162,9 @@ fn make_other(alloc: Global, graph: &mut Graph, words: &[Vec<u8>]) -> Result<(),
     }
     if word == b"put-edge".as_slice() {
         return put_edge(alloc, graph, words);
+    }
+    if word == b"begin-at".as_slice() || word == b"begin-behind".as_slice() {
+        return turn(graph, words);
     }
     if word == b"reserve".as_slice() {
         return Ok(graph.reserve(number(words, 1), number(words, 2))?);
@@ -238,6 +244,23 @@ fn relabel(
     Ok(())
 }
 
+// `relabel-edge 1 20 Dashed`: the label from before.
+fn relabel_edge(
+    alloc: Global,
+    graph: &mut Graph,
+    words: &[Vec<u8>],
+    out: &mut Answer,
+) -> Result<(), Wrong> {
+    let e = number(words, 1);
+    if !has_edge(graph, e) {
+        return Err(Wrong::new("the edge is not there"));
+    }
+    let list = label(alloc, number(words, 2))?;
+    let old = graph.relabel_edge(e, list, edge_mark(field(words, 3)));
+    put_label(alloc, &old, out);
+    Ok(())
+}
+
 // `cut 1`: what the edge was.
 fn cut(alloc: Global, graph: &mut Graph, words: &[Vec<u8>], out: &mut Answer) -> Result<(), Wrong> {
     let e = number(words, 1);
@@ -286,6 +309,20 @@ fn put_edge(alloc: Global, graph: &mut Graph, words: &[Vec<u8>]) -> Result<(), W
     }
     let list = label(alloc, number(words, 4))?;
     graph.put_edge(e, source, target, list, edge_mark(field(words, 5)));
+    Ok(())
+}
+
+// `begin-at 1`, `begin-behind 1`
+fn turn(graph: &mut Graph, words: &[Vec<u8>]) -> Result<(), Wrong> {
+    let e = number(words, 1);
+    if !has_edge(graph, e) {
+        return Err(Wrong::new("the edge is not there"));
+    }
+    if field(words, 0) == b"begin-at".as_slice() {
+        graph.begin_at(e);
+    } else {
+        graph.begin_behind(e);
+    }
     Ok(())
 }
 
