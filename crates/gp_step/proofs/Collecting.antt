@@ -1,10 +1,8 @@
 -- What is collected of the right side, item by item.
-use Rattle.std.proofs.Common.{◌≡◌, ℕ, suc, ◌+◌, ◌<◌, Bool, true, false, if◌then◌else◌, List, [], ◌∷◌, ◌++◌, length, get_or, drop, drop-cons, append_assoc, add-one, Option, Some, None, slice_get, refl, sym, ap, subst, ◌∙◌, arith}
+use Rattle.std.proofs.Common.{◌≡◌, ℕ, suc, ◌+◌, ◌<◌, Bool, true, false, if◌then◌else◌, List, [], ◌∷◌, ◌++◌, length, get_or, drop, drop-cons, append_assoc, add-one, Option, Some, None, slice_get, slice_index, refl, sym, ap, subst, ◌∙◌, arith}
 use Rattle.std.proofs.lemmas.List.{at_drop_more}
-use Rattle.gp_values.specs.Graph.{Node}
-use Rattle.gp_syntax.specs.Rule.{Found}
-use Rattle.gp_step.specs.Edits.{gone, image_of}
-use Rattle.gp_step.specs.inside.Made.{kept_first, new_first}
+use Rattle.gp_step.specs.Halves.{gone}
+use Rattle.gp_step.specs.inside.Plans.{kept_first, new_first}
 use Rattle.gp_step.proofs.Labels.{same_element}
 
 one_more : {X : Type 0} (so new rest : List X) (x : X) → new ≡ so ++ x ∷ [] → new ++ rest ≡ so ++ x ∷ rest
@@ -22,23 +20,25 @@ swapped n i = omega arith
 nothing_more : (n : ℕ) → n + 0 ≡ n
 nothing_more n = omega arith
 
-pub gone_next : (kept : ℕ → Bool) (ns : List ℕ) (n d : ℕ) (so end : List ℕ) → n < length ns
-    → so ++ gone (λ i. kept (n + i)) (drop n ns) ≡ end
-    → record { stays : kept n ≡ true → so ++ gone (λ i. kept ((n + 1) + i)) (drop (n + 1) ns) ≡ end; goes : kept n ≡ false → (so ++ get_or ns n d ∷ []) ++ gone (λ i. kept ((n + 1) + i)) (drop (n + 1) ns) ≡ end }
-gone_next kept ns n d so end l same =
-    let x = get_or ns n d in
-    let rest = drop (suc n) ns in
-    let s : so ++ (if kept (n + 0) then gone (λ i. kept (n + suc i)) rest else x ∷ gone (λ i. kept (n + suc i)) rest) ≡ end = subst (λ l. so ++ gone (λ i. kept (n + i)) l ≡ end) (drop-cons ns n d l) same in
+-- of items whose numbers are viewed so
+pub gone_next : {X : Type 0} (number : X → ℕ) (view : List X → List ℕ) → ((x : X) (xs : List X) → view (x ∷ xs) ≡ number x ∷ view xs) → (kept : ℕ → Bool) (xs : List X) (n : ℕ) (d : X) (so end : List ℕ) → n < length xs
+    → so ++ gone (λ i. kept (n + i)) (view (drop n xs)) ≡ end
+    → record { stays : kept n ≡ true → so ++ gone (λ i. kept ((n + 1) + i)) (view (drop (n + 1) xs)) ≡ end; goes : kept n ≡ false → (so ++ number (get_or xs n d) ∷ []) ++ gone (λ i. kept ((n + 1) + i)) (view (drop (n + 1) xs)) ≡ end }
+gone_next number view each kept xs n d so end l same =
+    let x = number (get_or xs n d) in
+    let rest = view (drop (suc n) xs) in
+    let first : view (drop n xs) ≡ x ∷ rest = ap view (drop-cons xs n d l) ∙ each (get_or xs n d) (drop (suc n) xs) in
+    let s : so ++ (if kept (n + 0) then gone (λ i. kept (n + suc i)) rest else x ∷ gone (λ i. kept (n + suc i)) rest) ≡ end = subst (λ l. so ++ gone (λ i. kept (n + i)) l ≡ end) first same in
     let e : gone (λ i. kept (n + suc i)) rest ≡ gone (λ i. kept ((n + 1) + i)) rest = gone_same (λ i. kept (n + suc i)) (λ i. kept ((n + 1) + i)) rest (λ i. ap kept (swapped n i)) in
     record {
       stays = λ t.
           let b : kept (n + 0) ≡ true = ap kept (nothing_more n) ∙ t in
           let u : so ++ gone (λ i. kept (n + suc i)) rest ≡ end = subst (λ z. so ++ (if z then gone (λ i. kept (n + suc i)) rest else x ∷ gone (λ i. kept (n + suc i)) rest) ≡ end) b s in
-          subst (λ z. so ++ gone (λ i. kept ((n + 1) + i)) (drop z ns) ≡ end) (sym (add-one n)) (ap (λ l. so ++ l) (sym e) ∙ u);
+          subst (λ z. so ++ gone (λ i. kept ((n + 1) + i)) (view (drop z xs)) ≡ end) (sym (add-one n)) (ap (λ l. so ++ l) (sym e) ∙ u);
       goes = λ t.
           let b : kept (n + 0) ≡ false = ap kept (nothing_more n) ∙ t in
           let u : so ++ x ∷ gone (λ i. kept (n + suc i)) rest ≡ end = subst (λ z. so ++ (if z then gone (λ i. kept (n + suc i)) rest else x ∷ gone (λ i. kept (n + suc i)) rest) ≡ end) b s in
-          subst (λ z. (so ++ x ∷ []) ++ gone (λ i. kept ((n + 1) + i)) (drop z ns) ≡ end) (sym (add-one n)) (one_more so (so ++ x ∷ []) (gone (λ i. kept ((n + 1) + i)) rest) x refl ∙ ap (λ l. so ++ x ∷ l) (sym e) ∙ u);
+          subst (λ z. (so ++ x ∷ []) ++ gone (λ i. kept ((n + 1) + i)) (view (drop z xs)) ≡ end) (sym (add-one n)) (one_more so (so ++ x ∷ []) (gone (λ i. kept ((n + 1) + i)) rest) x refl ∙ ap (λ l. so ++ x ∷ l) (sym e) ∙ u);
     }
 
 -- ---- the item of a turn
@@ -55,10 +55,10 @@ from_item F xs ys k q e l is =
     let h : q ≡ get_or xs k q = is ∙ ap (λ zs. get_or zs k q) e in
     at_drop_more F xs k q (subst (λ zs. k < length zs) e l) ∙ ap (λ z. F (z ∷ drop (k + 1) xs)) (sym h)
 
-pub kept_more : (m : Found) (o : Option ℕ) (x : Node) (ps rest : List (ℕ × Node)) → (ps ++ kept_first m o x []) ++ rest ≡ ps ++ kept_first m o x rest
-kept_more m (Some i) x ps rest = append_assoc ps ((image_of m (Some i) 0, x) ∷ []) rest
-kept_more m None x ps rest = append_assoc ps [] rest
+pub kept_more : {X : Type 0} (found : List ℕ) (o : Option ℕ) (x : X) (ps rest : List (ℕ × X)) → (ps ++ kept_first found o x []) ++ rest ≡ ps ++ kept_first found o x rest
+kept_more found (Some i) x ps rest = append_assoc ps ((slice_index found i, x) ∷ []) rest
+kept_more found None x ps rest = append_assoc ps [] rest
 
-pub new_more : (o : Option ℕ) (x : Node) (xs rest : List Node) → (xs ++ new_first o x []) ++ rest ≡ xs ++ new_first o x rest
+pub new_more : {X : Type 0} (o : Option ℕ) (x : X) (xs rest : List X) → (xs ++ new_first o x []) ++ rest ≡ xs ++ new_first o x rest
 new_more (Some i) x xs rest = append_assoc xs [] rest
 new_more None x xs rest = append_assoc xs (x ∷ []) rest

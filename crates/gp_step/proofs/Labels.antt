@@ -1,5 +1,5 @@
 -- What a checked rule's right side asks for is there, where a match applies.
-use Rattle.std.proofs.Common.{◌≡◌, ℕ, ◌<◌, Bool, ◌||◌, List, [], ◌∷◌, map, length, get_or, Option, Some, None, IsSome, IfSome, slice_get, refl, sym, ap, subst, ◌∙◌, arith}
+use Rattle.std.proofs.Common.{◌≡◌, ℕ, ◌<◌, ◌||◌, Bool, List, [], ◌∷◌, map, length, get_or, Option, Some, None, IsSome, IfSome, slice_get, refl, sym, ap, subst, ◌∙◌, arith}
 use Rattle.std.specs.Option.{option_map}
 use Rattle.std.specs.List.{list_any}
 use Rattle.std.proofs.lemmas.List.{get_or_default, length-map}
@@ -17,6 +17,7 @@ use Rattle.gp_syntax.specs.Tree.{rule_of_tree, right_node_of, right_edge_of, exp
 use Rattle.gp_syntax.specs.WellFormed.{IsWithin}
 use Rattle.gp_eval.specs.Answer.{AreNodes}
 use Rattle.gp_syntax.proofs.Unique.{element}
+use Rattle.gp_syntax.proofs.KeptEdges.{kept_edge_at}
 use Rattle.gp_step.specs.inside.Made.{IsReady, IsRightLabel}
 use Rattle.gp_step.proofs.Afters.{both_values, has_values, there}
 use Rattle.gp_step.proofs.Wholes.{all_left, at_label, all_right}
@@ -88,6 +89,13 @@ module _ (p : RuleParts) (g : Graph) (m : meant.Found) (b : PartialAssignment) (
   edge_origin k q e =
       some_below q.origin (length m.edges) (λ i o. subst (λ z. i < z) (sym w.applies.is_match.edge_count) (w.well_formed.edge_origins k i (right_edge_of q) (slice_get-map right_edge_of p.right_edges k ∙ ap (option_map right_edge_of) e) o))
 
+  -- the left edge that it keeps
+  pub edge_keeps : (k : ℕ) (q : RightEdge) → slice_get p.right_edges k ≡ Some q → IfSome (meant.kept_edge r (right_edge_of q)) (λ i. i < length m.edges)
+  edge_keeps k q e =
+      some_below (meant.kept_edge r (right_edge_of q)) (length m.edges) (λ i o.
+      subst (λ z. i < z) (sym w.applies.is_match.edge_count)
+      (w.well_formed.edge_origins k i (right_edge_of q) (slice_get-map right_edge_of p.right_edges k ∙ ap (option_map right_edge_of) e) (kept_edge_at r (right_edge_of q) i o).3))
+
   pub node_count : length m.nodes ≡ length p.left_nodes
   node_count = w.applies.is_match.node_count ∙ length-map p.left_nodes _
 
@@ -97,7 +105,7 @@ module _ (p : RuleParts) (g : Graph) (m : meant.Found) (b : PartialAssignment) (
       let h = w.well_formed.right_ends k (right_edge_of q) (slice_get-map right_edge_of p.right_edges k ∙ ap (option_map right_edge_of) e) in
       (subst (λ z. q.source < z) n h.0, subst (λ z. q.target < z) n h.1)
 
--- ---- the interface
+-- ---- what is kept
 
 pub any_mapped : {A B : Type 0} (f : A → B) (t : B → Bool) (xs : List A) → list_any (λ x. t (f x)) xs ≡ list_any t (map f xs)
 any_mapped f t [] = refl

@@ -1,3 +1,5 @@
+pub mod Halves
+pub mod Turns
 pub mod Afters
 pub mod Wholes
 pub mod Undoing

@@ -1,217 +1,222 @@
 -- The edits of a step, as they are made in memory, may be made and lead to the step's graph.
-use Rattle.std.proofs.Common.{◌≡◌, ℕ, zero, suc, ◌+◌, ◌<◌, ◌≤◌, ◌≢◌, Bool, true, false, if◌then◌else◌, List, [], ◌∷◌, map, length, get_or, Option, Some, None, Result, Ok, Err, OnOk, IsSome, IsSomeAnd, slice_get, slice_index, Contains, refl, sym, ap, subst, ◌∙◌, arith}
-use Rattle.std.specs.Ordering.{nat_cmp}
-use Rattle.std.specs.Cmp.{nat_cmp_total, unsigned_tied}
-use Rattle.std.specs.FinMap.{FinMap, get, insert, gets, same_map, nat_cmp-IsAntisymmetric}
-use Rattle.std.proofs.lemmas.Grind.{common_steps}
-use Rattle.gp_values.specs.Apart.{AreApart}
-use Rattle.gp_values.specs.Graph.{Graph, Node, Edge, IsGraph, HasNoEdges, node_at, edge_at, with_node, with_edge, without_node, without_edge, relabeled}
-use Rattle.gp_values.proofs.Graphs.{get-remove_apart, IsSome-insert}
+use Rattle.std.proofs.Common.{◌≡◌, ℕ, ◌+◌, ◌<◌, if◌then◌else◌, true, false, Bool, List, length, Option, Some, Result, Ok, Err, OnOk, IsSome, IsSomeAnd, slice_get, slice_index, Contains, refl, sym, ap, subst, ◌∙◌, ◌⊎◌, inl, inr, arith}
+use Rattle.std.specs.Option.{option_map}
+use Rattle.std.specs.FinMap.{get}
+use Rattle.std.proofs.lemmas.List.{length-map}
+use Rattle.std.proofs.lemmas.Option.{none-some, slice_get-map, slice_get_within}
+use Rattle.gp_values.specs.Graph.{Graph, Node, Edge, HasNoEdges, node_at, edge_at}
 use Rattle.gp_syntax.specs.declared.rule.RuleParts.{RuleParts}
 use Rattle.gp_syntax.specs.Assigned.{PartialAssignment, assigned_of}
 use Rattle.gp_syntax.specs.Tree.{rule_of_tree}
 use Rattle.gp_syntax.specs.Value.{Assignment}
-use Rattle.gp_syntax.specs.Rule.{Rule, RightNode, Found, is_kept}
+use Rattle.gp_syntax.specs.Rule.{Rule, RightNode, RightEdge, Found, IsKept, kept_edge, kept_nodes, kept_edges}
 use Rattle.gp_syntax.specs.Match.{MatchBy}
-use Rattle.gp_syntax.specs.Step.{Applies, AppliesBy}
+use Rattle.gp_syntax.specs.Step.{Applies, AppliesBy, is_exchanged}
 use Rattle.gp_syntax.specs.WellFormed.{IsWellFormed}
 use Rattle.gp_unify.specs.Matched.{IsThatOfMatch, IsAssignment}
 use Rattle.gp_unify.proofs.Candidates.{is_candidate}
 use Rattle.gp_step.specs.After.{after_at, after}
+use Rattle.gp_step.specs.Laws.{IsNumbered}
 use Rattle.gp_syntax.proofs.Unique.{element}
 use Rattle.gp_syntax.proofs.Declarations.{from_map}
-use Rattle.gp_step.specs.Edits.{made_node, made_edge, images_of, drop_edges, drop_nodes, gone, put_node, put_nodes, put_edges, stepped}
-use Rattle.gp_step.specs.inside.Made.{IsReady, relabel_all, with_nodes, kept_first, kept_of, new_first, new_of}
-use Rattle.gp_step.specs.inside.Notes.{MayDropEdges, MayDropNodes, MayRelabel, MayPutEdges, MayMake, made_by}
-use Rattle.gp_step.proofs.Afters.{behind, at_head, apart_rest, apart_head, gone_of, there}
-use Rattle.gp_step.proofs.Wholes.{kept_stays, free, either_end, whole_edges, whole_nodes, gone_place}
+use Rattle.gp_syntax.proofs.KeptEdges.{kept_ends}
+use Rattle.gp_step.specs.Halves.{images_from, stays, gone, cut}
+use Rattle.gp_step.specs.Edits.{made_node, made_edge, images_of, origin_of, stepped}
+use Rattle.gp_step.specs.inside.Made.{IsReady}
+use Rattle.gp_step.specs.inside.Plans.{Planned, MayMake, made_by, plan_of, kept_of, drop_edges, relabel_edges, drop_nodes, relabel_nodes, with_nodes}
+use Rattle.gp_step.proofs.Halves.{standing, stands_in, dropped, left, kept_or_gone, gone_place, gone_apart_images, places, stands, length-images}
+use Rattle.gp_step.proofs.Turns.{HasEnds, MayAs, write, add_all, placed, length-new, from_new, drop_edges_half, drop_nodes_half, relabel_nodes_half, with_nodes_half, with_edges_half, kept_relabeled, ends_stay, edges_may, nodes_may, kept_may, ends_may, gone_apart}
+use Rattle.gp_step.proofs.Afters.{some_is, node_there, edge_there, keeps_nodes, keeps_edges, node_places}
 
--- ---- each edit may be made after those before it
+pub record MakesStep (r : Rule) (g : Graph) (m : Found) (a : Assignment) (p : Planned) : Type 0 where
+  pub may : MayMake p g
+  pub same : made_by p g ≡ stepped r g m a
 
-edges_may : (es : List ℕ) (g : Graph) → ((k : ℕ) → k < length es → IsSome (edge_at g (slice_index es k))) → AreApart es → MayDropEdges es g
-edges_may [] g h a = tt
-edges_may (e ∷ es) g h a = (
-  h 0 (omega arith),
-  edges_may es (without_edge g e)
-      (λ k l. subst IsSome (sym (get-remove_apart g.edges e (slice_index es k) (λ s. a 0 (suc k) (omega arith) (omega arith) (sym s)))) (h (suc k) (omega arith)))
-      (apart_rest e es a),
-)
+module _ (r : Rule) (g : Graph) (m : Found) (a : Assignment) (b : IsNumbered g) (w : MatchBy r g m a) (o : IsWellFormed r) where
+  abbrev plan : Planned
+  plan = plan_of r g m a
 
-nodes_may : (ns : List ℕ) (g : Graph) → ((n : ℕ) → Contains ns n → IsSome (node_at g n) × HasNoEdges g n) → AreApart ns → MayDropNodes ns g
-nodes_may [] g h a = tt
-nodes_may (n ∷ ns) g h a =
-    let first = h n (at_head n ns n refl) in (
-      first.0,
-      first.1,
-      nodes_may ns (without_node g n)
-          (λ k c.
-          let both = h k (behind n ns k c) in
-          (subst IsSome (sym (get-remove_apart g.nodes n k (λ s. apart_head n ns a (subst (Contains ns) s c)))) both.0, both.1))
-          (apart_rest n ns a),
-    )
+  abbrev node : RightNode → Node
+  node = made_node r g m a
 
-first_may : (m : Found) (o : Option ℕ) (x : Node) (ps : List (ℕ × Node)) (g : Graph) → ((i : ℕ) → o ≡ Some i → IsSome (node_at g (slice_index m.nodes i)))
-    → ((h : Graph) → ((n : ℕ) → IsSome (node_at g n) → IsSome (node_at h n)) → MayRelabel ps h) → MayRelabel (kept_first m o x ps) g
-first_may m None x ps g here rest = rest g (λ n s. s)
-first_may m (Some i) x ps g here rest = (here i refl, rest (relabeled g (slice_index m.nodes i) x) (λ n s. IsSome-insert g.nodes (slice_index m.nodes i) n x s))
+  abbrev edge : RightEdge → Edge
+  edge = made_edge r g m a (images_of r g m)
 
-kept_may : (m : Found) (make : RightNode → Node) (qs : List RightNode) (g : Graph) → ((j i : ℕ) (q : RightNode) → slice_get qs j ≡ Some q → q.origin ≡ Some i → IsSome (node_at g (slice_index m.nodes i))) → MayRelabel (kept_of m make qs) g
-kept_may m make [] g h = tt
-kept_may m make (q ∷ qs) g h =
-    first_may m q.origin (make q) (kept_of m make qs) g (λ i e. h 0 i q refl e)
-    (λ k stays. kept_may m make qs k (λ j i p e o. stays (slice_index m.nodes i) (h (suc j) i p e o)))
+  abbrev kept_pairs : List (ℕ × Edge)
+  kept_pairs = kept_of m.edges (kept_edge r) edge r.right_edges
 
-ends_may : (ds : List Edge) (g : Graph) → ((k : ℕ) (d : Edge) → slice_get ds k ≡ Some d → IsSome (node_at g d.source) × IsSome (node_at g d.target)) → MayPutEdges ds g
-ends_may [] g h = tt
-ends_may (d ∷ ds) g h = let e = h 0 d refl in (e.0, e.1, ends_may ds (with_edge g d) (λ k c i. h (suc k) c i))
+  -- the graphs on the way
+  abbrev first : Graph
+  first = drop_edges plan.cut_edges g
 
--- ---- what goes
+  abbrev second : Graph
+  second = relabel_edges plan.kept_edges first
 
-apart_more : (n : ℕ) (ns : List ℕ) → (Contains ns n → ⊥) → AreApart ns → AreApart (n ∷ ns)
-apart_more n ns none a zero zero l k e = absurd (omega arith)
-apart_more n ns none a zero (suc j) l k e = none (j, omega arith, sym (e ∙ default ns j 0 n (omega arith)))
-  where
-    default : (xs : List ℕ) (j d c : ℕ) → j < length xs → get_or xs j d ≡ get_or xs j c
-    default [] j d c b = absurd (omega arith)
-    default (x ∷ xs) zero d c b = refl
-    default (x ∷ xs) (suc j) d c b = default xs j d c (omega arith)
-apart_more n ns none a (suc i) zero l k e = absurd (omega arith)
-apart_more n ns none a (suc i) (suc j) l k e = a i j (omega arith) (omega arith) e
+  abbrev third : Graph
+  third = drop_nodes plan.cut_nodes second
 
-gone_apart : (kept : ℕ → Bool) (ns : List ℕ) → AreApart ns → AreApart (gone kept ns)
-gone_apart kept [] a = a
-gone_apart kept (n ∷ ns) a = by (kept 0) (gone_apart (λ i. kept (suc i)) ns (apart_rest n ns a))
-  where
-    by : (b : Bool) → AreApart (gone (λ i. kept (suc i)) ns) → AreApart (if b then gone (λ i. kept (suc i)) ns else n ∷ gone (λ i. kept (suc i)) ns)
-    by true h = h
-    by false h = apart_more n (gone (λ i. kept (suc i)) ns) (λ c. apart_head n ns a (gone_of (λ i. kept (suc i)) ns n c)) h
+  abbrev fourth : Graph
+  fourth = relabel_nodes plan.kept_nodes third
 
--- ---- relabelling and adding do not meet
+  abbrev fifth : Graph
+  fifth = with_nodes plan.new_nodes fourth
 
-inserted : {X : Type 0} (s : FinMap nat_cmp X) (n k : ℕ) (x y : X) (q : ℕ) → n ≢ k → get (insert (insert s k x) n y) q ≡ get (insert (insert s n y) k x) q
-inserted s n k x y q d = grind (gets, arith, common_steps, unsigned_tied q n, unsigned_tied q k)
+  -- the place of an item that keeps another's
+  node_kept : (j i : ℕ) → slice_get (kept_nodes r) j ≡ Some (Some i) → (i < length m.nodes) × Contains (images_of r g m) (slice_index m.nodes i)
+  node_kept j i e =
+      let n : length (images_of r g m) ≡ length (kept_nodes r) = length-images m.nodes (kept_nodes r) g.next_node in
+      let l : j < length (kept_nodes r) = slice_get_within (kept_nodes r) j (Some i) e in
+      ((keeps_nodes r g m a b w o).within j i e, stands_in (images_of r g m) j (slice_index m.nodes i) (omega arith) ((node_places r g m a b w o).old j i e))
 
-insert-insert : {X : Type 0} (s : FinMap nat_cmp X) (n k : ℕ) (x y : X) → n ≢ k → insert (insert s k x) n y ≡ insert (insert s n y) k x
-insert-insert s n k x y d = same_map nat_cmp_total nat_cmp-IsAntisymmetric _ _ (λ q. inserted s n k x y q d)
+  edge_kept : (j i : ℕ) → slice_get (kept_edges r) j ≡ Some (Some i) → (i < length m.edges) × (Contains plan.cut_edges (slice_index m.edges i) → ⊥)
+  edge_kept j i e =
+      let images = images_from m.edges (kept_edges r) g.next_edge in
+      let p = places (kept_edges r) m.edges g.next_edge (keeps_edges r g m a b w o) in
+      let n : length images ≡ length (kept_edges r) = p.count in
+      let l : j < length (kept_edges r) = slice_get_within (kept_edges r) j (Some i) e in (
+        (keeps_edges r g m a b w o).within j i e,
+        λ c. gone_apart_images (kept_edges r) m.edges g.next_edge images (keeps_edges r g m a b w o) p (slice_index m.edges i) c (stands_in images j (slice_index m.edges i) (omega arith) (p.old j i e)),
+      )
 
-relabeled-with_node : (g : Graph) (n : ℕ) (x y : Node) → n < g.next_node → relabeled (with_node g x) n y ≡ with_node (relabeled g n y) x
-relabeled-with_node g n x y l =
-    let d : n ≢ g.next_node = omega arith in
-    ap (λ s. record { nodes = s; edges = g.edges; next_node = g.next_node + 1; next_edge = g.next_edge }) (insert-insert g.nodes n g.next_node x y d)
+  -- a kept edge is there, with the ends that it is to have
+  edges_stand : (j i : ℕ) (q : RightEdge) → slice_get r.right_edges j ≡ Some q → kept_edge r q ≡ Some i → HasEnds (edge_at first (slice_index m.edges i)) (edge q)
+  edges_stand j i q h e =
+      let k = edge_kept j i (slice_get-map (kept_edge r) r.right_edges j ∙ ap (option_map (kept_edge r)) h ∙ ap (λ z. Some z) e) in
+      let d = some_is (edge_at g (slice_index m.edges i)) (edge_there r g m a b w o i k.0) in
+      let ends = kept_ends r g m a g.next_node (images_of r g m) w (node_places r g m a b w o) q i d.0 e d.1 in
+      let same : edge_at first (slice_index m.edges i) ≡ edge_at g (slice_index m.edges i) = ap (λ h. edge_at h (slice_index m.edges i)) (drop_edges_half plan.cut_edges g) ∙ left plan.cut_edges g.edges (slice_index m.edges i) k.1 in
+      (d.0, same ∙ d.1, ends.0, ends.1)
 
-relabel_all-with_node : (ps : List (ℕ × Node)) (g : Graph) (x : Node) → ((k : ℕ) (p : ℕ × Node) → slice_get ps k ≡ Some p → p.0 < g.next_node) → relabel_all ps (with_node g x) ≡ with_node (relabel_all ps g) x
-relabel_all-with_node [] g x h = refl
-relabel_all-with_node (p ∷ ps) g x h =
-    ap (relabel_all ps) (relabeled-with_node g p.0 x p.1 (h 0 p refl)) ∙ relabel_all-with_node ps (relabeled g p.0 p.1) x (λ k q e. h (suc k) q e)
+  -- each graph, by its halves
+  first_is : first ≡ record g { edges = cut plan.cut_edges g.edges }
+  first_is = drop_edges_half plan.cut_edges g
 
-some_same : {X : Type 0} {x y : X} → Some x ≡ Some y → x ≡ y
-some_same e = cc
+  relabels : MayAs kept_pairs plan.kept_edges first
+  relabels = kept_relabeled m.edges (kept_edge r) edge r.right_edges first edges_stand
 
-first_below : (m : Found) (o : Option ℕ) (x : Node) (ps : List (ℕ × Node)) (n : ℕ) → ((i : ℕ) → o ≡ Some i → slice_index m.nodes i < n) → ((k : ℕ) (p : ℕ × Node) → slice_get ps k ≡ Some p → p.0 < n)
-    → (k : ℕ) (p : ℕ × Node) → slice_get (kept_first m o x ps) k ≡ Some p → p.0 < n
-first_below m None x ps n here rest k p e = rest k p e
-first_below m (Some i) x ps n here rest zero p e = subst (λ (q : ℕ × Node). q.0 < n) (some_same e) (here i refl)
-first_below m (Some i) x ps n here rest (suc k) p e = rest k p e
+  second_is : second ≡ record g { edges = write kept_pairs (cut plan.cut_edges g.edges) }
+  second_is = relabels.1 ∙ ap (λ (h : Graph). record h { edges = write kept_pairs h.edges }) first_is
 
-kept_below : (m : Found) (make : RightNode → Node) (qs : List RightNode) (n : ℕ) → ((j i : ℕ) (q : RightNode) → slice_get qs j ≡ Some q → q.origin ≡ Some i → slice_index m.nodes i < n)
-    → (k : ℕ) (p : ℕ × Node) → slice_get (kept_of m make qs) k ≡ Some p → p.0 < n
-kept_below m make [] n h k p e = absurd cc
-kept_below m make (q ∷ qs) n h k p e = first_below m q.origin (make q) (kept_of m make qs) n (λ i o. h 0 i q refl o) (kept_below m make qs n (λ j i z d o. h (suc j) i z d o)) k p e
+  third_is : third ≡ record g { nodes = cut plan.cut_nodes g.nodes; edges = write kept_pairs (cut plan.cut_edges g.edges) }
+  third_is = drop_nodes_half plan.cut_nodes second ∙ ap (λ (h : Graph). record h { nodes = cut plan.cut_nodes h.nodes }) second_is
 
-at_least : (a n k : ℕ) → a < n → n ≤ k → a < k
-at_least a n k h l = omega arith
+  fourth_is : fourth ≡ record g { nodes = write plan.kept_nodes (cut plan.cut_nodes g.nodes); edges = write kept_pairs (cut plan.cut_edges g.edges) }
+  fourth_is = relabel_nodes_half plan.kept_nodes third ∙ ap (λ (h : Graph). record h { nodes = write plan.kept_nodes h.nodes }) third_is
 
-one_more : (n : ℕ) → n ≤ n + 1
-one_more n = omega arith
+  fifth_is : fifth ≡ record { nodes = (stepped r g m a).nodes; edges = write kept_pairs (cut plan.cut_edges g.edges); next_node = (stepped r g m a).next_node; next_edge = g.next_edge }
+  fifth_is =
+      let nodes = placed m.nodes origin_of node r.right_nodes (cut plan.cut_nodes g.nodes) g.next_node (λ j i e. let k = keeps_nodes r g m a b w o in k.below i (k.within j i e)) in
+      let count = ap (λ n. g.next_node + n) (length-new m.nodes origin_of node r.right_nodes) in
+      with_nodes_half plan.new_nodes fourth
+      ∙ ap (λ (h : Graph). record h { nodes = add_all plan.new_nodes h.nodes h.next_node; next_node = h.next_node + length plan.new_nodes }) fourth_is
+      ∙ (λ i. record { nodes = nodes i; edges = write kept_pairs (cut plan.cut_edges g.edges); next_node = count i; next_edge = g.next_edge })
 
-not_less : (n : ℕ) → n ≤ n
-not_less n = omega arith
+  last_is : made_by plan g ≡ stepped r g m a
+  last_is =
+      let edges = placed m.edges (kept_edge r) edge r.right_edges (cut plan.cut_edges g.edges) g.next_edge (λ j i e. let k = keeps_edges r g m a b w o in k.below i (k.within j i e)) in
+      let count = ap (λ n. g.next_edge + n) (length-new m.edges (kept_edge r) edge r.right_edges) in
+      with_edges_half plan.new_edges fifth
+      ∙ ap (λ (h : Graph). record h { edges = add_all plan.new_edges h.edges h.next_edge; next_edge = h.next_edge + length plan.new_edges }) fifth_is
+      ∙ (λ i. record { nodes = (stepped r g m a).nodes; edges = edges i; next_node = (stepped r g m a).next_node; next_edge = count i })
 
-placed_first : (m : Found) (make : RightNode → Node) (qs : List RightNode) (o : Option ℕ) (x : Node) (g : Graph) → ((k : ℕ) (p : ℕ × Node) → slice_get (kept_of m make qs) k ≡ Some p → p.0 < g.next_node)
-    → ((h : Graph) → g.next_node ≤ h.next_node → with_nodes (new_of make qs) (relabel_all (kept_of m make qs) h) ≡ put_nodes m make qs h)
-    → with_nodes (new_first o x (new_of make qs)) (relabel_all (kept_first m o x (kept_of m make qs)) g) ≡ put_nodes m make qs (put_node m o x g)
-placed_first m make qs (Some i) x g below rest = rest (relabeled g (slice_index m.nodes i) x) (not_less g.next_node)
-placed_first m make qs None x g below rest =
-    ap (with_nodes (new_of make qs)) (sym (relabel_all-with_node (kept_of m make qs) g x below)) ∙ rest (with_node g x) (one_more g.next_node)
+  -- a node that goes is there, and no edge is left at it
+  goes_there : (n : ℕ) → Contains plan.cut_nodes n → IsSome (node_at second n)
+  goes_there n c =
+      let z = gone_place (stays (kept_nodes r)) m.nodes n c in
+      subst (λ (h : Graph). IsSome (node_at h n)) (sym second_is) (subst (λ i. IsSome (node_at g i)) z.2 (node_there r g m a b w o z.0 z.1))
 
--- relabelling first and adding then is placing in the order of the text
-pub placed : (m : Found) (make : RightNode → Node) (qs : List RightNode) (g : Graph) → ((j i : ℕ) (q : RightNode) → slice_get qs j ≡ Some q → q.origin ≡ Some i → slice_index m.nodes i < g.next_node)
-    → with_nodes (new_of make qs) (relabel_all (kept_of m make qs) g) ≡ put_nodes m make qs g
-placed m make [] g h = refl
-placed m make (q ∷ qs) g h =
-    placed_first m make qs q.origin (make q) g (kept_below m make qs g.next_node (λ j i z d o. h (suc j) i z d o))
-    (λ k l. placed m make qs k (λ j i z d o. at_least (slice_index m.nodes i) g.next_node k.next_node (h (suc j) i z d o) l))
+  image_in : (j n : ℕ) → j < length r.right_nodes → slice_index (images_of r g m) j ≡ n → Contains (images_of r g m) n
+  image_in j n l s =
+      let k : length (images_of r g m) ≡ length (kept_nodes r) = length-images m.nodes (kept_nodes r) g.next_node in
+      let c : length (kept_nodes r) ≡ length r.right_nodes = length-map r.right_nodes origin_of in
+      stands_in (images_of r g m) j n (omega arith) s
 
--- ---- of a match of a checked rule
+  either_image : (x : Bool) (j k n : ℕ) → j < length r.right_nodes → k < length r.right_nodes → slice_index (images_of r g m) (if x then j else k) ≡ n → Contains (images_of r g m) n
+  either_image true j k n l h s = image_in j n l s
+  either_image false j k n l h s = image_in k n h s
 
-pub record MakesStep (r : Rule) (g : Graph) (m : Found) (a : Assignment) (es ns : List ℕ) (ps : List (ℕ × Node)) (xs : List Node) (ds : List Edge) : Type 0 where
-  pub may : MayMake es ns ps xs ds g
-  pub same : made_by es ns ps xs ds g ≡ stepped r g m a
+  -- a kept edge ends at images alone
+  ends_imaged : (j k n : ℕ) (d : Edge) → slice_get (kept_edges r) j ≡ Some (Some k) → edge_at g (slice_index m.edges k) ≡ Some d → (d.source ≡ n) ⊎ (d.target ≡ n) → Contains (images_of r g m) n
+  ends_imaged j k n d e i at =
+      let q = from_map (kept_edge r) r.right_edges j (Some k) e in
+      let ends = kept_ends r g m a g.next_node (images_of r g m) w (node_places r g m a b w o) q.0 k d q.2 i in
+      let l = o.right_ends j q.0 q.1 in
+      elim at [
+        | inl y ↦ either_image (is_exchanged m q.0) q.0.target q.0.source n l.1 l.0 (sym ends.0 ∙ y)
+        | inr y ↦ either_image (is_exchanged m q.0) q.0.source q.0.target n l.0 l.1 (sym ends.1 ∙ y)
+      ]
 
-module _ (r : Rule) (g : Graph) (m : Found) (a : Assignment) (whole : IsGraph g) (w : MatchBy r g m a) (o : IsWellFormed r) where
-  abbrev make : RightNode → Node
-  make = made_node r g m a
-
-  abbrev without : Graph
-  without = drop_edges m.edges g
-
-  abbrev cleared : Graph
-  cleared = drop_nodes (gone (is_kept r) m.nodes) without
-
-  edges_there : (k : ℕ) → k < length m.edges → IsSome (edge_at g (slice_index m.edges k))
-  edges_there k l =
-      let n : length m.edges ≡ length r.left_edges = w.edge_count in
-      let p = element r.left_edges k (omega arith) in
-      there _ _ (w.edges k p.0 p.1)
-
-  nodes_there : (n : ℕ) → Contains (gone (is_kept r) m.nodes) n → IsSome (node_at without n) × HasNoEdges without n
-  nodes_there n c =
-      let z = gone_place (is_kept r) m.nodes n c in
+  -- and one that does not go ends at no node that goes
+  end_differs : (n e : ℕ) (d : Edge) → Contains plan.cut_nodes n → edge_at g e ≡ Some d → (Contains plan.cut_edges e → ⊥) → (d.source ≡ n) ⊎ (d.target ≡ n) → ⊥
+  end_differs n e d c i out at =
+      let unimaged = gone_apart_images (kept_nodes r) m.nodes g.next_node (images_of r g m) (keeps_nodes r g m a b w o) (node_places r g m a b w o) n c in
+      let z = gone_place (stays (kept_nodes r)) m.nodes n c in
       let l : z.0 < length m.nodes = z.1 in
-      let k : length m.nodes ≡ length r.left_nodes = w.node_count in
-      let p = element r.left_nodes z.0 (omega arith) in
-      let s : IsSome (node_at g n) = subst (λ i. IsSome (node_at g i)) z.2 (there _ _ (w.nodes z.0 p.0 p.1)) in
-      (subst (λ ns. IsSome (get ns n)) (sym (drop_edges_keeps m.edges g)) s, free r g m a whole w o n c)
-    where
-      drop_edges_keeps : (es : List ℕ) (h : Graph) → (drop_edges es h).nodes ≡ h.nodes
-      drop_edges_keeps [] h = refl
-      drop_edges_keeps (e ∷ es) h = drop_edges_keeps es (without_edge h e)
+      let count : length m.nodes ≡ length r.left_nodes = w.node_count in
+      let unkept : IsKept r z.0 → ⊥ = λ y.
+      let p = node_kept y.0 z.0 (slice_get-map origin_of r.right_nodes y.0 ∙ ap (option_map origin_of) y.2 ∙ ap (λ x. Some x) y.3) in
+      unimaged (subst (Contains (images_of r g m)) z.2 p.1) in
+      let found = w.dangling z.0 e d (omega arith) unkept i (elim at [ inl y ↦ inl (y ∙ sym z.2) | inr y ↦ inr (y ∙ sym z.2) ]) in
+      elim (kept_or_gone (kept_edges r) m.edges e found) [
+        | inl k ↦ unimaged (ends_imaged k.0 found.0 n d k.1 (ap (edge_at g) (standing m.edges e found) ∙ i) at)
+        | inr gone ↦ out gone
+      ]
 
-  whole_cleared : IsGraph cleared
-  whole_cleared = whole_nodes (gone (is_kept r) m.nodes) without (whole_edges m.edges g whole) (λ n c. free r g m a whole w o n c)
+  free : (n : ℕ) → Contains plan.cut_nodes n → HasNoEdges second n
+  free n c e d h =
+      let f = ends_stay plan.kept_edges first e d h in
+      let i : get (cut plan.cut_edges g.edges) e ≡ Some f.0 = sym (ap (λ (h : Graph). edge_at h e) first_is) ∙ f.1 in
+      let out : Contains plan.cut_edges e → ⊥ = λ x. none-some f.0 (sym (dropped plan.cut_edges g.edges e x) ∙ i) in
+      let was : edge_at g e ≡ Some f.0 = sym (left plan.cut_edges g.edges e out) ∙ i in
+      (λ s. end_differs n e f.0 c was out (inl (f.2 ∙ s)), λ t. end_differs n e f.0 c was out (inr (f.3 ∙ t)))
 
-  kept_number : (j i : ℕ) (q : RightNode) → slice_get r.right_nodes j ≡ Some q → q.origin ≡ Some i → slice_index m.nodes i < cleared.next_node
-  kept_number j i q h e = whole_cleared.nodes_below (slice_index m.nodes i) (kept_stays r g m a whole w o j i q h e)
+  -- a kept node is still there
+  node_stays : (j i : ℕ) → slice_get (kept_nodes r) j ≡ Some (Some i) → IsSome (node_at third (slice_index m.nodes i))
+  node_stays j i e =
+      let k = node_kept j i e in
+      let n = slice_index m.nodes i in
+      let stay : Contains plan.cut_nodes n → ⊥ = λ c. gone_apart_images (kept_nodes r) m.nodes g.next_node (images_of r g m) (keeps_nodes r g m a b w o) (node_places r g m a b w o) n c k.1 in
+      let same : node_at third n ≡ node_at g n = ap (λ (h : Graph). node_at h n) third_is ∙ left plan.cut_nodes g.nodes n stay in
+      rw same (node_there r g m a b w o i k.0)
 
-  same_nodes : with_nodes (new_of make r.right_nodes) (relabel_all (kept_of m make r.right_nodes) cleared) ≡ put_nodes m make r.right_nodes cleared
-  same_nodes = placed m make r.right_nodes cleared kept_number
+  -- an image of a right node is there before the edges are put
+  end_there : (j : ℕ) → j < length r.right_nodes → IsSome (node_at fifth (slice_index (images_of r g m) j))
+  end_there j l =
+      let q = element r.right_nodes j l in
+      let e : node_at fifth (slice_index (images_of r g m) j) ≡ Some (node q.0) =
+      ap (λ (h : Graph). node_at h (slice_index (images_of r g m) j)) fifth_is
+      ∙ stands m.nodes origin_of node r.right_nodes g.nodes g.next_node (keeps_nodes r g m a b w o) j q.0 q.1 in
+      rw e refl
 
-  ends_there : (k : ℕ) (d : Edge) → slice_get (map (made_edge r g m a (images_of r g m)) r.right_edges) k ≡ Some d
-      → IsSome (node_at (put_nodes m make r.right_nodes cleared) d.source) × IsSome (node_at (put_nodes m make r.right_nodes cleared) d.target)
+  either_there : (x : Bool) (j k : ℕ) → j < length r.right_nodes → k < length r.right_nodes → IsSome (node_at fifth (slice_index (images_of r g m) (if x then j else k)))
+  either_there true j k l h = end_there j l
+  either_there false j k l h = end_there k h
+
+  ends_there : (k : ℕ) (d : Edge) → slice_get plan.new_edges k ≡ Some d → IsSome (node_at fifth d.source) × IsSome (node_at fifth d.target)
   ends_there k d h =
-      let x = from_map (made_edge r g m a (images_of r g m)) r.right_edges k d h in
-      let f = o.right_ends k x.0 x.1 in
-      let at : ℕ → Type 0 = λ n. IsSome (node_at (put_nodes m make r.right_nodes cleared) n) in
-      subst (λ (z : Edge). at z.source × at z.target) x.2
-      (either_end r g m a whole w o _ x.0.target x.0.source f.1 f.0, either_end r g m a whole w o _ x.0.source x.0.target f.0 f.1)
+      from_new m.edges (kept_edge r) edge r.right_edges (λ (x : Edge). IsSome (node_at fifth x.source) × IsSome (node_at fifth x.target))
+      (λ j q i.
+      let l = o.right_ends j q i in
+      (either_there (is_exchanged m q) q.target q.source l.1 l.0, either_there (is_exchanged m q) q.source q.target l.0 l.1)) k d h
 
-  makes : MakesStep r g m a m.edges (gone (is_kept r) m.nodes) (kept_of m make r.right_nodes) (new_of make r.right_nodes) (map (made_edge r g m a (images_of r g m)) r.right_edges)
+  cut_there : (e : ℕ) → Contains plan.cut_edges e → IsSome (edge_at g e)
+  cut_there e c = let z = gone_place (stays (kept_edges r)) m.edges e c in subst (λ i. IsSome (edge_at g i)) z.2 (edge_there r g m a b w o z.0 z.1)
+
+  makes : MakesStep r g m a plan
   makes = record {
     may = record {
-      edges = edges_may m.edges g edges_there w.edges_apart;
-      nodes = nodes_may (gone (is_kept r) m.nodes) without nodes_there (gone_apart (is_kept r) m.nodes w.nodes_apart);
-      kept = kept_may m make r.right_nodes cleared (λ j i q h e. kept_stays r g m a whole w o j i q h e);
-      ends = rw same_nodes (ends_may (map (made_edge r g m a (images_of r g m)) r.right_edges) (put_nodes m make r.right_nodes cleared) ends_there);
+      cut_edges = edges_may plan.cut_edges g cut_there (gone_apart (stays (kept_edges r)) m.edges w.edges_apart);
+      kept_edges = relabels.0;
+      cut_nodes = nodes_may plan.cut_nodes second (λ n c. (goes_there n c, free n c)) (gone_apart (stays (kept_nodes r)) m.nodes w.nodes_apart);
+      kept_nodes = kept_may m.nodes origin_of node r.right_nodes third node_stays;
+      new_edges = ends_may plan.new_edges fifth ends_there;
     };
-    same = ap (put_edges (map (made_edge r g m a (images_of r g m)) r.right_edges)) same_nodes;
+    same = last_is;
   }
 
-  -- whatever lists hold them
-  pub makes_step : (es ns : List ℕ) (ps : List (ℕ × Node)) (xs : List Node) (is : List ℕ) (ds : List Edge) → es ≡ m.edges → ns ≡ gone (is_kept r) m.nodes → ps ≡ kept_of m make r.right_nodes → xs ≡ new_of make r.right_nodes
-      → is ≡ images_of r g m → ds ≡ map (made_edge r g m a is) r.right_edges → MakesStep r g m a es ns ps xs ds
-  makes_step es ns ps xs is ds ee en ep ex ei ed =
-      let e : ds ≡ map (made_edge r g m a (images_of r g m)) r.right_edges = ed ∙ ap (λ z. map (made_edge r g m a z) r.right_edges) ei in
-      rw (ee, en, ep, ex, e) makes
+  -- whatever holds the plan
+  pub makes_step : (p : Planned) → p ≡ plan → MakesStep r g m a p
+  makes_step p e = subst (MakesStep r g m a) (sym e) makes
 
 -- ---- by the assignment that its images tell
 

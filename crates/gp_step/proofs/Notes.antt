@@ -1,30 +1,30 @@
 -- What is noted of an edit takes it back.
-use Rattle.std.proofs.Common.{◌≡◌, ℕ, suc, ◌+◌, ◌-◌, ◌<◌, ◌≤◌, List, [], ◌∷◌, ◌++◌, map, reverse, replicate, drop, get_or, length, length-append, drop-cons, add-one, sym, subst, ap, refl, ◌∙◌, arith}
+use Rattle.std.proofs.Common.{◌≡◌, ℕ, suc, ◌+◌, ◌-◌, ◌<◌, ◌≤◌, List, [], ◌∷◌, ◌++◌, reverse, replicate, drop, get_or, length, length-append, drop-cons, add-one, sym, subst, ap, refl, ◌∙◌, arith}
 use Rattle.std.specs.Prelude.{Some, IsSome, IfSome, Option}
+use Rattle.std.specs.Ordering.{nat_cmp}
+use Rattle.std.specs.FinMap.{FinMap, insert}
 use Rattle.std.proofs.lemmas.List.{reverse-append}
 use Rattle.gp_values.specs.declared.atom.Atom.{Atom}
-use Rattle.gp_values.specs.Graph.{Graph, Node, Edge, IsGraph, HasNoEdges, node_at, edge_at, without_node, without_edge, with_node, with_edge, relabeled, without_node_number, without_edge_number}
+use Rattle.gp_values.specs.declared.marks.EdgeMark.{EdgeMark}
+use Rattle.gp_values.specs.Graph.{Graph, Node, Edge, IsGraph, HasNoEdges, node_at, edge_at, without_node, without_edge, with_node, with_edge, relabeled, relabeled_edge, without_node_number, without_edge_number}
 use Rattle.gp_values.proofs.Graphs.{get-remove_here, get-insert_here}
-use Rattle.gp_values.proofs.Edits.{node_put_back, edge_put_back, relabeled_back, node_dropped, edge_dropped}
+use Rattle.gp_values.proofs.Edits.{node_put_back, edge_put_back, relabeled_back, insert-inserted, node_dropped, edge_dropped}
 use Rattle.gp_step.specs.declared.inverse.Inverse.{Inverse}
-use Rattle.gp_step.specs.declared.inverse.Inverse.TheVariants.{DropNode, DropEdge, PutNode, PutEdge, Relabel}
-use Rattle.gp_syntax.specs.declared.found.EdgeImage.{EdgeImage}
+use Rattle.gp_step.specs.declared.inverse.Inverse.TheVariants.{DropNode, DropEdge, PutNode, PutEdge, Relabel, RelabelEdge}
 use Rattle.gp_step.specs.declared.made.Carried.{Carried}
-use Rattle.gp_step.specs.declared.made.Kept.{Kept}
 use Rattle.gp_step.specs.declared.made.MadeEdge.{MadeEdge}
-use Rattle.gp_step.specs.Edits.{drop_edges, drop_nodes, put_edges}
-use Rattle.gp_step.specs.inside.Made.{number_of, node_of, edge_of, nodes_of, edges_of, kept_pairs, relabel_all, with_nodes}
+use Rattle.gp_step.specs.inside.Plans.{drop_edges, drop_nodes, with_nodes, with_edges, MayDropEdges, MayDropNodes, MayPutEdges}
+use Rattle.gp_step.specs.inside.Made.{node_of, edge_of, nodes_of, edges_of}
 use Rattle.gp_step.specs.Undo.{inverse_of, MayUndo, undone_by, Fits, Undoes}
-use Rattle.gp_step.specs.inside.Notes.{KeepsUndo, KeepsUndoBehind, MayDropEdges, MayDropNodes, MayRelabel, MayPutEdges}
+use Rattle.gp_step.specs.inside.Notes.{KeepsUndo, KeepsUndoBehind}
+use Rattle.gp_step.proofs.Afters.{some_is, is_some}
+use Rattle.gp_step.proofs.Turns.{edge_relabeled}
 
 pub last_first : {X : Type 0} (xs : List X) (x : X) → reverse (xs ++ x ∷ []) ≡ x ∷ reverse xs
 last_first xs x = reverse-append xs (x ∷ [])
 
 pub noted : (u : Inverse) (us : List Inverse) (g h : Graph) → MayUndo u h → inverse_of u h ≡ g → KeepsUndo us g (u ∷ us) h
 noted u us g h may e = λ before w. record { fits = (may, subst (Fits us) (sym e) w.fits); same = ap (undone_by us) e ∙ w.same }
-
-pub is_some : {X : Type 0} (o : Option X) (x : X) → o ≡ Some x → IsSome o
-is_some o x e = rw e refl
 
 pub edge_cut : (us : List Inverse) (g : Graph) (e : ℕ) (d : Edge) → IsGraph g → edge_at g e ≡ Some d → KeepsUndo us g (PutEdge e d.source d.target d.label d.mark ∷ us) (without_edge g e)
 edge_cut us g e d w was =
@@ -72,6 +72,33 @@ label_was o x l e h = rw e at h
 pub relabel_noted : (us : List Inverse) (g : Graph) (n : ℕ) (x y : Node) (l : List Atom) → node_at g n ≡ Some x → IfSome (node_at g n) (λ z. l ≡ z.label) → KeepsUndo us g (Relabel n l x.mark x.root ∷ us) (relabeled g n y)
 relabel_noted us g n x y l was h = rw (label_was (node_at g n) x l was h) (node_relabeled us g n x y was)
 
+-- an edge that carries again what it did
+edge_back : (g : Graph) (e : ℕ) (d : Edge) (l : List Atom) (m : EdgeMark) → edge_at g e ≡ Some d → relabeled_edge (relabeled_edge g e l m) e d.label d.mark ≡ g
+edge_back g e d l m was =
+    let x : Edge = record d { label = l; mark = m } in
+    ap (λ (h : Graph). relabeled_edge h e d.label d.mark) (edge_relabeled g e d x was refl refl)
+    ∙ edge_relabeled (record g { edges = insert g.edges e x }) e x d (get-insert_here g.edges e x) refl refl
+    ∙ ap (λ (s : FinMap nat_cmp Edge). record g { edges = s }) (insert-inserted g.edges e d x was)
+
+-- what carries something else is still there
+edge_there : (g : Graph) (e : ℕ) (d : Edge) (l : List Atom) (m : EdgeMark) → edge_at g e ≡ Some d → edge_at (relabeled_edge g e l m) e ≡ Some (record d { label = l; mark = m })
+edge_there g e d l m was =
+    let x : Edge = record d { label = l; mark = m } in
+    ap (λ (h : Graph). edge_at h e) (edge_relabeled g e d x was refl refl) ∙ get-insert_here g.edges e x
+
+pub edge_remains : (g : Graph) (e : ℕ) (l : List Atom) (m : EdgeMark) → IsSome (edge_at g e) → IsSome (edge_at (relabeled_edge g e l m) e)
+edge_remains g e l m s = let d = some_is (edge_at g e) s in is_some _ _ (edge_there g e d.0 l m d.1)
+
+edge_changed : (us : List Inverse) (g : Graph) (e : ℕ) (d : Edge) (l : List Atom) (m : EdgeMark) → edge_at g e ≡ Some d → KeepsUndo us g (RelabelEdge e d.label d.mark ∷ us) (relabeled_edge g e l m)
+edge_changed us g e d l m was =
+    noted (RelabelEdge e d.label d.mark) us g (relabeled_edge g e l m) (is_some _ _ (edge_there g e d l m was)) (edge_back g e d l m was)
+
+edge_label_was : (o : Option Edge) (d : Edge) (l : List Atom) → o ≡ Some d → IfSome o (λ y. l ≡ y.label) → l ≡ d.label
+edge_label_was o d l e h = rw e at h
+
+pub edge_noted : (us : List Inverse) (g : Graph) (e : ℕ) (d : Edge) (l old : List Atom) (m : EdgeMark) → edge_at g e ≡ Some d → IfSome (edge_at g e) (λ z. old ≡ z.label) → KeepsUndo us g (RelabelEdge e old d.mark ∷ us) (relabeled_edge g e l m)
+edge_noted us g e d l old m was h = rw (edge_label_was (edge_at g e) d old was h) (edge_changed us g e d l m was)
+
 -- ---- edits, one after another
 
 pub popped : {X : Type 0} (xs ys : List X) (x : X) → xs ≡ ys ++ x ∷ [] → reverse xs ≡ x ∷ reverse ys
@@ -80,12 +107,12 @@ popped xs ys x e = ap reverse e ∙ last_first ys x
 pub keeps_on : (us vs ws : List Inverse) (g h k : Graph) → KeepsUndo us g vs h → KeepsUndo vs h ws k → KeepsUndo us g ws k
 keeps_on us vs ws g h k first then = λ before w. then before (first before w)
 
-pub edge_dropped_next : (xs : List EdgeImage) (n : ℕ) (d : EdgeImage) (g h end : Graph) → n < length xs → h ≡ without_edge g (get_or xs n d).number
-    → MayDropEdges (map number_of (drop n xs)) g → drop_edges (map number_of (drop n xs)) g ≡ end
-    → record { may : MayDropEdges (map number_of (drop (n + 1) xs)) h; graph : drop_edges (map number_of (drop (n + 1) xs)) h ≡ end }
+pub edge_dropped_next : (xs : List ℕ) (n d : ℕ) (g h end : Graph) → n < length xs → h ≡ without_edge g (get_or xs n d)
+    → MayDropEdges (drop n xs) g → drop_edges (drop n xs) g ≡ end
+    → record { may : MayDropEdges (drop (n + 1) xs) h; graph : drop_edges (drop (n + 1) xs) h ≡ end }
 edge_dropped_next xs n d g h end b made may same =
-    let m = subst (λ l. MayDropEdges (map number_of l) g) (drop-cons xs n d b) may in
-    let s = subst (λ l. drop_edges (map number_of l) g ≡ end) (drop-cons xs n d b) same in
+    let m = subst (λ l. MayDropEdges l g) (drop-cons xs n d b) may in
+    let s = subst (λ l. drop_edges l g ≡ end) (drop-cons xs n d b) same in
     record { may = rw (add-one, made) m.1; graph = rw (add-one, made) s }
 
 pub node_next : (xs : List ℕ) (n d : ℕ) (g : Graph) → n < length xs → MayDropNodes (drop n xs) g → IsSome (node_at g (get_or xs n d)) × HasNoEdges g (get_or xs n d)
@@ -103,11 +130,11 @@ pub added_next : (xs ys : List Carried) (k : Carried) (g h end : Graph) → xs �
 added_next xs ys k g h end e made same = rw made (subst (λ l. with_nodes (nodes_of l) g ≡ end) (popped xs ys k e) same)
 
 pub put_next : (xs ys : List MadeEdge) (k : MadeEdge) (g h end : Graph) → xs ≡ ys ++ k ∷ [] → h ≡ with_edge g (edge_of k)
-    → MayPutEdges (edges_of (reverse xs)) g → put_edges (edges_of (reverse xs)) g ≡ end
-    → record { may : MayPutEdges (edges_of (reverse ys)) h; graph : put_edges (edges_of (reverse ys)) h ≡ end }
+    → MayPutEdges (edges_of (reverse xs)) g → with_edges (edges_of (reverse xs)) g ≡ end
+    → record { may : MayPutEdges (edges_of (reverse ys)) h; graph : with_edges (edges_of (reverse ys)) h ≡ end }
 put_next xs ys k g h end e made may same =
     let m = subst (λ l. MayPutEdges (edges_of l) g) (popped xs ys k e) may in
-    let s = subst (λ l. put_edges (edges_of l) g ≡ end) (popped xs ys k e) same in
+    let s = subst (λ l. with_edges (edges_of l) g ≡ end) (popped xs ys k e) same in
     record { may = rw made m.2; graph = rw made s }
 
 -- what was made so far and one more is taken back first

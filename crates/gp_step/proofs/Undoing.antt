@@ -1,8 +1,8 @@
 -- Inverse edits, one after another.
-use Rattle.std.proofs.Common.{◌≡◌, ℕ, suc, ◌+◌, ◌-◌, ◌<◌, ◌≤◌, List, ◌∷◌, ◌++◌, replicate, sym, subst, ap, ◌∙◌, arith}
+use Rattle.std.proofs.Common.{◌≡◌, ℕ, suc, ◌+◌, ◌-◌, ◌<◌, List, ◌∷◌, ◌++◌, replicate, sym, subst, ap, ◌∙◌, arith}
 use Rattle.gp_values.specs.Graph.{Graph}
 use Rattle.gp_step.specs.declared.inverse.Inverse.{Inverse}
-use Rattle.gp_step.specs.Undo.{inverse_of, MayUndo, undone_by, Fits}
+use Rattle.gp_step.specs.Undo.{inverse_of, undone_by, Fits}
 
 -- what is left to be made, and where it leads
 pub record Left (us : List Inverse) (g : Graph) (all : List Inverse) (first : Graph) : Type 0 where

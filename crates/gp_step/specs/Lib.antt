@@ -3,3 +3,4 @@ pub mod inside
 pub mod Laws
 pub mod Undo
 pub mod Edits
+pub mod Halves

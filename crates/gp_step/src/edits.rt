@@ -1,17 +1,17 @@
 //! Edits that are noted, so that they can be taken back. They take no memory: room is made before.
 
-ghost use Rattle.std.specs.Prelude.{◌≡◌, ◌<◌, ◌≤◌, ◌+◌, ◌-◌, ◌++◌, ◌∷◌, [], List, map, reverse, replicate, length, IsSome, vec_len, vec_capacity};
-ghost use Rattle.gp_values.specs.Graph.{HasNoEdges, node_at, edge_at, with_node, with_edge, without_node, without_edge, relabeled};
+ghost use Rattle.std.specs.Prelude.{◌≡◌, ◌<◌, ◌≤◌, ◌+◌, ◌-◌, ◌++◌, ◌∷◌, [], List, reverse, replicate, length, IsSome, vec_len, vec_capacity};
+ghost use Rattle.gp_values.specs.Graph.{HasNoEdges, node_at, edge_at, with_node, with_edge, without_node, without_edge, relabeled, relabeled_edge};
 ghost use Rattle.gp_step.specs.declared.inverse.Inverse.{Inverse as AnyInverse};
 ghost use Rattle.gp_step.specs.declared.inverse.Inverse.TheVariants as inverses;
-ghost use Rattle.gp_step.specs.Edits.{drop_edges, drop_nodes, put_edges};
-ghost use Rattle.gp_step.specs.inside.Notes.{KeepsUndo, KeepsUndoBehind, MayDropEdges, MayDropNodes, MayRelabel, MayPutEdges};
-ghost use Rattle.gp_step.specs.inside.Made.{number_of, node_of, edge_of, nodes_of, edges_of, kept_pairs, relabel_all, with_nodes};
+ghost use Rattle.gp_step.specs.inside.Plans.{MayDropEdges, MayRelabelEdges, MayDropNodes, MayRelabelNodes, MayPutEdges, with_nodes, with_edges};
+ghost use Rattle.gp_step.specs.inside.Plans as plans;
+ghost use Rattle.gp_step.specs.inside.Made.{node_of, edge_of, nodes_of, edges_of, kept_pairs, kept_edge_pairs};
+ghost use Rattle.gp_step.specs.inside.Notes.{KeepsUndo, KeepsUndoBehind};
 
 use crate::inverse::Inverse;
-use crate::made::{Carried, Kept, MadeEdge};
+use crate::made::{Carried, Kept, KeptEdge, MadeEdge};
 use gp_graph::Graph;
-use gp_syntax::EdgeImage;
 
 // Puts an item at the end, where there is a spare place.
 fn push_spare<T: Drop>(items: &mut Vec<T>, item: T)
@@ -56,8 +56,31 @@ fn cut_node(graph: &mut Graph, taken: &mut Vec<Inverse>, n: u64)
     push_spare(taken, Inverse::PutNode(n, label, mark, root));
 }
 
+// Gives an edge what it is to carry.
+fn relabel_edge(graph: &mut Graph, taken: &mut Vec<Inverse>, kept: KeptEdge)
+    requires there { IsSome (edge_at graph.old.graph kept.number) }
+    requires spare { vec_len taken.old < vec_capacity taken.old }
+    ensures graph { graph.new.graph ≡ relabeled_edge graph.old.graph kept.number kept.label kept.mark }
+    ensures undo { KeepsUndo (reverse taken.old.items) graph.old.graph (reverse taken.new.items) graph.new.graph }
+    ensures room { vec_capacity taken.old - vec_len taken.old ≤ (vec_capacity taken.new - vec_len taken.new) + 1 }
+    ensures node_room { graph.new.node_room ≡ graph.old.node_room }
+    ensures edge_room { graph.new.edge_room ≡ graph.old.edge_room }
+{
+    let KeptEdge {
+        number,
+        label,
+        mark,
+    } = kept;
+    let old_mark = match graph.edge(number) {
+        Some((_, _, _, found_mark)) => found_mark,
+        None => unreachable!(),
+    };
+    let old_label = graph.relabel_edge(number, label, mark);
+    push_spare(taken, Inverse::RelabelEdge(number, old_label, old_mark));
+}
+
 // Gives a node what it is to carry.
-fn relabel(graph: &mut Graph, taken: &mut Vec<Inverse>, kept: Kept)
+fn relabel_node(graph: &mut Graph, taken: &mut Vec<Inverse>, kept: Kept)
     requires there { IsSome (node_at graph.old.graph kept.number) }
     requires spare { vec_len taken.old < vec_capacity taken.old }
     ensures graph { graph.new.graph ≡ relabeled graph.old.graph kept.number (node_of kept.carried) }
@@ -118,17 +141,34 @@ fn add_edge(graph: &mut Graph, edge: MadeEdge)
 }
 
 /// Removes these edges, in order.
-pub(crate) fn cut_edges(graph: &mut Graph, taken: &mut Vec<Inverse>, edges: &[EdgeImage])
-    requires there { MayDropEdges (map number_of edges.now) graph.old.graph }
+pub(crate) fn cut_edges(graph: &mut Graph, taken: &mut Vec<Inverse>, edges: &[u64])
+    requires there { MayDropEdges edges.now graph.old.graph }
     requires spare { vec_len taken.old + length edges.now ≤ vec_capacity taken.old }
-    ensures graph { graph.new.graph ≡ drop_edges (map number_of edges.now) graph.old.graph }
+    ensures graph { graph.new.graph ≡ plans.drop_edges edges.now graph.old.graph }
     ensures undo { KeepsUndo (reverse taken.old.items) graph.old.graph (reverse taken.new.items) graph.new.graph }
     ensures room { vec_capacity taken.old - vec_len taken.old ≤ (vec_capacity taken.new - vec_len taken.new) + length edges.now }
     ensures node_room { graph.new.node_room ≡ graph.old.node_room }
     ensures edge_room { graph.new.edge_room ≡ graph.old.edge_room }
 {
-    for image in edges {
-        cut_edge(graph, taken, image.number);
+    for e in edges {
+        cut_edge(graph, taken, *e);
+    }
+}
+
+/// Gives these edges what they are to carry, in order.
+pub(crate) fn relabel_edges(graph: &mut Graph, taken: &mut Vec<Inverse>, kept: Vec<KeptEdge>)
+    requires there { MayRelabelEdges (kept_edge_pairs kept.items) graph.old.graph }
+    requires spare { vec_len taken.old + length kept.items ≤ vec_capacity taken.old }
+    ensures graph { graph.new.graph ≡ plans.relabel_edges (kept_edge_pairs kept.items) graph.old.graph }
+    ensures undo { KeepsUndo (reverse taken.old.items) graph.old.graph (reverse taken.new.items) graph.new.graph }
+    ensures room { vec_capacity taken.old - vec_len taken.old ≤ (vec_capacity taken.new - vec_len taken.new) + length kept.items }
+    ensures node_room { graph.new.node_room ≡ graph.old.node_room }
+    ensures edge_room { graph.new.edge_room ≡ graph.old.edge_room }
+{
+    let mut left = kept;
+    left.reverse();
+    'relabels: while let Some(edge) = left.pop() {
+        relabel_edge(graph, taken, edge);
     }
 }
 
@@ -136,7 +176,7 @@ pub(crate) fn cut_edges(graph: &mut Graph, taken: &mut Vec<Inverse>, edges: &[Ed
 pub(crate) fn cut_nodes(graph: &mut Graph, taken: &mut Vec<Inverse>, nodes: &[u64])
     requires there { MayDropNodes nodes.now graph.old.graph }
     requires spare { vec_len taken.old + length nodes.now ≤ vec_capacity taken.old }
-    ensures graph { graph.new.graph ≡ drop_nodes nodes.now graph.old.graph }
+    ensures graph { graph.new.graph ≡ plans.drop_nodes nodes.now graph.old.graph }
     ensures undo { KeepsUndo (reverse taken.old.items) graph.old.graph (reverse taken.new.items) graph.new.graph }
     ensures room { vec_capacity taken.old - vec_len taken.old ≤ (vec_capacity taken.new - vec_len taken.new) + length nodes.now }
     ensures node_room { graph.new.node_room ≡ graph.old.node_room }
@@ -149,9 +189,9 @@ pub(crate) fn cut_nodes(graph: &mut Graph, taken: &mut Vec<Inverse>, nodes: &[u6
 
 /// Gives these nodes what they are to carry, in order.
 pub(crate) fn relabel_nodes(graph: &mut Graph, taken: &mut Vec<Inverse>, kept: Vec<Kept>)
-    requires there { MayRelabel (kept_pairs kept.items) graph.old.graph }
+    requires there { MayRelabelNodes (kept_pairs kept.items) graph.old.graph }
     requires spare { vec_len taken.old + length kept.items ≤ vec_capacity taken.old }
-    ensures graph { graph.new.graph ≡ relabel_all (kept_pairs kept.items) graph.old.graph }
+    ensures graph { graph.new.graph ≡ plans.relabel_nodes (kept_pairs kept.items) graph.old.graph }
     ensures undo { KeepsUndo (reverse taken.old.items) graph.old.graph (reverse taken.new.items) graph.new.graph }
     ensures node_room { graph.new.node_room ≡ graph.old.node_room }
     ensures edge_room { graph.new.edge_room ≡ graph.old.edge_room }
@@ -159,7 +199,7 @@ pub(crate) fn relabel_nodes(graph: &mut Graph, taken: &mut Vec<Inverse>, kept: V
     let mut left = kept;
     left.reverse();
     'relabels: while let Some(node) = left.pop() {
-        relabel(graph, taken, node);
+        relabel_node(graph, taken, node);
     }
 }
 
@@ -181,7 +221,7 @@ pub(crate) fn add_nodes(graph: &mut Graph, nodes: Vec<Carried>)
 pub(crate) fn add_edges(graph: &mut Graph, edges: Vec<MadeEdge>)
     requires there { MayPutEdges (edges_of edges.items) graph.old.graph }
     requires place { length edges.items ≤ graph.old.edge_room }
-    ensures graph { graph.new.graph ≡ put_edges (edges_of edges.items) graph.old.graph }
+    ensures graph { graph.new.graph ≡ with_edges (edges_of edges.items) graph.old.graph }
     ensures undo { KeepsUndoBehind (length edges.items) inverses.DropEdge graph.old.graph graph.new.graph }
 {
     let mut left = edges;

@@ -19,6 +19,8 @@ pub enum Inverse {
     PutEdge(u64, u64, u64, List, EdgeMark),
     /// The node of this number carries again what it did.
     Relabel(u64, List, NodeMark, bool),
+    /// The edge of this number carries again what it did.
+    RelabelEdge(u64, List, EdgeMark),
 }
 
 impl Inverse {
@@ -37,6 +39,9 @@ impl Inverse {
             }
             Inverse::Relabel(n, label, mark, root) => {
                 Inverse::Relabel(*n, label.copy(alloc)?, *mark, *root)
+            }
+            Inverse::RelabelEdge(e, label, mark) => {
+                Inverse::RelabelEdge(*e, label.copy(alloc)?, *mark)
             }
         })
     }

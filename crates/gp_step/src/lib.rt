@@ -1,7 +1,9 @@
 //! The step that an applying match makes, and what takes it back.
 //!
-//! `apply` makes the step of a match that applies, on a graph in memory; all growths come first, so that on refusal the graph
-//! is as before. `undo` takes it back: the very graph from before is there again, next numbers included, and it takes no memory.
+//! `apply` makes the step of a match that applies, on a graph in memory. Nodes and edges that the rule keeps stay at their
+//! numbers, and carry what its right side says; what it does not keep goes, and what is new takes the next numbers. The
+//! values of all labels and all growths come first, so that on refusal the graph is as before. `undo` takes the step back:
+//! the very graph from before is there again, next numbers included, and it takes no memory.
 //! `specs/Undo` says what an `Undo` does, as edits of a graph one after another. `specs/After` has the graph that a match
 //! leads to as a function, and the law in `laws` ties it to the relation `Step` of gp_syntax, which is what a reader
 //! believes.
@@ -13,6 +15,7 @@ mod inverse;
 mod inverses;
 pub mod laws;
 mod made;
+mod plan;
 mod step;
 mod taking_back;
 

@@ -6,12 +6,14 @@ ghost use Rattle.gp_values.specs.Graph.{Node as AnyNode, Edge as AnyEdge};
 ghost use Rattle.gp_syntax.specs.Assigned.{assigned_of};
 ghost use Rattle.gp_syntax.specs.Step.{found_node, found_edge, left_root};
 ghost use Rattle.gp_syntax.specs.Step as meant;
-ghost use Rattle.gp_syntax.specs.Rule.{is_kept};
-ghost use Rattle.gp_syntax.specs.Rule as places;
+ghost use Rattle.gp_syntax.specs.Rule.{kept_edge};
+ghost use Rattle.gp_syntax.specs.Rule as rules;
 ghost use Rattle.gp_syntax.specs.Tree.{rule_of_tree, right_node_of, right_edge_of, expression_of, pattern_of};
-ghost use Rattle.gp_step.specs.Edits.{gone, image_of, images_of, next_of};
+ghost use Rattle.gp_step.specs.Halves.{image_of, next_of};
+ghost use Rattle.gp_step.specs.Edits.{images_of, origin_of};
 ghost use Rattle.gp_step.specs.Edits as edits;
-ghost use Rattle.gp_step.specs.inside.Made.{IsReady, IsRightLabel, label_at, node_of, edge_of, nodes_of, edges_of, kept_pairs, kept_first, kept_of, new_first, new_of};
+ghost use Rattle.gp_step.specs.inside.Plans.{kept_first, kept_of, new_first, new_of, carried_by};
+ghost use Rattle.gp_step.specs.inside.Made.{IsReady, IsRightLabel, label_at, node_of, edge_of, nodes_of, edges_of, kept_pairs, kept_edge_pairs};
 
 use gp_eval::{Valued, value};
 use gp_graph::Graph;
@@ -35,6 +37,14 @@ pub(crate) struct Kept {
     pub(crate) carried: Carried,
 }
 
+/// An edge that is kept, by its number, and what it is to carry.
+#[derive(Drop)]
+pub(crate) struct KeptEdge {
+    pub(crate) number: u64,
+    pub(crate) label: List,
+    pub(crate) mark: EdgeMark,
+}
+
 /// An edge that is to be made.
 #[derive(Drop)]
 pub(crate) struct MadeEdge {
@@ -52,6 +62,13 @@ pub(crate) struct Placed {
     pub(crate) kept: Vec<Kept>,
     pub(crate) added: Vec<Carried>,
     next: u64,
+}
+
+/// The edges of the right side: what those that are kept are to carry, and the new ones.
+#[derive(Drop)]
+pub(crate) struct Joined {
+    pub(crate) kept: Vec<KeptEdge>,
+    pub(crate) added: Vec<MadeEdge>,
 }
 
 // The value of a right label, which has one where the match applies.
@@ -143,9 +160,9 @@ fn place(
     carried: Carried,
 ) -> Result<(), NoMemory>
     requires { IfSome origin (λ i. i < length found.now.nodes) }
-    ensures images { OnOk result (placed.new.images.items ≡ placed.old.images.items ++ image_of found.now origin placed.old.next ∷ []) }
+    ensures images { OnOk result (placed.new.images.items ≡ placed.old.images.items ++ image_of found.now.nodes origin placed.old.next ∷ []) }
     ensures next { OnOk result (placed.new.next ≡ next_of origin placed.old.next) }
-    ensures kept { OnOk result (kept_pairs placed.new.kept.items ≡ kept_pairs placed.old.kept.items ++ kept_first found.now origin (node_of carried) []) }
+    ensures kept { OnOk result (kept_pairs placed.new.kept.items ≡ kept_pairs placed.old.kept.items ++ kept_first found.now.nodes origin (node_of carried) []) }
     ensures added { OnOk result (nodes_of placed.new.added.items ≡ nodes_of placed.old.added.items ++ new_first origin (node_of carried) []) }
 {
     match origin {
@@ -175,8 +192,8 @@ pub(crate) fn made_nodes(
 ) -> Result<Placed, NoMemory>
     requires { IsReady parts.now graph.now.graph found.now assignment.now }
     ensures images { IfOk result (λ p. p.images.items ≡ images_of (rule_of_tree parts.now) graph.now.graph found.now) }
-    ensures kept { IfOk result (λ p. kept_pairs p.kept.items ≡ kept_of found.now (edits.made_node (rule_of_tree parts.now) graph.now.graph found.now (assigned_of assignment.now)) (map right_node_of parts.now.right_nodes)) }
-    ensures added { IfOk result (λ p. nodes_of p.added.items ≡ new_of (edits.made_node (rule_of_tree parts.now) graph.now.graph found.now (assigned_of assignment.now)) (map right_node_of parts.now.right_nodes)) }
+    ensures kept { IfOk result (λ p. kept_pairs p.kept.items ≡ kept_of found.now.nodes origin_of (edits.made_node (rule_of_tree parts.now) graph.now.graph found.now (assigned_of assignment.now)) (map right_node_of parts.now.right_nodes)) }
+    ensures added { IfOk result (λ p. nodes_of p.added.items ≡ new_of origin_of (edits.made_node (rule_of_tree parts.now) graph.now.graph found.now (assigned_of assignment.now)) (map right_node_of parts.now.right_nodes)) }
 {
     let (next, _) = graph.next_numbers();
     let mut placed = Placed {
@@ -256,7 +273,33 @@ fn made_edge(
     }
 }
 
-/// The edges that the right edges make, between these images of the right nodes.
+// Puts one more right edge at the end of those that are kept or of the new ones. On refusal it may be there in part.
+fn join(
+    joined: &mut Joined,
+    found: &Found,
+    keeps: Option<u32>,
+    edge: MadeEdge,
+) -> Result<(), NoMemory>
+    requires { IfSome keeps (λ i. i < length found.now.edges) }
+    ensures kept { OnOk result (kept_edge_pairs joined.new.kept.items ≡ kept_edge_pairs joined.old.kept.items ++ kept_first found.now.edges keeps (carried_by (edge_of edge)) []) }
+    ensures added { OnOk result (edges_of joined.new.added.items ≡ edges_of joined.old.added.items ++ new_first keeps (edge_of edge) []) }
+{
+    match keeps {
+        Some(i) => {
+            let number = found.edges()[i as usize].number;
+            let MadeEdge { label, mark, .. } = edge;
+            joined.kept.push(KeptEdge {
+                number,
+                label,
+                mark,
+            })?;
+        }
+        None => joined.added.push(edge)?,
+    }
+    Ok(())
+}
+
+/// What the right edges are to carry, and the new ones among them, between these images of the right nodes.
 pub(crate) fn made_edges(
     alloc: Global,
     parts: &RuleParts,
@@ -264,52 +307,19 @@ pub(crate) fn made_edges(
     found: &Found,
     assignment: &Assignment,
     images: &[u64],
-) -> Result<Vec<MadeEdge>, NoMemory>
+) -> Result<Joined, NoMemory>
     requires ready { IsReady parts.now graph.now.graph found.now assignment.now }
     requires images { length images.now ≡ length parts.now.right_nodes }
-    ensures { IfOk result (λ v. edges_of v.items ≡ map (edits.made_edge (rule_of_tree parts.now) graph.now.graph found.now (assigned_of assignment.now) images.now) (map right_edge_of parts.now.right_edges)) }
+    ensures kept { IfOk result (λ j. kept_edge_pairs j.kept.items ≡ kept_of found.now.edges (kept_edge (rule_of_tree parts.now)) (λ (q : rules.RightEdge). carried_by (edits.made_edge (rule_of_tree parts.now) graph.now.graph found.now (assigned_of assignment.now) images.now q)) (map right_edge_of parts.now.right_edges)) }
+    ensures added { IfOk result (λ j. edges_of j.added.items ≡ new_of (kept_edge (rule_of_tree parts.now)) (edits.made_edge (rule_of_tree parts.now) graph.now.graph found.now (assigned_of assignment.now) images.now) (map right_edge_of parts.now.right_edges)) }
 {
-    let mut made = Vec::new(alloc);
+    let mut joined = Joined {
+        kept: Vec::new(alloc),
+        added: Vec::new(alloc),
+    };
     for q in parts.right_edges.as_slice() {
-        made.push(made_edge(alloc, parts, graph, found, assignment, images, q)?)?;
+        let edge = made_edge(alloc, parts, graph, found, assignment, images, q)?;
+        join(&mut joined, found, parts.kept_edge(q), edge)?;
     }
-    Ok(made)
-}
-
-// Whether a right node comes from the left node of this place.
-fn is_origin(place: usize, origin: Option<u32>) -> bool
-    ensures { result ≡ places.is_origin place origin }
-{
-    match origin {
-        Some(i) => i as usize == place,
-        None => false,
-    }
-}
-
-// Whether the interface has the left node of this place.
-fn has_in_interface(parts: &RuleParts, place: usize) -> bool
-    ensures { result ≡ is_kept (rule_of_tree parts.now) place }
-{
-    parts
-        .right_nodes
-        .as_slice()
-        .iter()
-        .any(|q| is_origin(place, q.origin))
-}
-
-/// The images of the left nodes that the interface does not have.
-pub(crate) fn gone_nodes(
-    alloc: Global,
-    parts: &RuleParts,
-    nodes: &[u64],
-) -> Result<Vec<u64>, NoMemory>
-    ensures { IfOk result (λ v. v.items ≡ gone (is_kept (rule_of_tree parts.now)) nodes.now) }
-{
-    let mut removed = Vec::new(alloc);
-    for (i, n) in nodes.iter().enumerate() {
-        if !has_in_interface(parts, i) {
-            removed.push(*n)?;
-        }
-    }
-    Ok(removed)
+    Ok(joined)
 }

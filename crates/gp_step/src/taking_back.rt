@@ -30,6 +30,11 @@ fn take_back(graph: &mut Graph, inverse: Inverse)
         Inverse::Relabel(n, label, mark, root) => {
             let _was = graph.relabel(n, label, mark, root);
         }
+        Inverse::RelabelEdge(e, label, mark) => {
+            let _was = graph.relabel_edge(e, label, mark);
+            // Searches meet it first, as they meet an edge that is put back.
+            graph.begin_at(e);
+        }
     }
 }
 

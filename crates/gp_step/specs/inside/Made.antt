@@ -1,11 +1,14 @@
 -- What the right side is to carry, as it is held while a step is made.
-use Rattle.std.specs.Prelude.{◌≡◌, ℕ, List, [], ◌∷◌, length, map, fold, Option, Some, None}
-use Rattle.gp_values.specs.Graph.{Graph, Node, Edge, with_node, relabeled}
-use Rattle.gp_syntax.specs.Rule.{Found, RightNode}
+use Rattle.std.specs.Prelude.{◌≡◌, ℕ, List, length, map}
+use Rattle.gp_values.specs.declared.marks.EdgeMark.{EdgeMark}
+use Rattle.gp_values.specs.Graph.{Graph, Node, Edge}
+use Rattle.gp_syntax.specs.Rule.{Found}
 use Rattle.gp_syntax.specs.declared.found.EdgeImage.{EdgeImage}
 use Rattle.gp_step.specs.declared.made.Carried.{Carried}
 use Rattle.gp_step.specs.declared.made.Kept.{Kept}
+use Rattle.gp_step.specs.declared.made.KeptEdge.{KeptEdge}
 use Rattle.gp_step.specs.declared.made.MadeEdge.{MadeEdge}
+use Rattle.gp_step.specs.declared.plan.Plan.{Plan}
 use Rattle.gp_values.specs.declared.atom.Atom.{Atom}
 use Rattle.gp_syntax.specs.declared.rule.RuleParts.{RuleParts}
 use Rattle.gp_syntax.specs.Assigned.{PartialAssignment, IsWhole, assigned_of}
@@ -15,7 +18,8 @@ use Rattle.gp_syntax.specs.Match.{setting_of}
 use Rattle.gp_syntax.specs.Step.{AppliesBy}
 use Rattle.gp_syntax.specs.Tree.{rule_of_tree}
 use Rattle.gp_syntax.specs.WellFormed.{IsWellFormed, IsWithin}
-use Rattle.gp_step.specs.Edits.{value_or_empty, image_of}
+use Rattle.gp_step.specs.Edits.{value_or_empty}
+use Rattle.gp_step.specs.inside.Plans.{Planned}
 
 -- a match applies, by this assignment
 pub record IsReady (p : RuleParts) (g : Graph) (m : Found) (b : PartialAssignment) : Type 0 where
@@ -54,26 +58,19 @@ kept_pair k = (k.number, node_of k.carried)
 abbrev pub kept_pairs : List Kept → List (ℕ × Node)
 kept_pairs ks = map kept_pair ks
 
--- nodes that carry something else, and nodes more
-abbrev pub relabel_all : List (ℕ × Node) → Graph → Graph
-relabel_all ps g = fold (λ h (p : ℕ × Node). relabeled h p.0 p.1) g ps
+abbrev pub kept_edge_pair : KeptEdge → ℕ × (List Atom × EdgeMark)
+kept_edge_pair k = (k.number, (k.label, k.mark))
 
-abbrev pub with_nodes : List Node → Graph → Graph
-with_nodes xs g = fold with_node g xs
+abbrev pub kept_edge_pairs : List KeptEdge → List (ℕ × (List Atom × EdgeMark))
+kept_edge_pairs ks = map kept_edge_pair ks
 
--- the right nodes of the interface, with the numbers of their images, and the others
-abbrev pub kept_first : Found → Option ℕ → Node → List (ℕ × Node) → List (ℕ × Node)
-kept_first m (Some i) x ps = (image_of m (Some i) 0, x) ∷ ps
-kept_first m None x ps = ps
-
-abbrev pub kept_of : Found → (RightNode → Node) → List RightNode → List (ℕ × Node)
-kept_of m make [] = []
-kept_of m make (q ∷ qs) = kept_first m q.origin (make q) (kept_of m make qs)
-
-abbrev pub new_first : Option ℕ → Node → List Node → List Node
-new_first (Some i) x xs = xs
-new_first None x xs = x ∷ xs
-
-abbrev pub new_of : (RightNode → Node) → List RightNode → List Node
-new_of make [] = []
-new_of make (q ∷ qs) = new_first q.origin (make q) (new_of make qs)
+-- the edits that are held
+abbrev pub planned : Plan → Planned
+planned p = record {
+  cut_edges = p.cut_edges.items;
+  kept_edges = kept_edge_pairs p.kept_edges.items;
+  cut_nodes = p.cut_nodes.items;
+  kept_nodes = kept_pairs p.kept_nodes.items;
+  new_nodes = nodes_of p.new_nodes.items;
+  new_edges = edges_of p.new_edges.items;
+}

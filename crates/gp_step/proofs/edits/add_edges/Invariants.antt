@@ -1,14 +1,14 @@
 use Rattle.std.proofs.Common.{◌≡◌, ◌≤◌, ◌-◌, reverse, length}
 use Rattle.gp_step.specs.declared.inverse.Inverse.TheVariants.{DropEdge}
-use Rattle.gp_step.specs.Edits.{put_edges}
-use Rattle.gp_step.specs.inside.Notes.{KeepsUndoBehind, MayPutEdges}
+use Rattle.gp_step.specs.inside.Notes.{KeepsUndoBehind}
+use Rattle.gp_step.specs.inside.Plans.{with_edges, MayPutEdges}
 use Rattle.gp_step.specs.inside.Made.{edges_of}
 use Rattle.gp_step.proofs.edits.add_edges.Given as goal
 
 abbrev pub invariant-adds : goal.invariant-adds
 invariant-adds l = record {
   may : MayPutEdges (edges_of (reverse l.left.items)) l.graph.graph;
-  graph : put_edges (edges_of (reverse l.left.items)) l.graph.graph ≡ put_edges (edges_of l.fn.edges.items) l.initial.graph.graph;
+  graph : with_edges (edges_of (reverse l.left.items)) l.graph.graph ≡ with_edges (edges_of l.fn.edges.items) l.initial.graph.graph;
   left : length l.left.items ≤ length l.fn.edges.items;
   undo : KeepsUndoBehind (length l.fn.edges.items - length l.left.items) DropEdge l.initial.graph.graph l.graph.graph;
   room : length l.left.items ≤ l.graph.edge_room;

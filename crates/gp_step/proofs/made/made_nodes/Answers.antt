@@ -2,8 +2,10 @@ use Rattle.std.proofs.Common.{◌<◌, ◌+◌, ◌++◌, ◌∷◌, [], ℕ, Li
 use Rattle.gp_values.specs.Graph.{Node}
 use Rattle.gp_syntax.specs.Assigned.{assigned_of}
 use Rattle.gp_syntax.specs.Tree.{rule_of_tree, right_node_of}
-use Rattle.gp_step.specs.Edits.{made_node, image_of, images_from, next_of}
-use Rattle.gp_step.specs.inside.Made.{kept_pairs, nodes_of, kept_first, kept_of, new_first, new_of}
+use Rattle.gp_step.specs.Halves.{image_of, images_from, next_of}
+use Rattle.gp_step.specs.Edits.{made_node, origin_of}
+use Rattle.gp_step.specs.inside.Plans.{kept_first, kept_of, new_first, new_of}
+use Rattle.gp_step.specs.inside.Made.{kept_pairs, nodes_of}
 use Rattle.gp_step.proofs.Labels.{node_label, node_origin, node_count}
 use Rattle.gp_step.proofs.Collecting.{item_at, from_item, kept_more, new_more}
 use Rattle.gp_step.proofs.made.made_nodes.Goals as goal
@@ -34,16 +36,16 @@ loop-q-preserved c =
     let there : c.loop-q.q-index < length c.as_slice-q-items.result.now = omega arith in
     record {
       items = c.loop-q.invariant.items;
-      images = ap₂ (λ (ns : List ℕ) (n : ℕ). ns ++ images_from m left n) c.in_ok-place.ensures.images c.in_ok-place.ensures.next
-          ∙ append_assoc so.images.items (image_of m q.origin so.next ∷ []) (images_from m left (next_of q.origin so.next))
-          ∙ sym (from_item (λ qs. so.images.items ++ images_from m (map right_node_of qs) so.next) c.args.parts.now.right_nodes c.as_slice-q-items.result.now c.loop-q.q-index q c.loop-q.invariant.items there c.q-item.is)
+      images = ap₂ (λ (ns : List ℕ) (n : ℕ). ns ++ images_from m.nodes (map origin_of left) n) c.in_ok-place.ensures.images c.in_ok-place.ensures.next
+          ∙ append_assoc so.images.items (image_of m.nodes q.origin so.next ∷ []) (images_from m.nodes (map origin_of left) (next_of q.origin so.next))
+          ∙ sym (from_item (λ qs. so.images.items ++ images_from m.nodes (map origin_of (map right_node_of qs)) so.next) c.args.parts.now.right_nodes c.as_slice-q-items.result.now c.loop-q.q-index q c.loop-q.invariant.items there c.q-item.is)
           ∙ c.loop-q.invariant.images;
-      kept = ap (λ ps. ps ++ kept_of m make left) (c.in_ok-place.ensures.kept ∙ ap (λ (x : Node). kept_pairs so.kept.items ++ kept_first m q.origin x []) c.in_ok-carried.ensures)
-          ∙ kept_more m q.origin (make (right_node_of q)) (kept_pairs so.kept.items) (kept_of m make left)
-          ∙ sym (from_item (λ qs. kept_pairs so.kept.items ++ kept_of m make (map right_node_of qs)) c.args.parts.now.right_nodes c.as_slice-q-items.result.now c.loop-q.q-index q c.loop-q.invariant.items there c.q-item.is)
+      kept = ap (λ ps. ps ++ kept_of m.nodes origin_of make left) (c.in_ok-place.ensures.kept ∙ ap (λ (x : Node). kept_pairs so.kept.items ++ kept_first m.nodes q.origin x []) c.in_ok-carried.ensures)
+          ∙ kept_more m.nodes q.origin (make (right_node_of q)) (kept_pairs so.kept.items) (kept_of m.nodes origin_of make left)
+          ∙ sym (from_item (λ qs. kept_pairs so.kept.items ++ kept_of m.nodes origin_of make (map right_node_of qs)) c.args.parts.now.right_nodes c.as_slice-q-items.result.now c.loop-q.q-index q c.loop-q.invariant.items there c.q-item.is)
           ∙ c.loop-q.invariant.kept;
-      added = ap (λ xs. xs ++ new_of make left) (c.in_ok-place.ensures.added ∙ ap (λ (x : Node). nodes_of so.added.items ++ new_first q.origin x []) c.in_ok-carried.ensures)
-          ∙ new_more q.origin (make (right_node_of q)) (nodes_of so.added.items) (new_of make left)
-          ∙ sym (from_item (λ qs. nodes_of so.added.items ++ new_of make (map right_node_of qs)) c.args.parts.now.right_nodes c.as_slice-q-items.result.now c.loop-q.q-index q c.loop-q.invariant.items there c.q-item.is)
+      added = ap (λ xs. xs ++ new_of origin_of make left) (c.in_ok-place.ensures.added ∙ ap (λ (x : Node). nodes_of so.added.items ++ new_first q.origin x []) c.in_ok-carried.ensures)
+          ∙ new_more q.origin (make (right_node_of q)) (nodes_of so.added.items) (new_of origin_of make left)
+          ∙ sym (from_item (λ qs. nodes_of so.added.items ++ new_of origin_of make (map right_node_of qs)) c.args.parts.now.right_nodes c.as_slice-q-items.result.now c.loop-q.q-index q c.loop-q.invariant.items there c.q-item.is)
           ∙ c.loop-q.invariant.added;
     }

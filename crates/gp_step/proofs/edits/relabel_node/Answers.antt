@@ -1,6 +1,6 @@
 use Rattle.std.proofs.Common.{reverse}
 use Rattle.gp_step.proofs.Notes.{last_first, relabel_noted}
-use Rattle.gp_step.proofs.edits.relabel.Goals as goal
+use Rattle.gp_step.proofs.edits.relabel_node.Goals as goal
 
 pub returns-clause-undo : goal.returns-clause-undo
 returns-clause-undo c =

@@ -1,0 +1,118 @@
+//! The edits of a step, worked out over the graph before it.
+
+ghost use Rattle.std.specs.Prelude.{◌≡◌, false, map, IfOk};
+ghost use Rattle.gp_syntax.specs.Assigned.{assigned_of};
+ghost use Rattle.gp_syntax.specs.Rule.{kept_edge, kept_nodes, kept_edges};
+ghost use Rattle.gp_syntax.specs.Rule as rules;
+ghost use Rattle.gp_syntax.specs.Tree.{rule_of_tree, right_edge_of};
+ghost use Rattle.gp_step.specs.Halves.{stays, gone};
+ghost use Rattle.gp_step.specs.inside.Plans as plans;
+ghost use Rattle.gp_step.specs.inside.Made.{IsReady, number_of, planned};
+
+use crate::made::{Carried, Kept, KeptEdge, MadeEdge, made_edges, made_nodes};
+use gp_graph::Graph;
+use gp_memory::NoMemory;
+use gp_syntax::{Assignment, EdgeImage, Found, RightEdge, RuleParts};
+use std::alloc::Global;
+
+/// The edits of a step, in the order in which they are made: edges that go, edges that are kept, nodes that go, nodes
+/// that are kept, new nodes and new edges.
+#[derive(Drop)]
+pub(crate) struct Plan {
+    pub(crate) cut_edges: Vec<u64>,
+    pub(crate) kept_edges: Vec<KeptEdge>,
+    pub(crate) cut_nodes: Vec<u64>,
+    pub(crate) kept_nodes: Vec<Kept>,
+    pub(crate) new_nodes: Vec<Carried>,
+    pub(crate) new_edges: Vec<MadeEdge>,
+}
+
+// Whether an item of the right side keeps the left one of this place.
+fn is_origin(place: usize, origin: Option<u32>) -> bool
+    ensures { result ≡ rules.is_origin place origin }
+{
+    match origin {
+        Some(i) => i as usize == place,
+        None => false,
+    }
+}
+
+// Whether the right edge keeps the left one of this place.
+fn keeps(parts: &RuleParts, edge: &RightEdge, place: usize) -> bool
+    ensures { result ≡ rules.is_origin place (kept_edge (rule_of_tree parts.now) (right_edge_of edge.now)) }
+{
+    is_origin(place, edge.origin) && parts.kept_edge(edge).is_some()
+}
+
+// Whether the left node of this place is kept.
+fn keeps_node(parts: &RuleParts, place: usize) -> bool
+    ensures { result ≡ stays (kept_nodes (rule_of_tree parts.now)) place }
+{
+    parts
+        .right_nodes
+        .as_slice()
+        .iter()
+        .any(|q| is_origin(place, q.origin))
+}
+
+// Whether the left edge of this place is kept.
+fn keeps_edge(parts: &RuleParts, place: usize) -> bool
+    ensures { result ≡ stays (kept_edges (rule_of_tree parts.now)) place }
+{
+    parts
+        .right_edges
+        .as_slice()
+        .iter()
+        .any(|q| keeps(parts, q, place))
+}
+
+// The images of the left nodes that are not kept.
+fn gone_nodes(alloc: Global, parts: &RuleParts, nodes: &[u64]) -> Result<Vec<u64>, NoMemory>
+    ensures { IfOk result (λ v. v.items ≡ gone (stays (kept_nodes (rule_of_tree parts.now))) nodes.now) }
+{
+    let mut removed = Vec::new(alloc);
+    for (i, n) in nodes.iter().enumerate() {
+        if !keeps_node(parts, i) {
+            removed.push(*n)?;
+        }
+    }
+    Ok(removed)
+}
+
+// The images of the left edges that are not kept.
+fn gone_edges(alloc: Global, parts: &RuleParts, edges: &[EdgeImage]) -> Result<Vec<u64>, NoMemory>
+    ensures { IfOk result (λ v. v.items ≡ gone (stays (kept_edges (rule_of_tree parts.now))) (map number_of edges.now)) }
+{
+    let mut removed = Vec::new(alloc);
+    for (i, image) in edges.iter().enumerate() {
+        if !keeps_edge(parts, i) {
+            removed.push(image.number)?;
+        }
+    }
+    Ok(removed)
+}
+
+/// The edits of the step of a match that applies by this assignment.
+pub(crate) fn plan_of(
+    alloc: Global,
+    parts: &RuleParts,
+    graph: &Graph,
+    found: &Found,
+    assignment: &Assignment,
+) -> Result<Plan, NoMemory>
+    requires { IsReady parts.now graph.now.graph found.now assignment.now }
+    ensures { IfOk result (λ p. planned p ≡ plans.plan_of (rule_of_tree parts.now) graph.now.graph found.now (assigned_of assignment.now)) }
+{
+    let placed = made_nodes(alloc, parts, graph, found, assignment)?;
+    let joined = made_edges(alloc, parts, graph, found, assignment, &placed.images)?;
+    let cut_edges = gone_edges(alloc, parts, found.edges())?;
+    let cut_nodes = gone_nodes(alloc, parts, found.nodes())?;
+    Ok(Plan {
+        cut_edges,
+        kept_edges: joined.kept,
+        cut_nodes,
+        kept_nodes: placed.kept,
+        new_nodes: placed.added,
+        new_edges: joined.added,
+    })
+}
