@@ -8,7 +8,7 @@ use Rattle.gp_step.specs.declared.made.Carried.{Carried}
 use Rattle.gp_step.specs.declared.made.Kept.{Kept}
 use Rattle.gp_step.specs.declared.made.KeptEdge.{KeptEdge}
 use Rattle.gp_step.specs.declared.made.MadeEdge.{MadeEdge}
-use Rattle.gp_step.specs.declared.plan.Plan.{Plan}
+use Rattle.gp_step.specs.declared.changes.Changes.{Changes}
 use Rattle.gp_values.specs.declared.atom.Atom.{Atom}
 use Rattle.gp_syntax.specs.declared.rule.RuleParts.{RuleParts}
 use Rattle.gp_syntax.specs.Assigned.{PartialAssignment, IsWhole, assigned_of}
@@ -19,7 +19,7 @@ use Rattle.gp_syntax.specs.Step.{AppliesBy}
 use Rattle.gp_syntax.specs.Tree.{rule_of_tree}
 use Rattle.gp_syntax.specs.WellFormed.{IsWellFormed, IsWithin}
 use Rattle.gp_step.specs.Edits.{value_or_empty}
-use Rattle.gp_step.specs.inside.Plans.{Planned}
+use Rattle.gp_step.specs.inside.Changes.{StepChanges}
 
 -- a match applies, by this assignment
 pub record IsReady (p : RuleParts) (g : Graph) (m : Found) (b : PartialAssignment) : Type 0 where
@@ -65,8 +65,8 @@ abbrev pub kept_edge_pairs : List KeptEdge → List (ℕ × (List Atom × EdgeMa
 kept_edge_pairs ks = map kept_edge_pair ks
 
 -- the edits that are held
-abbrev pub planned : Plan → Planned
-planned p = record {
+abbrev pub changes_held : Changes → StepChanges
+changes_held p = record {
   cut_edges = p.cut_edges.items;
   kept_edges = kept_edge_pairs p.kept_edges.items;
   cut_nodes = p.cut_nodes.items;

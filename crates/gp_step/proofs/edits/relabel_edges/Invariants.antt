@@ -1,6 +1,6 @@
 use Rattle.std.proofs.Common.{◌≡◌, ◌≤◌, ◌-◌, ◌+◌, reverse, length, vec_len, vec_capacity}
 use Rattle.gp_step.specs.inside.Notes.{KeepsUndo}
-use Rattle.gp_step.specs.inside.Plans.{relabel_edges, MayRelabelEdges}
+use Rattle.gp_step.specs.inside.Changes.{relabel_edges, MayRelabelEdges}
 use Rattle.gp_step.specs.inside.Made.{kept_edge_pairs}
 use Rattle.gp_step.proofs.edits.relabel_edges.Given as goal
 
