@@ -21,7 +21,8 @@ pub struct Graph {
     edges: Vec<Option<EdgeSlot>>,
     roots: Ring,
     node_count: u64,
-    last_changed: u64,
+    start: u64,
+    changed: Option<u64>,
 }
 
 impl Drop for Graph {
@@ -31,7 +32,8 @@ impl Drop for Graph {
             edges,
             roots: _,
             node_count: _,
-            last_changed: _,
+            start: _,
+            changed: _,
         } = self;
         drop(nodes);
         drop(edges);
@@ -63,7 +65,8 @@ impl Graph {
             edges: Vec::new(alloc),
             roots: Ring { first: 0, count: 0 },
             node_count: 0,
-            last_changed: 0,
+            start: 0,
+            changed: None,
         }
     }
 
@@ -94,7 +97,6 @@ impl Graph {
         let roots = admit(&mut self.nodes, self.roots, number);
         self.roots = roots;
         self.node_count += 1;
-        self.last_changed = number;
         Ok(number)
     }
 
@@ -119,7 +121,6 @@ impl Graph {
         let number = self.edges.len() as u64;
         append(&mut self.edges, EdgeSlot::new(source, target, label, mark))?;
         enter_both(&mut self.nodes, &mut self.edges, source, target, number);
-        self.last_changed = source;
         Ok(number)
     }
 
@@ -136,7 +137,6 @@ impl Graph {
         let (roots, was) = clear(&mut self.nodes, self.roots, n);
         self.roots = roots;
         self.node_count -= 1;
-        self.last_changed = n;
         match was {
             Some(slot) => (slot.label, slot.mark, slot.root),
             None => unreachable!(),
@@ -153,7 +153,6 @@ impl Graph {
     {
         let (source, target) = ends_of(&self.edges, e);
         leave_both(&mut self.nodes, &mut self.edges, source, target, e);
-        self.last_changed = source;
         match put(&mut self.edges, e, None) {
             Some(slot) => (slot.source, slot.target, slot.label, slot.mark),
             None => unreachable!(),
@@ -170,7 +169,6 @@ impl Graph {
     {
         let (roots, was) = relabel(&mut self.nodes, self.roots, n, label, mark, root);
         self.roots = roots;
-        self.last_changed = n;
         was
     }
 
@@ -186,7 +184,6 @@ impl Graph {
         let roots = fill(&mut self.nodes, self.roots, n, slot);
         self.roots = roots;
         self.node_count += 1;
-        self.last_changed = n;
     }
 
     /// Puts an edge back at a number that is vacant and below the next one. It takes no memory.
@@ -202,7 +199,6 @@ impl Graph {
         let slot = EdgeSlot::new(source, target, label, mark);
         let _vacant = put(&mut self.edges, e, Some(slot));
         enter_both(&mut self.nodes, &mut self.edges, source, target, e);
-        self.last_changed = source;
     }
 
     /// Lowers the next number of a node by one, where the number below it is vacant. It takes no memory.
@@ -344,11 +340,25 @@ impl Graph {
         (ending.count, beginning.count)
     }
 
-    /// A hint for searches: the number of the node that was added, put, relabelled or removed last, or the source of
-    /// the edge that was added, put or removed last, whichever was later; 0 at first. A copy keeps it. It is no part
-    /// of the graph that contracts see, and no contract says anything of its value: a caller takes any number for it.
-    pub fn last_changed(&self) -> u64 {
-        self.last_changed
+    /// A hint for searches: the number of a node where the next one may begin; 0 at first. A copy keeps it. It is no
+    /// part of the graph that contracts see, and no contract says anything of its value: a caller takes any number for it.
+    pub fn start(&self) -> u64 {
+        self.start
+    }
+
+    /// A hint of the same kind: the number of a node that the next search may try second; none at first.
+    pub fn changed(&self) -> Option<u64> {
+        self.changed
+    }
+
+    /// Sets both hints. No other call changes them.
+    pub fn set_hints(&mut self, start: u64, changed: Option<u64>)
+        ensures graph { self.new.graph ≡ self.old.graph }
+        ensures node_room { self.new.node_room ≡ self.old.node_room }
+        ensures edge_room { self.new.edge_room ≡ self.old.edge_room }
+    {
+        self.start = start;
+        self.changed = changed;
     }
 
     /// The same graph in memory of its own. Its walks keep their orders.
@@ -360,7 +370,8 @@ impl Graph {
             edges: copy_of(&self.edges, alloc)?,
             roots: self.roots,
             node_count: self.node_count,
-            last_changed: self.last_changed,
+            start: self.start,
+            changed: self.changed,
         })
     }
 }
