@@ -81,6 +81,13 @@ impl Journal {
         self.trail.depth()
     }
 
+    /// Sets the hints of the graph for searches, which contracts do not see.
+    pub fn set_hints(&mut self, start: u64, changed: Option<u64>)
+        ensures { self.new ≡ self.old }
+    {
+        self.trail.set_hints(start, changed);
+    }
+
     /// Makes the step of a match that applies. On refusal the journal is as before.
     pub fn step(&mut self, rules: &[Rule], found: &Found) -> Result<(), NoMemory>
         requires { AppliesBy (map rule_of_tree rules.now) self.old.trail.graph found.now }

@@ -96,6 +96,13 @@ impl Trail {
         self.caught = 0;
     }
 
+    /// Sets the hints of the graph for searches. They are no part of what contracts see; taking back leaves them.
+    pub fn set_hints(&mut self, start: u64, changed: Option<u64>)
+        ensures { self.new ≡ self.old }
+    {
+        self.graph.set_hints(start, changed);
+    }
+
     // What new parts take their memory from.
     pub(crate) fn allocator(&self) -> Global {
         self.alloc

@@ -8,16 +8,21 @@
 //! shares. What a search may make of a plan stands in `specs/Order`.
 //!
 //! Then call `numbers_of_share` and `Round::next` for each search: the numbers below a limit that are this share modulo
-//! so many, from the first one that is not below a hint up to the limit, and then those before it. Contracts see the
-//! numbers that are still to come as a list (`specs/Round`), and say that it has each number of the share.
+//! so many, from the first one that is not below the start of a `Hint` up to the limit, and then those before it; but
+//! second comes the node that was changed last, where the hint tells one of the share. Contracts see the numbers that
+//! are still to come as a list (`specs/Round`), and say that it has each number of the share. `Plan::hint_after` tells the
+//! hint after a step; no contract says anything of it, since each hint is as good as another for what is found.
 #![tactic(auto)]
 
+mod changes;
+mod hint;
 pub mod laws;
 mod operation;
 mod planning;
 mod round;
 pub mod sharing;
 
+pub use hint::Hint;
 pub use operation::{Operation, Plan};
 pub use planning::plan;
 pub use round::{Round, numbers_of_share};

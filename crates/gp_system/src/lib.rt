@@ -12,6 +12,7 @@ mod crew;
 mod crew_session;
 mod goal;
 mod gp;
+mod hints;
 pub mod laws;
 mod outcome;
 mod pursuit;

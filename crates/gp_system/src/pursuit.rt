@@ -70,6 +70,7 @@ fn bring_all(
 {
     for replica in replicas.iter_mut() {
         bring(rules, missing, replica)?;
+        replica.set_hints(trail.graph().start(), trail.graph().changed());
     }
     Ok(())
 }

@@ -14,8 +14,8 @@ use gp_rows::{Answer, Wrong, field, number};
 use gp_values::{EdgeMark, NodeMark};
 use std::alloc::Global;
 
-/// What edits give back, each with the hint of the last change behind it, and what a copy has then: edits that are made
-/// before, and these. The copy is edited then: where it does not stand alone, this is said behind it.
+/// What edits give back, each with the hints behind it, and what a copy has then: edits that are made before, and these.
+/// The copy is edited then: where it does not stand alone, this is said behind it.
 pub(crate) fn answer(alloc: Global, fields: &[Vec<u8>], out: &mut Answer) {
     let mut graph = Graph::new(alloc);
     make_before(alloc, field(fields, 0), &mut graph, out);
@@ -33,8 +33,8 @@ fn compare(alloc: Global, graph: &Graph, copied: &mut Graph, out: &mut Answer) {
     out.put(b" ");
     out.add(&left);
     out.word_if(
-        copied.last_changed() != graph.last_changed(),
-        b"but its copy has another hint",
+        copied.start() != graph.start() || copied.changed() != graph.changed(),
+        b"but its copy has other hints",
     );
     make_edits(
         alloc,
@@ -96,17 +96,25 @@ fn make_before(alloc: Global, text: &[u8], graph: &mut Graph, out: &mut Answer) 
     }
 }
 
-/// Makes edits, such as `node 10 Red root; edge 0 0 20 Dashed`. Writes what each gives back, and the hint of the last change
-/// behind it.
+/// Makes edits, such as `node 10 Red root; edge 0 0 20 Dashed`. Writes what each gives back, and the hints behind it.
 pub(crate) fn make_edits(alloc: Global, text: &[u8], graph: &mut Graph, out: &mut Answer) {
     for part in text.split(|byte| *byte == b';') {
         if let Err(wrong) = make_edit(alloc, part, graph, out) {
             out.wrong(wrong);
         }
-        out.word(b"(");
-        out.put_number(graph.last_changed());
-        out.put(b");");
+        put_hints(graph, out);
     }
+}
+
+// The start, and the node that was changed where one is told.
+fn put_hints(graph: &Graph, out: &mut Answer) {
+    out.word(b"(");
+    out.put_number(graph.start());
+    if let Some(changed) = graph.changed() {
+        out.put(b" ");
+        out.put_number(changed);
+    }
+    out.put(b");");
 }
 
 fn make_edit(alloc: Global, text: &[u8], graph: &mut Graph, out: &mut Answer) -> Result<(), Wrong> {
@@ -173,7 +181,21 @@ fn make_other(alloc: Global, graph: &mut Graph, words: &[Vec<u8>]) -> Result<(),
         lower(graph);
         return Ok(());
     }
+    if word == b"hints".as_slice() {
+        set_hints(graph, words);
+        return Ok(());
+    }
     Err(Wrong::new("no edit"))
+}
+
+// `hints 3 1`, or `hints 3`.
+fn set_hints(graph: &mut Graph, words: &[Vec<u8>]) {
+    let changed = if words.len() > 2 {
+        Some(number(words, 2))
+    } else {
+        None
+    };
+    graph.set_hints(number(words, 1), changed);
 }
 
 fn node_mark(word: &[u8]) -> NodeMark {

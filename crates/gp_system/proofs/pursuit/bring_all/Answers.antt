@@ -1,4 +1,4 @@
-use Rattle.std.proofs.Common.{◌≡◌, ◌<◌, map, length, get_or, arith}
+use Rattle.std.proofs.Common.{◌≡◌, ◌∙◌, ◌<◌, map, length, get_or, arith}
 use Rattle.gp_syntax.specs.Tree.{rule_of_tree}
 use Rattle.gp_journal.specs.Trail.{Trail}
 use Rattle.gp_journal.specs.Leads.{Leads}
@@ -14,8 +14,8 @@ loop-replica-preserved c =
     let below : c.loop-replica.replica-index < length c.loop-replica.replicas = omega (arith, c.loop-replica-test.true, c.loop-replica.auto.replicas) in
     let way = c.loop-replica.invariant.way c.loop-replica.replica-index c.replica-item.result (omega arith) below in
     record {
-      way = rest_set (λ (t : Trail). Leads (map rule_of_tree c.args.rules.now) (items_of c.args.missing.now) t c.args.trail.now) c.loop-replica.replicas c.loop-replica.replica-index c.bring.new.replica c.loop-replica.invariant.way;
-      all = first_set (λ (t : Trail). t ≡ c.args.trail.now) c.loop-replica.replicas c.loop-replica.replica-index c.bring.new.replica below
-          (brought_there (map rule_of_tree c.args.rules.now) c.args.missing.now (get_or c.loop-replica.replicas c.loop-replica.replica-index c.replica-item.result) c.bring.new.replica c.args.trail.now c.requires.well_formed way c.requires.settled c.in_ok-bring.ensures.0 c.in_ok-bring.ensures.1)
+      way = rest_set (λ (t : Trail). Leads (map rule_of_tree c.args.rules.now) (items_of c.args.missing.now) t c.args.trail.now) c.loop-replica.replicas c.loop-replica.replica-index c.set_hints.new.self c.loop-replica.invariant.way;
+      all = first_set (λ (t : Trail). t ≡ c.args.trail.now) c.loop-replica.replicas c.loop-replica.replica-index c.set_hints.new.self below
+          (c.set_hints.ensures ∙ brought_there (map rule_of_tree c.args.rules.now) c.args.missing.now (get_or c.loop-replica.replicas c.loop-replica.replica-index c.replica-item.result) c.bring.new.replica c.args.trail.now c.requires.well_formed way c.requires.settled c.in_ok-bring.ensures.0 c.in_ok-bring.ensures.1)
           c.loop-replica.invariant.all;
     }
