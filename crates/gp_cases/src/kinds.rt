@@ -1,6 +1,6 @@
 //! The kinds of rows.
 
-use crate::rules::{choices, lists, matches, searches, steps, unification, values, walks};
+use crate::rules::{choices, hints, lists, matches, searches, steps, unification, values, walks};
 use crate::texts::programs::cuts;
 use crate::texts::{cursors, hosts, limits, lines, parts, programs, rules, scopes, tokens, traces};
 use gp_rows::Answer;
@@ -38,6 +38,7 @@ pub(crate) enum Kind {
     // of rules
     Characters,
     Choices,
+    Hints,
     Join,
     Loop,
     Order,
@@ -53,7 +54,7 @@ pub(crate) enum Kind {
 }
 
 /// The files of rows, `NAME.rows`, and the kind of each.
-pub(crate) const FILES: [(&'static str, Kind); 60] = [
+pub(crate) const FILES: [(&'static str, Kind); 61] = [
     ("tokens", Kind::Tokens),
     ("token_lines", Kind::TokenLines),
     ("classes", Kind::Classes),
@@ -100,6 +101,7 @@ pub(crate) const FILES: [(&'static str, Kind); 60] = [
     ("conditions", Kind::Worth),
     ("degrees", Kind::Worth),
     ("edges", Kind::Worth),
+    ("hints", Kind::Hints),
     ("labels", Kind::Join),
     ("loops", Kind::Loop),
     ("match_causes", Kind::Verdict),
@@ -148,12 +150,13 @@ pub(crate) fn answer(kind: Kind, alloc: Global, fields: &[Vec<u8>], out: &mut An
         // of rules
         Kind::Characters => lists::characters(alloc, fields, out),
         Kind::Choices => choices::answer(alloc, fields, out),
+        Kind::Hints => hints::answer(alloc, fields, out),
         Kind::Join => lists::join(alloc, fields, out),
         Kind::Loop => searches::repeated(alloc, fields, out),
         Kind::Order => lists::order(alloc, fields, out),
         Kind::Plan => searches::planned(alloc, fields, out),
         Kind::Probes => searches::probes(alloc, fields, out),
-        Kind::Round => lists::round(fields, out),
+        Kind::Round => hints::round(fields, out),
         Kind::Search => searches::answer(alloc, fields, out),
         Kind::Step => steps::answer(alloc, fields, out),
         Kind::Unify => unification::answer(alloc, fields, out),

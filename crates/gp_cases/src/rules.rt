@@ -2,6 +2,7 @@
 
 mod cases;
 pub(crate) mod choices;
+pub(crate) mod hints;
 pub(crate) mod lists;
 pub(crate) mod matches;
 pub(crate) mod searches;

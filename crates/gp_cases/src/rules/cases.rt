@@ -62,8 +62,8 @@ pub(crate) fn case_at(alloc: Global, fields: &[Vec<u8>], place: usize) -> Result
     Ok(Case { rule, graph, found })
 }
 
-// The match of a text such as `nodes 0 1 edges 0~`, as a line of a trace has it.
-fn found_of(alloc: Global, text: &[u8]) -> Result<Found, Wrong> {
+/// The match of a text such as `nodes 0 1 edges 0~`, as a line of a trace has it.
+pub(crate) fn found_of(alloc: Global, text: &[u8]) -> Result<Found, Wrong> {
     let mut trace = Answer::new(alloc);
     trace.put(b"gp2-trace 1\nstep 0 ");
     trace.put(text);

@@ -1,12 +1,10 @@
-//! Strings, lists and rounds of numbers.
+//! Strings and lists.
 
 use crate::rules::cases::put_label;
-use crate::rules::searches::share_at;
 use crate::samples::host_of;
 use gp_graph::Graph;
 use gp_memory::NoMemory;
-use gp_plan::{Hint, numbers_of_share};
-use gp_rows::{Answer, Wrong, field, number, text_at};
+use gp_rows::{Answer, Wrong, field};
 use gp_values::{Chars, List};
 use std::alloc::Global;
 use std::cmp::Ordering;
@@ -81,44 +79,4 @@ fn joined(alloc: Global, host: &[u8]) -> Result<List, Wrong> {
         }
     }
     Ok(whole)
-}
-
-/// The numbers of a share in their order: the number below which they are, the hint, and which share of how many.
-pub(crate) fn round(fields: &[Vec<u8>], out: &mut Answer) {
-    match hint_at(fields, 1) {
-        Ok(hint) => put_round(fields, hint, out),
-        Err(wrong) => out.wrong(wrong),
-    }
-}
-
-// A start, such as `4`, or one with the node that was changed, such as `4 then 1`.
-fn hint_at(fields: &[Vec<u8>], place: usize) -> Result<Hint, Wrong> {
-    let text = text_at(fields, place)?;
-    match text.split_once(" then ") {
-        Some((start, changed)) => Ok(Hint {
-            start: start.parse::<u64>()?,
-            changed: Some(changed.parse::<u64>()?),
-        }),
-        None => Ok(Hint {
-            start: text.parse::<u64>()?,
-            changed: None,
-        }),
-    }
-}
-
-fn put_round(fields: &[Vec<u8>], hint: Hint, out: &mut Answer) {
-    match share_at(fields, 2) {
-        Ok((share, shares)) => {
-            let limit = number(fields, 0);
-            let mut round = numbers_of_share(limit, hint, share, shares);
-            out.word(b"numbers");
-            for _ in 0..limit {
-                if let Some(number) = round.next() {
-                    out.number(number);
-                }
-            }
-            out.word_if(round.next().is_some(), b"and more");
-        }
-        Err(wrong) => out.wrong(wrong),
-    }
 }
