@@ -1,24 +1,30 @@
 -- What a checked rule's right side asks for is there, where a match applies.
-use Rattle.std.proofs.Common.{◌≡◌, ℕ, ◌<◌, ◌||◌, Bool, List, [], ◌∷◌, map, length, get_or, Option, Some, None, IsSome, IfSome, slice_get, refl, sym, ap, subst, ◌∙◌, arith}
+use Rattle.std.proofs.Common.{◌≡◌, ℕ, ◌<◌, ◌||◌, Bool, List, [], ◌∷◌, map, length, get_or, Option, Some, None, IsSome, IfSome, IsSomeAnd, slice_get, slice_index, slice_index_or, false, refl, sym, ap, subst, ◌∙◌, arith}
 use Rattle.std.specs.Option.{option_map}
 use Rattle.std.specs.List.{list_any}
 use Rattle.std.proofs.lemmas.List.{get_or_default, length-map}
 use Rattle.std.proofs.lemmas.Option.{slice_get-map, get_or_from_slice_get}
-use Rattle.gp_values.specs.Graph.{Graph, node_at}
+use Rattle.gp_values.specs.declared.marks.EdgeMark.TheVariants as edge_marks
+use Rattle.gp_values.specs.Graph.{Graph, Edge, node_at, edge_at}
 use Rattle.gp_syntax.specs.declared.rule.RuleParts.{RuleParts}
+use Rattle.gp_syntax.specs.declared.rule.LeftEdge.{LeftEdge}
 use Rattle.gp_syntax.specs.declared.rule.RightNode.{RightNode}
 use Rattle.gp_syntax.specs.declared.rule.RightEdge.{RightEdge}
 use Rattle.gp_syntax.specs.Rule as meant
-use Rattle.gp_syntax.specs.Expression.{Expression}
-use Rattle.gp_syntax.specs.Value.{Assignment}
+use Rattle.gp_syntax.specs.Expression.{Expression, MarkPattern, Marked, AnyMark}
+use Rattle.gp_syntax.specs.Value.{Assignment, value_of}
 use Rattle.gp_syntax.specs.Assigned.{PartialAssignment, assigned_of}
-use Rattle.gp_syntax.specs.Match.{MatchBy, setting_of}
-use Rattle.gp_syntax.specs.Tree.{rule_of_tree, right_node_of, right_edge_of, expression_of}
+use Rattle.gp_syntax.specs.Match.{MatchBy, FitsEdge, Agrees, setting_of}
+use Rattle.gp_syntax.specs.Step.{made_mark, found_edge}
+use Rattle.gp_syntax.specs.Tree.{rule_of_tree, left_edge_of, right_node_of, right_edge_of, expression_of, pattern_of}
 use Rattle.gp_syntax.specs.WellFormed.{IsWithin}
 use Rattle.gp_eval.specs.Answer.{AreNodes}
 use Rattle.gp_syntax.proofs.Unique.{element}
 use Rattle.gp_syntax.proofs.KeptEdges.{kept_edge_at}
-use Rattle.gp_step.specs.inside.Made.{IsReady, IsRightLabel}
+use Rattle.gp_step.specs.Edits.{value_or_empty, made_edge}
+use Rattle.gp_step.specs.inside.Plans.{carried_by}
+use Rattle.gp_step.specs.inside.Made.{IsReady, IsRightLabel, carried_at}
+use Rattle.gp_step.specs.inside.Same.{SaysSame, IsUnchanged}
 use Rattle.gp_step.proofs.Afters.{both_values, has_values, there}
 use Rattle.gp_step.proofs.Wholes.{all_left, at_label, all_right}
 
@@ -32,6 +38,15 @@ images_are_nodes r g m a w k d l =
 
 pub same_element : {X : Type 0} (xs : List X) (k : ℕ) (d : X) → k < length xs → slice_get xs k ≡ Some (get_or xs k d)
 same_element xs k d l = let e = element xs k l in e.1 ∙ ap (λ x. Some x) (sym (get_or_from_slice_get xs k e.0 d e.1))
+
+some_and : {X : Type 0} (o : Option X) (P : X → Type 0) → IsSomeAnd o P → (x : X) × (o ≡ Some x) × P x
+some_and None P h = absurd h
+some_and (Some x) P h = (x, refl, h)
+
+-- a pattern that a mark agrees with keeps it
+agreed_mark : {M : Type 0} (pattern : MarkPattern M) (found none : M) → Agrees pattern found → made_mark pattern (Some found) none ≡ found
+agreed_mark (Marked mark) found none a = a
+agreed_mark AnyMark found none a = refl
 
 module _ (p : RuleParts) (g : Graph) (m : meant.Found) (b : PartialAssignment) (w : IsReady p g m b) where
   abbrev r : meant.Rule
@@ -95,6 +110,17 @@ module _ (p : RuleParts) (g : Graph) (m : meant.Found) (b : PartialAssignment) (
       some_below (meant.kept_edge r (right_edge_of q)) (length m.edges) (λ i o.
       subst (λ z. i < z) (sym w.applies.is_match.edge_count)
       (w.well_formed.edge_origins k i (right_edge_of q) (slice_get-map right_edge_of p.right_edges k ∙ ap (option_map right_edge_of) e) (kept_edge_at r (right_edge_of q) i o).3))
+
+  -- one that says what the left edge does makes what was found
+  pub carries_found : (i : ℕ) (q : RightEdge) (images : List ℕ) → meant.kept_edge r (right_edge_of q) ≡ Some i → IsUnchanged p i q → carried_at g (slice_index m.edges i) ≡ carried_by (made_edge r g m (assigned_of b) images (right_edge_of q))
+  carries_found i q images k u =
+      let s = setting_of r g m (assigned_of b) in
+      let x = some_and (slice_get p.left_edges i) (λ (z : LeftEdge). SaysSame z q) u in
+      let d = some_and (edge_at g (slice_index m.edges i)) (FitsEdge s (left_edge_of x.0) (slice_index_or m.reversed i false)) (w.applies.is_match.edges i (left_edge_of x.0) (slice_get-map left_edge_of p.left_edges i ∙ ap (option_map left_edge_of) x.1)) in
+      let label : d.0.label ≡ value_or_empty (value_of (expression_of q.label) s) = sym (ap (λ e. value_or_empty (value_of e s)) (sym x.2.label) ∙ ap value_or_empty d.2.label) in
+      let found : found_edge g m q.origin ≡ Some d.0 = ap (found_edge g m) (kept_edge_at r (right_edge_of q) i k).3 ∙ d.1 in
+      let mark : d.0.mark ≡ made_mark (pattern_of q.mark) (option_map (λ (y : Edge). y.mark) (found_edge g m q.origin)) edge_marks.None = sym (ap (λ o. made_mark (pattern_of q.mark) (option_map (λ (y : Edge). y.mark) o) edge_marks.None) found ∙ agreed_mark (pattern_of q.mark) d.0.mark edge_marks.None (subst (λ z. Agrees z d.0.mark) x.2.mark d.2.mark)) in
+      rw d.1 (λ i. (label i, mark i))
 
   pub node_count : length m.nodes ≡ length p.left_nodes
   node_count = w.applies.is_match.node_count ∙ length-map p.left_nodes _

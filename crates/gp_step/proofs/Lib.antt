@@ -1,5 +1,6 @@
 pub mod Halves
 pub mod Turns
+pub mod Staying
 pub mod Afters
 pub mod Wholes
 pub mod Undoing

@@ -10,10 +10,10 @@ use Rattle.gp_values.specs.Graph.{Graph, Node, Edge, IsGraph, HasNoEdges, node_a
 use Rattle.gp_values.proofs.Graphs.{get-remove_here, get-insert_here}
 use Rattle.gp_values.proofs.Edits.{node_put_back, edge_put_back, relabeled_back, insert-inserted, node_dropped, edge_dropped}
 use Rattle.gp_step.specs.declared.inverse.Inverse.{Inverse}
-use Rattle.gp_step.specs.declared.inverse.Inverse.TheVariants.{DropNode, DropEdge, PutNode, PutEdge, Relabel, RelabelEdge}
+use Rattle.gp_step.specs.declared.inverse.Inverse.TheVariants.{DropNode, DropEdge, PutNode, PutEdge, Relabel, RelabelEdge, BeginAt}
 use Rattle.gp_step.specs.declared.made.Carried.{Carried}
 use Rattle.gp_step.specs.declared.made.MadeEdge.{MadeEdge}
-use Rattle.gp_step.specs.inside.Changes.{drop_edges, drop_nodes, with_nodes, with_edges, MayDropEdges, MayDropNodes, MayPutEdges}
+use Rattle.gp_step.specs.inside.Plans.{drop_edges, drop_nodes, with_nodes, with_edges, MayDropEdges, MayDropNodes, MayPutEdges}
 use Rattle.gp_step.specs.inside.Made.{node_of, edge_of, nodes_of, edges_of}
 use Rattle.gp_step.specs.Undo.{inverse_of, MayUndo, undone_by, Fits, Undoes}
 use Rattle.gp_step.specs.inside.Notes.{KeepsUndo, KeepsUndoBehind}
@@ -98,6 +98,9 @@ edge_label_was o d l e h = rw e at h
 
 pub edge_noted : (us : List Inverse) (g : Graph) (e : ℕ) (d : Edge) (l old : List Atom) (m : EdgeMark) → edge_at g e ≡ Some d → IfSome (edge_at g e) (λ z. old ≡ z.label) → KeepsUndo us g (RelabelEdge e old d.mark ∷ us) (relabeled_edge g e l m)
 edge_noted us g e d l old m was h = rw (edge_label_was (edge_at g e) d old was h) (edge_changed us g e d l m was)
+
+pub edge_passed : (us : List Inverse) (g : Graph) (e : ℕ) → IsSome (edge_at g e) → KeepsUndo us g (BeginAt e ∷ us) g
+edge_passed us g e s = noted (BeginAt e) us g g s refl
 
 -- ---- edits, one after another
 

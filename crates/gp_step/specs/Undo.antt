@@ -3,7 +3,7 @@
 use Rattle.std.specs.Prelude.{◌≡◌, ◌-◌, ◌<◌, List, [], ◌∷◌, None, IsSome}
 use Rattle.gp_values.specs.Graph.{Graph, node_at, edge_at, HasNoEdges, without_node, without_edge, relabeled, relabeled_edge, with_node_at, with_edge_at, without_node_number, without_edge_number}
 use Rattle.gp_step.specs.declared.inverse.Inverse.{Inverse}
-use Rattle.gp_step.specs.declared.inverse.Inverse.TheVariants.{DropNode, DropEdge, PutNode, PutEdge, Relabel, RelabelEdge}
+use Rattle.gp_step.specs.declared.inverse.Inverse.TheVariants.{DropNode, DropEdge, PutNode, PutEdge, Relabel, RelabelEdge, BeginAt}
 
 -- the graph after one of them
 abbrev pub inverse_of : Inverse → Graph → Graph
@@ -13,6 +13,7 @@ inverse_of (PutNode n l m r) g = with_node_at g n (record { label = l; mark = m;
 inverse_of (PutEdge e s t l m) g = with_edge_at g e (record { source = s; target = t; label = l; mark = m })
 inverse_of (Relabel n l m r) g = relabeled g n (record { label = l; mark = m; root = r })
 inverse_of (RelabelEdge e l m) g = relabeled_edge g e l m
+inverse_of (BeginAt e) g = g
 
 -- the graph after all of them
 abbrev pub undone_by : List Inverse → Graph → Graph
@@ -27,6 +28,7 @@ MayUndo (PutNode n l m r) g = (n < g.next_node) × (node_at g n ≡ None)
 MayUndo (PutEdge e s t l m) g = (e < g.next_edge) × (edge_at g e ≡ None) × IsSome (node_at g s) × IsSome (node_at g t)
 MayUndo (Relabel n l m r) g = IsSome (node_at g n)
 MayUndo (RelabelEdge e l m) g = IsSome (edge_at g e)
+MayUndo (BeginAt e) g = IsSome (edge_at g e)
 
 abbrev pub Fits : List Inverse → Graph → Type 0
 Fits [] g = Unit {0}

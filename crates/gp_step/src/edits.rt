@@ -1,17 +1,18 @@
 //! Edits that are noted, so that they can be taken back. They take no memory: room is made before.
 
-ghost use Rattle.std.specs.Prelude.{◌≡◌, ◌<◌, ◌≤◌, ◌+◌, ◌-◌, ◌++◌, ◌∷◌, [], List, reverse, replicate, length, IsSome, vec_len, vec_capacity};
+ghost use Rattle.std.specs.Prelude.{◌≡◌, ◌<◌, ◌≤◌, ◌+◌, ◌-◌, ◌++◌, ◌∷◌, [], List as AnyList, reverse, replicate, length, IsSome, vec_len, vec_capacity};
 ghost use Rattle.gp_values.specs.Graph.{HasNoEdges, node_at, edge_at, with_node, with_edge, without_node, without_edge, relabeled, relabeled_edge};
 ghost use Rattle.gp_step.specs.declared.inverse.Inverse.{Inverse as AnyInverse};
 ghost use Rattle.gp_step.specs.declared.inverse.Inverse.TheVariants as inverses;
-ghost use Rattle.gp_step.specs.inside.Changes.{MayDropEdges, MayRelabelEdges, MayDropNodes, MayRelabelNodes, MayPutEdges, with_nodes, with_edges};
-ghost use Rattle.gp_step.specs.inside.Changes as meant;
-ghost use Rattle.gp_step.specs.inside.Made.{node_of, edge_of, nodes_of, edges_of, kept_pairs, kept_edge_pairs};
+ghost use Rattle.gp_step.specs.inside.Plans.{MayDropEdges, MayKeepEdges, MayDropNodes, MayRelabelNodes, MayPutEdges, kept_number, kept_one, with_nodes, with_edges};
+ghost use Rattle.gp_step.specs.inside.Plans as plans;
+ghost use Rattle.gp_step.specs.inside.Made.{node_of, edge_of, nodes_of, edges_of, kept_pairs};
 ghost use Rattle.gp_step.specs.inside.Notes.{KeepsUndo, KeepsUndoBehind};
 
 use crate::inverse::Inverse;
 use crate::made::{Carried, Kept, KeptEdge, MadeEdge};
 use gp_graph::Graph;
+use gp_values::{EdgeMark, List};
 
 // Puts an item at the end, where there is a spare place.
 fn push_spare<T: Drop>(items: &mut Vec<T>, item: T)
@@ -56,27 +57,58 @@ fn cut_node(graph: &mut Graph, taken: &mut Vec<Inverse>, n: u64)
     push_spare(taken, Inverse::PutNode(n, label, mark, root));
 }
 
-// Gives an edge what it is to carry.
-fn relabel_edge(graph: &mut Graph, taken: &mut Vec<Inverse>, kept: KeptEdge)
-    requires there { IsSome (edge_at graph.old.graph kept.number) }
+// Lets an edge be, but for the walks over the edges at its ends, which begin behind it as if it had changed.
+fn pass_edge(graph: &mut Graph, taken: &mut Vec<Inverse>, number: u64)
+    requires there { IsSome (edge_at graph.old.graph number) }
     requires spare { vec_len taken.old < vec_capacity taken.old }
-    ensures graph { graph.new.graph ≡ relabeled_edge graph.old.graph kept.number kept.label kept.mark }
+    ensures graph { graph.new.graph ≡ graph.old.graph }
     ensures undo { KeepsUndo (reverse taken.old.items) graph.old.graph (reverse taken.new.items) graph.new.graph }
     ensures room { vec_capacity taken.old - vec_len taken.old ≤ (vec_capacity taken.new - vec_len taken.new) + 1 }
     ensures node_room { graph.new.node_room ≡ graph.old.node_room }
     ensures edge_room { graph.new.edge_room ≡ graph.old.edge_room }
 {
-    let KeptEdge {
-        number,
-        label,
-        mark,
-    } = kept;
+    graph.begin_behind(number);
+    push_spare(taken, Inverse::BeginAt(number));
+}
+
+// Gives an edge what it is to carry.
+fn relabel_edge(
+    graph: &mut Graph,
+    taken: &mut Vec<Inverse>,
+    number: u64,
+    label: List,
+    mark: EdgeMark,
+)
+    requires there { IsSome (edge_at graph.old.graph number) }
+    requires spare { vec_len taken.old < vec_capacity taken.old }
+    ensures graph { graph.new.graph ≡ relabeled_edge graph.old.graph number label mark }
+    ensures undo { KeepsUndo (reverse taken.old.items) graph.old.graph (reverse taken.new.items) graph.new.graph }
+    ensures room { vec_capacity taken.old - vec_len taken.old ≤ (vec_capacity taken.new - vec_len taken.new) + 1 }
+    ensures node_room { graph.new.node_room ≡ graph.old.node_room }
+    ensures edge_room { graph.new.edge_room ≡ graph.old.edge_room }
+{
     let old_mark = match graph.edge(number) {
         Some((_, _, _, found_mark)) => found_mark,
         None => unreachable!(),
     };
     let old_label = graph.relabel_edge(number, label, mark);
     push_spare(taken, Inverse::RelabelEdge(number, old_label, old_mark));
+}
+
+// Keeps an edge.
+fn keep_edge(graph: &mut Graph, taken: &mut Vec<Inverse>, edge: KeptEdge)
+    requires there { IsSome (edge_at graph.old.graph (kept_number edge)) }
+    requires spare { vec_len taken.old < vec_capacity taken.old }
+    ensures graph { graph.new.graph ≡ kept_one graph.old.graph edge }
+    ensures undo { KeepsUndo (reverse taken.old.items) graph.old.graph (reverse taken.new.items) graph.new.graph }
+    ensures room { vec_capacity taken.old - vec_len taken.old ≤ (vec_capacity taken.new - vec_len taken.new) + 1 }
+    ensures node_room { graph.new.node_room ≡ graph.old.node_room }
+    ensures edge_room { graph.new.edge_room ≡ graph.old.edge_room }
+{
+    match edge {
+        KeptEdge::Stays(number) => pass_edge(graph, taken, number),
+        KeptEdge::Carries(number, label, mark) => relabel_edge(graph, taken, number, label, mark),
+    }
 }
 
 // Gives a node what it is to carry.
@@ -108,7 +140,7 @@ fn relabel_node(graph: &mut Graph, taken: &mut Vec<Inverse>, kept: Kept)
 fn add_node(graph: &mut Graph, carried: Carried)
     requires place { 0 < graph.old.node_room }
     ensures graph { graph.new.graph ≡ with_node graph.old.graph (node_of carried) }
-    ensures undo { (us : List AnyInverse) → KeepsUndo us graph.old.graph (inverses.DropNode ∷ us) graph.new.graph }
+    ensures undo { (us : AnyList AnyInverse) → KeepsUndo us graph.old.graph (inverses.DropNode ∷ us) graph.new.graph }
     ensures node_room { graph.old.node_room ≤ graph.new.node_room + 1 }
     ensures edge_room { graph.new.edge_room ≡ graph.old.edge_room }
 {
@@ -125,7 +157,7 @@ fn add_edge(graph: &mut Graph, edge: MadeEdge)
     requires target { IsSome (node_at graph.old.graph edge.target) }
     requires place { 0 < graph.old.edge_room }
     ensures graph { graph.new.graph ≡ with_edge graph.old.graph (edge_of edge) }
-    ensures undo { (us : List AnyInverse) → KeepsUndo us graph.old.graph (inverses.DropEdge ∷ us) graph.new.graph }
+    ensures undo { (us : AnyList AnyInverse) → KeepsUndo us graph.old.graph (inverses.DropEdge ∷ us) graph.new.graph }
     ensures edge_room { graph.old.edge_room ≤ graph.new.edge_room + 1 }
 {
     let _sound = graph.next_numbers();
@@ -144,7 +176,7 @@ fn add_edge(graph: &mut Graph, edge: MadeEdge)
 pub(crate) fn cut_edges(graph: &mut Graph, taken: &mut Vec<Inverse>, edges: &[u64])
     requires there { MayDropEdges edges.now graph.old.graph }
     requires spare { vec_len taken.old + length edges.now ≤ vec_capacity taken.old }
-    ensures graph { graph.new.graph ≡ meant.drop_edges edges.now graph.old.graph }
+    ensures graph { graph.new.graph ≡ plans.drop_edges edges.now graph.old.graph }
     ensures undo { KeepsUndo (reverse taken.old.items) graph.old.graph (reverse taken.new.items) graph.new.graph }
     ensures room { vec_capacity taken.old - vec_len taken.old ≤ (vec_capacity taken.new - vec_len taken.new) + length edges.now }
     ensures node_room { graph.new.node_room ≡ graph.old.node_room }
@@ -155,11 +187,11 @@ pub(crate) fn cut_edges(graph: &mut Graph, taken: &mut Vec<Inverse>, edges: &[u6
     }
 }
 
-/// Gives these edges what they are to carry, in order.
-pub(crate) fn relabel_edges(graph: &mut Graph, taken: &mut Vec<Inverse>, kept: Vec<KeptEdge>)
-    requires there { MayRelabelEdges (kept_edge_pairs kept.items) graph.old.graph }
+/// Keeps these edges, in order.
+pub(crate) fn keep_edges(graph: &mut Graph, taken: &mut Vec<Inverse>, kept: Vec<KeptEdge>)
+    requires there { MayKeepEdges kept.items graph.old.graph }
     requires spare { vec_len taken.old + length kept.items ≤ vec_capacity taken.old }
-    ensures graph { graph.new.graph ≡ meant.relabel_edges (kept_edge_pairs kept.items) graph.old.graph }
+    ensures graph { graph.new.graph ≡ plans.keep_edges kept.items graph.old.graph }
     ensures undo { KeepsUndo (reverse taken.old.items) graph.old.graph (reverse taken.new.items) graph.new.graph }
     ensures room { vec_capacity taken.old - vec_len taken.old ≤ (vec_capacity taken.new - vec_len taken.new) + length kept.items }
     ensures node_room { graph.new.node_room ≡ graph.old.node_room }
@@ -167,8 +199,8 @@ pub(crate) fn relabel_edges(graph: &mut Graph, taken: &mut Vec<Inverse>, kept: V
 {
     let mut left = kept;
     left.reverse();
-    'relabels: while let Some(edge) = left.pop() {
-        relabel_edge(graph, taken, edge);
+    'keeps: while let Some(edge) = left.pop() {
+        keep_edge(graph, taken, edge);
     }
 }
 
@@ -176,7 +208,7 @@ pub(crate) fn relabel_edges(graph: &mut Graph, taken: &mut Vec<Inverse>, kept: V
 pub(crate) fn cut_nodes(graph: &mut Graph, taken: &mut Vec<Inverse>, nodes: &[u64])
     requires there { MayDropNodes nodes.now graph.old.graph }
     requires spare { vec_len taken.old + length nodes.now ≤ vec_capacity taken.old }
-    ensures graph { graph.new.graph ≡ meant.drop_nodes nodes.now graph.old.graph }
+    ensures graph { graph.new.graph ≡ plans.drop_nodes nodes.now graph.old.graph }
     ensures undo { KeepsUndo (reverse taken.old.items) graph.old.graph (reverse taken.new.items) graph.new.graph }
     ensures room { vec_capacity taken.old - vec_len taken.old ≤ (vec_capacity taken.new - vec_len taken.new) + length nodes.now }
     ensures node_room { graph.new.node_room ≡ graph.old.node_room }
@@ -191,7 +223,7 @@ pub(crate) fn cut_nodes(graph: &mut Graph, taken: &mut Vec<Inverse>, nodes: &[u6
 pub(crate) fn relabel_nodes(graph: &mut Graph, taken: &mut Vec<Inverse>, kept: Vec<Kept>)
     requires there { MayRelabelNodes (kept_pairs kept.items) graph.old.graph }
     requires spare { vec_len taken.old + length kept.items ≤ vec_capacity taken.old }
-    ensures graph { graph.new.graph ≡ meant.relabel_nodes (kept_pairs kept.items) graph.old.graph }
+    ensures graph { graph.new.graph ≡ plans.relabel_nodes (kept_pairs kept.items) graph.old.graph }
     ensures undo { KeepsUndo (reverse taken.old.items) graph.old.graph (reverse taken.new.items) graph.new.graph }
     ensures node_room { graph.new.node_room ≡ graph.old.node_room }
     ensures edge_room { graph.new.edge_room ≡ graph.old.edge_room }

@@ -21,6 +21,8 @@ pub enum Inverse {
     Relabel(u64, List, NodeMark, bool),
     /// The edge of this number carries again what it did.
     RelabelEdge(u64, List, EdgeMark),
+    /// Walks over the edges at both ends of the edge of this number begin at it again.
+    BeginAt(u64),
 }
 
 impl Inverse {
@@ -43,6 +45,7 @@ impl Inverse {
             Inverse::RelabelEdge(e, label, mark) => {
                 Inverse::RelabelEdge(*e, label.copy(alloc)?, *mark)
             }
+            Inverse::BeginAt(e) => Inverse::BeginAt(*e),
         })
     }
 }

@@ -1,6 +1,6 @@
 //! What the right side is to carry at a match, worked out over the graph before the step.
 
-ghost use Rattle.std.specs.Prelude.{◌≡◌, ◌<◌, ◌++◌, ◌∷◌, [], map, length, false, IfOk, IfSome, OnOk};
+ghost use Rattle.std.specs.Prelude.{◌≡◌, ◌<◌, ◌++◌, ◌∷◌, [], map, length, true, false, Some, slice_index, IfOk, IfSome, OnOk};
 ghost use Rattle.std.specs.Option.{option_map, option_map_or};
 ghost use Rattle.gp_values.specs.Graph.{Node as AnyNode, Edge as AnyEdge};
 ghost use Rattle.gp_syntax.specs.Assigned.{assigned_of};
@@ -12,9 +12,11 @@ ghost use Rattle.gp_syntax.specs.Tree.{rule_of_tree, right_node_of, right_edge_o
 ghost use Rattle.gp_step.specs.Halves.{image_of, next_of};
 ghost use Rattle.gp_step.specs.Edits.{images_of, origin_of};
 ghost use Rattle.gp_step.specs.Edits as edits;
-ghost use Rattle.gp_step.specs.inside.Changes.{kept_first, kept_of, new_first, new_of, carried_by};
-ghost use Rattle.gp_step.specs.inside.Made.{IsReady, IsRightLabel, label_at, node_of, edge_of, nodes_of, edges_of, kept_pairs, kept_edge_pairs};
+ghost use Rattle.gp_step.specs.inside.Plans.{kept_first, kept_of, new_first, new_of, carried_by};
+ghost use Rattle.gp_step.specs.inside.Made.{IsReady, IsRightLabel, label_at, node_of, edge_of, nodes_of, edges_of, kept_pairs, kept_edge_pair, kept_edge_pairs};
+ghost use Rattle.gp_step.specs.inside.Same.{IsUnchanged};
 
+use crate::same::{is_mark_kept, is_written_again};
 use gp_eval::{Valued, value};
 use gp_graph::Graph;
 use gp_memory::NoMemory;
@@ -37,12 +39,13 @@ pub(crate) struct Kept {
     pub(crate) carried: Carried,
 }
 
-/// An edge that is kept, by its number, and what it is to carry.
+/// An edge that is kept, by its number.
 #[derive(Drop)]
-pub(crate) struct KeptEdge {
-    pub(crate) number: u64,
-    pub(crate) label: List,
-    pub(crate) mark: EdgeMark,
+pub(crate) enum KeptEdge {
+    /// It stays as it is.
+    Stays(u64),
+    /// It is to carry this.
+    Carries(u64, List, EdgeMark),
 }
 
 /// An edge that is to be made.
@@ -273,30 +276,38 @@ fn made_edge(
     }
 }
 
-// Puts one more right edge at the end of those that are kept or of the new ones. On refusal it may be there in part.
-fn join(
-    joined: &mut Joined,
-    found: &Found,
-    keeps: Option<u32>,
-    edge: MadeEdge,
-) -> Result<(), NoMemory>
-    requires { IfSome keeps (λ i. i < length found.now.edges) }
-    ensures kept { OnOk result (kept_edge_pairs joined.new.kept.items ≡ kept_edge_pairs joined.old.kept.items ++ kept_first found.now.edges keeps (carried_by (edge_of edge)) []) }
-    ensures added { OnOk result (edges_of joined.new.added.items ≡ edges_of joined.old.added.items ++ new_first keeps (edge_of edge) []) }
+// Whether a right edge has the label and the mark of the left edge of this place, as they are written.
+fn is_unchanged(parts: &RuleParts, place: u32, q: &RightEdge) -> bool
+    requires { place < length parts.now.left_edges }
+    ensures { result ≡ true → IsUnchanged parts.now place q.now }
 {
-    match keeps {
-        Some(i) => {
-            let number = found.edges()[i as usize].number;
-            let MadeEdge { label, mark, .. } = edge;
-            joined.kept.push(KeptEdge {
-                number,
-                label,
-                mark,
-            })?;
-        }
-        None => joined.added.push(edge)?,
+    let left = &parts.left_edges.as_slice()[place as usize];
+    is_mark_kept(left.mark, q.mark) && is_written_again(&left.label, &q.label)
+}
+
+// What the edge that a right edge keeps is to carry. Where it is what the left edge says, no label is valued.
+fn carried_edge(
+    alloc: Global,
+    parts: &RuleParts,
+    graph: &Graph,
+    found: &Found,
+    assignment: &Assignment,
+    place: u32,
+    q: &RightEdge,
+) -> Result<KeptEdge, NoMemory>
+    requires ready { IsReady parts.now graph.now.graph found.now assignment.now }
+    requires label { IsRightLabel parts.now graph.now.graph found.now assignment.now (expression_of q.now.label) }
+    requires keeps { kept_edge (rule_of_tree parts.now) (right_edge_of q.now) ≡ Some place }
+    requires within { place < length found.now.edges }
+    ensures { IfOk result (λ k. kept_edge_pair graph.now.graph k ≡ (slice_index found.now.edges place, carried_by (edits.made_edge (rule_of_tree parts.now) graph.now.graph found.now (assigned_of assignment.now) [] (right_edge_of q.now)))) }
+{
+    let number = found.edges()[place as usize].number;
+    if is_unchanged(parts, place, q) {
+        return Ok(KeptEdge::Stays(number));
     }
-    Ok(())
+    let label = label_of(alloc, parts, graph, found, assignment, &q.label)?;
+    let mark = mark_of(q.mark, found_mark(graph, found, q.origin), EdgeMark::None);
+    Ok(KeptEdge::Carries(number, label, mark))
 }
 
 /// What the right edges are to carry, and the new ones among them, between these images of the right nodes.
@@ -310,7 +321,7 @@ pub(crate) fn made_edges(
 ) -> Result<Joined, NoMemory>
     requires ready { IsReady parts.now graph.now.graph found.now assignment.now }
     requires images { length images.now ≡ length parts.now.right_nodes }
-    ensures kept { IfOk result (λ j. kept_edge_pairs j.kept.items ≡ kept_of found.now.edges (kept_edge (rule_of_tree parts.now)) (λ (q : rules.RightEdge). carried_by (edits.made_edge (rule_of_tree parts.now) graph.now.graph found.now (assigned_of assignment.now) images.now q)) (map right_edge_of parts.now.right_edges)) }
+    ensures kept { IfOk result (λ j. kept_edge_pairs graph.now.graph j.kept.items ≡ kept_of found.now.edges (kept_edge (rule_of_tree parts.now)) (λ (q : rules.RightEdge). carried_by (edits.made_edge (rule_of_tree parts.now) graph.now.graph found.now (assigned_of assignment.now) images.now q)) (map right_edge_of parts.now.right_edges)) }
     ensures added { IfOk result (λ j. edges_of j.added.items ≡ new_of (kept_edge (rule_of_tree parts.now)) (edits.made_edge (rule_of_tree parts.now) graph.now.graph found.now (assigned_of assignment.now) images.now) (map right_edge_of parts.now.right_edges)) }
 {
     let mut joined = Joined {
@@ -318,8 +329,16 @@ pub(crate) fn made_edges(
         added: Vec::new(alloc),
     };
     for q in parts.right_edges.as_slice() {
-        let edge = made_edge(alloc, parts, graph, found, assignment, images, q)?;
-        join(&mut joined, found, parts.kept_edge(q), edge)?;
+        match parts.kept_edge(q) {
+            Some(place) => {
+                let edge = carried_edge(alloc, parts, graph, found, assignment, place, q)?;
+                joined.kept.push(edge)?;
+            }
+            None => {
+                let edge = made_edge(alloc, parts, graph, found, assignment, images, q)?;
+                joined.added.push(edge)?;
+            }
+        }
     }
     Ok(joined)
 }

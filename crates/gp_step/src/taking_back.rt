@@ -35,6 +35,7 @@ fn take_back(graph: &mut Graph, inverse: Inverse)
             // Searches meet it first, as they meet an edge that is put back.
             graph.begin_at(e);
         }
+        Inverse::BeginAt(e) => graph.begin_at(e),
     }
 }
 

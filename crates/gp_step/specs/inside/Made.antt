@@ -1,14 +1,17 @@
 -- What the right side is to carry, as it is held while a step is made.
-use Rattle.std.specs.Prelude.{◌≡◌, ℕ, List, length, map}
+use Rattle.std.specs.Prelude.{◌≡◌, ℕ, List, [], length, map}
+use Rattle.std.specs.Option.{option_map_or}
 use Rattle.gp_values.specs.declared.marks.EdgeMark.{EdgeMark}
-use Rattle.gp_values.specs.Graph.{Graph, Node, Edge}
+use Rattle.gp_values.specs.declared.marks.EdgeMark.TheVariants as edge_marks
+use Rattle.gp_values.specs.Graph.{Graph, Node, Edge, edge_at}
 use Rattle.gp_syntax.specs.Rule.{Found}
 use Rattle.gp_syntax.specs.declared.found.EdgeImage.{EdgeImage}
 use Rattle.gp_step.specs.declared.made.Carried.{Carried}
 use Rattle.gp_step.specs.declared.made.Kept.{Kept}
 use Rattle.gp_step.specs.declared.made.KeptEdge.{KeptEdge}
+use Rattle.gp_step.specs.declared.made.KeptEdge.TheVariants.{Stays, Carries}
 use Rattle.gp_step.specs.declared.made.MadeEdge.{MadeEdge}
-use Rattle.gp_step.specs.declared.changes.Changes.{Changes}
+use Rattle.gp_step.specs.declared.plan.Plan.{Plan}
 use Rattle.gp_values.specs.declared.atom.Atom.{Atom}
 use Rattle.gp_syntax.specs.declared.rule.RuleParts.{RuleParts}
 use Rattle.gp_syntax.specs.Assigned.{PartialAssignment, IsWhole, assigned_of}
@@ -19,7 +22,7 @@ use Rattle.gp_syntax.specs.Step.{AppliesBy}
 use Rattle.gp_syntax.specs.Tree.{rule_of_tree}
 use Rattle.gp_syntax.specs.WellFormed.{IsWellFormed, IsWithin}
 use Rattle.gp_step.specs.Edits.{value_or_empty}
-use Rattle.gp_step.specs.inside.Changes.{StepChanges}
+use Rattle.gp_step.specs.inside.Plans.{Planned, carried_by, relabel_edges, keep_edges, MayKeepEdges}
 
 -- a match applies, by this assignment
 pub record IsReady (p : RuleParts) (g : Graph) (m : Found) (b : PartialAssignment) : Type 0 where
@@ -58,17 +61,28 @@ kept_pair k = (k.number, node_of k.carried)
 abbrev pub kept_pairs : List Kept → List (ℕ × Node)
 kept_pairs ks = map kept_pair ks
 
-abbrev pub kept_edge_pair : KeptEdge → ℕ × (List Atom × EdgeMark)
-kept_edge_pair k = (k.number, (k.label, k.mark))
+-- what the edge of this number carries
+abbrev pub carried_at : Graph → ℕ → List Atom × EdgeMark
+carried_at g e = option_map_or carried_by (edge_at g e) ([], edge_marks.None)
 
-abbrev pub kept_edge_pairs : List KeptEdge → List (ℕ × (List Atom × EdgeMark))
-kept_edge_pairs ks = map kept_edge_pair ks
+-- what a kept edge is to carry: one that stays, what it carries in this graph
+abbrev pub kept_edge_pair : Graph → KeptEdge → ℕ × (List Atom × EdgeMark)
+kept_edge_pair g (Stays e) = (e, carried_at g e)
+kept_edge_pair g (Carries e l m) = (e, (l, m))
 
--- the edits that are held
-abbrev pub changes_held : Changes → StepChanges
-changes_held p = record {
+abbrev pub kept_edge_pairs : Graph → List KeptEdge → List (ℕ × (List Atom × EdgeMark))
+kept_edge_pairs g ks = map (kept_edge_pair g) ks
+
+-- Edges of the one graph may be kept in the other, where each then carries what it is to carry.
+pub record KeepsAs (ks : List KeptEdge) (g h : Graph) : Type 0 where
+  pub may : MayKeepEdges ks h
+  pub same : keep_edges ks h ≡ relabel_edges (kept_edge_pairs g ks) h
+
+-- the edits that are held, over this graph
+abbrev pub planned : Graph → Plan → Planned
+planned g p = record {
   cut_edges = p.cut_edges.items;
-  kept_edges = kept_edge_pairs p.kept_edges.items;
+  kept_edges = kept_edge_pairs g p.kept_edges.items;
   cut_nodes = p.cut_nodes.items;
   kept_nodes = kept_pairs p.kept_nodes.items;
   new_nodes = nodes_of p.new_nodes.items;

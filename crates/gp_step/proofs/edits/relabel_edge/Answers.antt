@@ -5,4 +5,4 @@ use Rattle.gp_step.proofs.edits.relabel_edge.Goals as goal
 pub returns-clause-undo : goal.returns-clause-undo
 returns-clause-undo c =
     rw (c.push_spare.ensures.items, last_first, c.relabel_edge-old_label.ensures.relabeled)
-    (edge_noted (reverse c.args.taken.now.items) c.args.graph.now.graph c.args.kept.number _ _ _ _ c.in-Some.ensures.found c.relabel_edge-old_label.ensures.was)
+    (edge_noted (reverse c.args.taken.now.items) c.args.graph.now.graph c.args.number _ _ _ _ c.in-Some.ensures.found c.relabel_edge-old_label.ensures.was)

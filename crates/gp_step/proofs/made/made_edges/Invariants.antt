@@ -3,7 +3,7 @@ use Rattle.gp_syntax.specs.Rule.{RightEdge, kept_edge}
 use Rattle.gp_syntax.specs.Assigned.{assigned_of}
 use Rattle.gp_syntax.specs.Tree.{rule_of_tree, right_edge_of}
 use Rattle.gp_step.specs.Edits.{made_edge}
-use Rattle.gp_step.specs.inside.Changes.{kept_of, new_of, carried_by}
+use Rattle.gp_step.specs.inside.Plans.{kept_of, new_of, carried_by}
 use Rattle.gp_step.specs.inside.Made.{edges_of, kept_edge_pairs}
 use Rattle.gp_step.proofs.made.made_edges.Given as goal
 
@@ -13,6 +13,6 @@ invariant-loop-q l =
     let keeps = kept_edge (rule_of_tree l.parts) in
     record {
       items : l.q-items ≡ l.parts.right_edges;
-      kept : kept_edge_pairs l.joined.kept.items ++ kept_of l.found.edges keeps (λ (q : RightEdge). carried_by (make q)) (map right_edge_of (drop l.q-index l.parts.right_edges)) ≡ kept_of l.found.edges keeps (λ (q : RightEdge). carried_by (make q)) (map right_edge_of l.parts.right_edges);
+      kept : kept_edge_pairs l.graph.graph l.joined.kept.items ++ kept_of l.found.edges keeps (λ (q : RightEdge). carried_by (make q)) (map right_edge_of (drop l.q-index l.parts.right_edges)) ≡ kept_of l.found.edges keeps (λ (q : RightEdge). carried_by (make q)) (map right_edge_of l.parts.right_edges);
       added : edges_of l.joined.added.items ++ new_of keeps make (map right_edge_of (drop l.q-index l.parts.right_edges)) ≡ new_of keeps make (map right_edge_of l.parts.right_edges);
     }

@@ -7,6 +7,8 @@ use Rattle.gp_syntax.specs.Value.{Assignment}
 use Rattle.gp_syntax.specs.Rule.{Rule, RightEdge, Found, kept_edge, kept_nodes, kept_edges}
 use Rattle.gp_step.specs.Halves.{stays, gone}
 use Rattle.gp_step.specs.Edits.{made_node, made_edge, images_of, origin_of}
+use Rattle.gp_step.specs.declared.made.KeptEdge.{KeptEdge}
+use Rattle.gp_step.specs.declared.made.KeptEdge.TheVariants.{Stays, Carries}
 
 -- what is made of what is kept, with the numbers of the images, and what is made anew
 abbrev pub kept_first : {X : Type 0} → List ℕ → Option ℕ → X → List (ℕ × X) → List (ℕ × X)
@@ -37,6 +39,14 @@ drop_edges es g = fold without_edge g es
 abbrev pub relabel_edges : List (ℕ × (List Atom × EdgeMark)) → Graph → Graph
 relabel_edges ps g = fold (λ h (p : ℕ × (List Atom × EdgeMark)). relabeled_edge h p.0 p.1.0 p.1.1) g ps
 
+-- the same of edges as they are held: one that stays costs nothing
+abbrev pub kept_one : Graph → KeptEdge → Graph
+kept_one g (Stays e) = g
+kept_one g (Carries e l m) = relabeled_edge g e l m
+
+abbrev pub keep_edges : List KeptEdge → Graph → Graph
+keep_edges ks g = fold kept_one g ks
+
 abbrev pub drop_nodes : List ℕ → Graph → Graph
 drop_nodes ns g = fold without_node g ns
 
@@ -50,7 +60,7 @@ abbrev pub with_edges : List Edge → Graph → Graph
 with_edges ds g = fold with_edge g ds
 
 -- in the order in which they are made
-pub record StepChanges : Type 0 where
+pub record Planned : Type 0 where
   pub cut_edges : List ℕ
   pub kept_edges : List (ℕ × (List Atom × EdgeMark))
   pub cut_nodes : List ℕ
@@ -58,12 +68,12 @@ pub record StepChanges : Type 0 where
   pub new_nodes : List Node
   pub new_edges : List Edge
 
-abbrev pub made_by : StepChanges → Graph → Graph
+abbrev pub made_by : Planned → Graph → Graph
 made_by p g = with_edges p.new_edges (with_nodes p.new_nodes (relabel_nodes p.kept_nodes (drop_nodes p.cut_nodes (relabel_edges p.kept_edges (drop_edges p.cut_edges g)))))
 
 -- the edits of a step
-abbrev pub changes_of : Rule → Graph → Found → Assignment → StepChanges
-changes_of r g m a = record {
+abbrev pub plan_of : Rule → Graph → Found → Assignment → Planned
+plan_of r g m a = record {
   cut_edges = gone (stays (kept_edges r)) m.edges;
   kept_edges = kept_of m.edges (kept_edge r) (λ (q : RightEdge). carried_by (made_edge r g m a (images_of r g m) q)) r.right_edges;
   cut_nodes = gone (stays (kept_nodes r)) m.nodes;
@@ -83,6 +93,14 @@ abbrev pub MayRelabelEdges : List (ℕ × (List Atom × EdgeMark)) → Graph →
 MayRelabelEdges [] g = Unit {0}
 MayRelabelEdges (p ∷ ps) g = IsSome (edge_at g p.0) × MayRelabelEdges ps (relabeled_edge g p.0 p.1.0 p.1.1)
 
+abbrev pub kept_number : KeptEdge → ℕ
+kept_number (Stays e) = e
+kept_number (Carries e l m) = e
+
+abbrev pub MayKeepEdges : List KeptEdge → Graph → Type 0
+MayKeepEdges [] g = Unit {0}
+MayKeepEdges (k ∷ ks) g = IsSome (edge_at g (kept_number k)) × MayKeepEdges ks (kept_one g k)
+
 abbrev pub MayDropNodes : List ℕ → Graph → Type 0
 MayDropNodes [] g = Unit {0}
 MayDropNodes (n ∷ ns) g = IsSome (node_at g n) × HasNoEdges g n × MayDropNodes ns (without_node g n)
@@ -96,7 +114,7 @@ MayPutEdges [] g = Unit {0}
 MayPutEdges (d ∷ ds) g = IsSome (node_at g d.source) × IsSome (node_at g d.target) × MayPutEdges ds (with_edge g d)
 
 -- the edits of a step may be made
-pub record MayMake (p : StepChanges) (g : Graph) : Type 0 where
+pub record MayMake (p : Planned) (g : Graph) : Type 0 where
   pub cut_edges : MayDropEdges p.cut_edges g
   pub kept_edges : MayRelabelEdges p.kept_edges (drop_edges p.cut_edges g)
   pub cut_nodes : MayDropNodes p.cut_nodes (relabel_edges p.kept_edges (drop_edges p.cut_edges g))
