@@ -2,7 +2,7 @@
 use Rattle.std.proofs.Common.{◌≡◌, ℕ, suc, ◌+◌, ◌<◌, Bool, true, false, if◌then◌else◌, List, [], ◌∷◌, ◌++◌, length, get_or, drop, drop-cons, append_assoc, add-one, Option, Some, None, slice_get, slice_index, refl, sym, ap, subst, ◌∙◌, arith}
 use Rattle.std.proofs.lemmas.List.{at_drop_more}
 use Rattle.gp_step.specs.Halves.{gone}
-use Rattle.gp_step.specs.inside.Plans.{kept_first, new_first}
+use Rattle.gp_step.specs.inside.Changes.{kept_first, new_first}
 use Rattle.gp_step.proofs.Labels.{same_element}
 
 one_more : {X : Type 0} (so new rest : List X) (x : X) → new ≡ so ++ x ∷ [] → new ++ rest ≡ so ++ x ∷ rest

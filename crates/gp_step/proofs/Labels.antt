@@ -22,7 +22,7 @@ use Rattle.gp_eval.specs.Answer.{AreNodes}
 use Rattle.gp_syntax.proofs.Unique.{element}
 use Rattle.gp_syntax.proofs.KeptEdges.{kept_edge_at}
 use Rattle.gp_step.specs.Edits.{value_or_empty, made_edge}
-use Rattle.gp_step.specs.inside.Plans.{carried_by}
+use Rattle.gp_step.specs.inside.Changes.{carried_by}
 use Rattle.gp_step.specs.inside.Made.{IsReady, IsRightLabel, carried_at}
 use Rattle.gp_step.specs.inside.Same.{SaysSame, IsUnchanged}
 use Rattle.gp_step.proofs.Afters.{both_values, has_values, there}

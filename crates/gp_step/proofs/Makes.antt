@@ -25,19 +25,19 @@ use Rattle.gp_step.specs.Halves.{images_from, stays, gone, cut}
 use Rattle.gp_step.specs.Edits.{made_node, made_edge, images_of, origin_of, stepped}
 use Rattle.gp_step.specs.declared.made.KeptEdge.{KeptEdge}
 use Rattle.gp_step.specs.inside.Made.{IsReady, KeepsAs, kept_edge_pairs}
-use Rattle.gp_step.specs.inside.Plans.{Planned, MayMake, made_by, plan_of, kept_of, carried_by, drop_edges, relabel_edges, drop_nodes, relabel_nodes, with_nodes}
+use Rattle.gp_step.specs.inside.Changes.{StepChanges, MayMake, made_by, changes_of, kept_of, carried_by, drop_edges, relabel_edges, drop_nodes, relabel_nodes, with_nodes}
 use Rattle.gp_step.proofs.Halves.{standing, stands_in, dropped, left, kept_or_gone, gone_place, gone_apart_images, places, stands, length-images}
 use Rattle.gp_step.proofs.Turns.{HasEnds, MayAs, write, add_all, placed, length-new, from_new, drop_edges_half, drop_nodes_half, relabel_nodes_half, with_nodes_half, with_edges_half, kept_relabeled, ends_stay, edges_may, nodes_may, kept_may, ends_may, gone_apart}
 use Rattle.gp_step.proofs.Staying.{numbers, kept_place, kept_apart, AreAsIn, stays_as}
 use Rattle.gp_step.proofs.Afters.{some_is, node_there, edge_there, keeps_nodes, keeps_edges, node_places}
 
-pub record MakesStep (r : Rule) (g : Graph) (m : Found) (a : Assignment) (p : Planned) : Type 0 where
+pub record MakesStep (r : Rule) (g : Graph) (m : Found) (a : Assignment) (p : StepChanges) : Type 0 where
   pub may : MayMake p g
   pub same : made_by p g ≡ stepped r g m a
 
 module _ (r : Rule) (g : Graph) (m : Found) (a : Assignment) (b : IsNumbered g) (w : MatchBy r g m a) (o : IsWellFormed r) where
-  abbrev plan : Planned
-  plan = plan_of r g m a
+  abbrev changes : StepChanges
+  changes = changes_of r g m a
 
   abbrev node : RightNode → Node
   node = made_node r g m a
@@ -50,19 +50,19 @@ module _ (r : Rule) (g : Graph) (m : Found) (a : Assignment) (b : IsNumbered g) 
 
   -- the graphs on the way
   abbrev first : Graph
-  first = drop_edges plan.cut_edges g
+  first = drop_edges changes.cut_edges g
 
   abbrev second : Graph
-  second = relabel_edges plan.kept_edges first
+  second = relabel_edges changes.kept_edges first
 
   abbrev third : Graph
-  third = drop_nodes plan.cut_nodes second
+  third = drop_nodes changes.cut_nodes second
 
   abbrev fourth : Graph
-  fourth = relabel_nodes plan.kept_nodes third
+  fourth = relabel_nodes changes.kept_nodes third
 
   abbrev fifth : Graph
-  fifth = with_nodes plan.new_nodes fourth
+  fifth = with_nodes changes.new_nodes fourth
 
   -- the place of an item that keeps another's
   node_kept : (j i : ℕ) → slice_get (kept_nodes r) j ≡ Some (Some i) → (i < length m.nodes) × Contains (images_of r g m) (slice_index m.nodes i)
@@ -71,7 +71,7 @@ module _ (r : Rule) (g : Graph) (m : Found) (a : Assignment) (b : IsNumbered g) 
       let l : j < length (kept_nodes r) = slice_get_within (kept_nodes r) j (Some i) e in
       ((keeps_nodes r g m a b w o).within j i e, stands_in (images_of r g m) j (slice_index m.nodes i) (omega arith) ((node_places r g m a b w o).old j i e))
 
-  edge_kept : (j i : ℕ) → slice_get (kept_edges r) j ≡ Some (Some i) → (i < length m.edges) × (Contains plan.cut_edges (slice_index m.edges i) → ⊥)
+  edge_kept : (j i : ℕ) → slice_get (kept_edges r) j ≡ Some (Some i) → (i < length m.edges) × (Contains changes.cut_edges (slice_index m.edges i) → ⊥)
   edge_kept j i e =
       let images = images_from m.edges (kept_edges r) g.next_edge in
       let p = places (kept_edges r) m.edges g.next_edge (keeps_edges r g m a b w o) in
@@ -83,7 +83,7 @@ module _ (r : Rule) (g : Graph) (m : Found) (a : Assignment) (b : IsNumbered g) 
 
   -- and it is as it was
   edge_left : (j i : ℕ) → slice_get (kept_edges r) j ≡ Some (Some i) → edge_at first (slice_index m.edges i) ≡ edge_at g (slice_index m.edges i)
-  edge_left j i e = ap (λ h. edge_at h (slice_index m.edges i)) (drop_edges_half plan.cut_edges g) ∙ left plan.cut_edges g.edges (slice_index m.edges i) (edge_kept j i e).1
+  edge_left j i e = ap (λ h. edge_at h (slice_index m.edges i)) (drop_edges_half changes.cut_edges g) ∙ left changes.cut_edges g.edges (slice_index m.edges i) (edge_kept j i e).1
 
   -- a kept edge is there, with the ends that it is to have
   edges_stand : (j i : ℕ) (q : RightEdge) → slice_get r.right_edges j ≡ Some q → kept_edge r q ≡ Some i → HasEnds (edge_at first (slice_index m.edges i)) (edge q)
@@ -93,52 +93,52 @@ module _ (r : Rule) (g : Graph) (m : Found) (a : Assignment) (b : IsNumbered g) 
       let ends = kept_ends r g m a g.next_node (images_of r g m) w (node_places r g m a b w o) q i d.0 e d.1 in
       (d.0, edge_left j i k ∙ d.1, ends.0, ends.1)
 
-  edges_remain : AreAsIn (numbers plan.kept_edges) g first
+  edges_remain : AreAsIn (numbers changes.kept_edges) g first
   edges_remain e c =
       let z = kept_place m.edges (kept_edge r) (λ q. carried_by (edge q)) r.right_edges e c in
       subst (λ n. IsSome (edge_at g n) × (edge_at first n ≡ edge_at g n)) z.3 (edge_there r g m a b w o z.1 (edge_kept z.0 z.1 z.2).0, edge_left z.0 z.1 z.2)
 
   -- so they may be held as those that stay and those that carry something else
-  keeps_as : (ks : List KeptEdge) → kept_edge_pairs g ks ≡ plan.kept_edges → KeepsAs ks g first
+  keeps_as : (ks : List KeptEdge) → kept_edge_pairs g ks ≡ changes.kept_edges → KeepsAs ks g first
   keeps_as ks e =
       let k = keeps_edges r g m a b w o in
       let apart = kept_apart m.edges (kept_edge r) (λ q. carried_by (edge q)) r.right_edges k.apart k.within k.once in
       stays_as ks g first (subst (λ ps. AreApart (numbers ps)) (sym e) apart) (subst (λ ps. AreAsIn (numbers ps) g first) (sym e) edges_remain)
 
   -- each graph, by its halves
-  first_is : first ≡ record g { edges = cut plan.cut_edges g.edges }
-  first_is = drop_edges_half plan.cut_edges g
+  first_is : first ≡ record g { edges = cut changes.cut_edges g.edges }
+  first_is = drop_edges_half changes.cut_edges g
 
-  relabels : MayAs kept_pairs plan.kept_edges first
+  relabels : MayAs kept_pairs changes.kept_edges first
   relabels = kept_relabeled m.edges (kept_edge r) edge r.right_edges first edges_stand
 
-  second_is : second ≡ record g { edges = write kept_pairs (cut plan.cut_edges g.edges) }
+  second_is : second ≡ record g { edges = write kept_pairs (cut changes.cut_edges g.edges) }
   second_is = relabels.1 ∙ ap (λ (h : Graph). record h { edges = write kept_pairs h.edges }) first_is
 
-  third_is : third ≡ record g { nodes = cut plan.cut_nodes g.nodes; edges = write kept_pairs (cut plan.cut_edges g.edges) }
-  third_is = drop_nodes_half plan.cut_nodes second ∙ ap (λ (h : Graph). record h { nodes = cut plan.cut_nodes h.nodes }) second_is
+  third_is : third ≡ record g { nodes = cut changes.cut_nodes g.nodes; edges = write kept_pairs (cut changes.cut_edges g.edges) }
+  third_is = drop_nodes_half changes.cut_nodes second ∙ ap (λ (h : Graph). record h { nodes = cut changes.cut_nodes h.nodes }) second_is
 
-  fourth_is : fourth ≡ record g { nodes = write plan.kept_nodes (cut plan.cut_nodes g.nodes); edges = write kept_pairs (cut plan.cut_edges g.edges) }
-  fourth_is = relabel_nodes_half plan.kept_nodes third ∙ ap (λ (h : Graph). record h { nodes = write plan.kept_nodes h.nodes }) third_is
+  fourth_is : fourth ≡ record g { nodes = write changes.kept_nodes (cut changes.cut_nodes g.nodes); edges = write kept_pairs (cut changes.cut_edges g.edges) }
+  fourth_is = relabel_nodes_half changes.kept_nodes third ∙ ap (λ (h : Graph). record h { nodes = write changes.kept_nodes h.nodes }) third_is
 
-  fifth_is : fifth ≡ record { nodes = (stepped r g m a).nodes; edges = write kept_pairs (cut plan.cut_edges g.edges); next_node = (stepped r g m a).next_node; next_edge = g.next_edge }
+  fifth_is : fifth ≡ record { nodes = (stepped r g m a).nodes; edges = write kept_pairs (cut changes.cut_edges g.edges); next_node = (stepped r g m a).next_node; next_edge = g.next_edge }
   fifth_is =
-      let nodes = placed m.nodes origin_of node r.right_nodes (cut plan.cut_nodes g.nodes) g.next_node (λ j i e. let k = keeps_nodes r g m a b w o in k.below i (k.within j i e)) in
+      let nodes = placed m.nodes origin_of node r.right_nodes (cut changes.cut_nodes g.nodes) g.next_node (λ j i e. let k = keeps_nodes r g m a b w o in k.below i (k.within j i e)) in
       let count = ap (λ n. g.next_node + n) (length-new m.nodes origin_of node r.right_nodes) in
-      with_nodes_half plan.new_nodes fourth
-      ∙ ap (λ (h : Graph). record h { nodes = add_all plan.new_nodes h.nodes h.next_node; next_node = h.next_node + length plan.new_nodes }) fourth_is
-      ∙ (λ i. record { nodes = nodes i; edges = write kept_pairs (cut plan.cut_edges g.edges); next_node = count i; next_edge = g.next_edge })
+      with_nodes_half changes.new_nodes fourth
+      ∙ ap (λ (h : Graph). record h { nodes = add_all changes.new_nodes h.nodes h.next_node; next_node = h.next_node + length changes.new_nodes }) fourth_is
+      ∙ (λ i. record { nodes = nodes i; edges = write kept_pairs (cut changes.cut_edges g.edges); next_node = count i; next_edge = g.next_edge })
 
-  last_is : made_by plan g ≡ stepped r g m a
+  last_is : made_by changes g ≡ stepped r g m a
   last_is =
-      let edges = placed m.edges (kept_edge r) edge r.right_edges (cut plan.cut_edges g.edges) g.next_edge (λ j i e. let k = keeps_edges r g m a b w o in k.below i (k.within j i e)) in
+      let edges = placed m.edges (kept_edge r) edge r.right_edges (cut changes.cut_edges g.edges) g.next_edge (λ j i e. let k = keeps_edges r g m a b w o in k.below i (k.within j i e)) in
       let count = ap (λ n. g.next_edge + n) (length-new m.edges (kept_edge r) edge r.right_edges) in
-      with_edges_half plan.new_edges fifth
-      ∙ ap (λ (h : Graph). record h { edges = add_all plan.new_edges h.edges h.next_edge; next_edge = h.next_edge + length plan.new_edges }) fifth_is
+      with_edges_half changes.new_edges fifth
+      ∙ ap (λ (h : Graph). record h { edges = add_all changes.new_edges h.edges h.next_edge; next_edge = h.next_edge + length changes.new_edges }) fifth_is
       ∙ (λ i. record { nodes = (stepped r g m a).nodes; edges = edges i; next_node = (stepped r g m a).next_node; next_edge = count i })
 
   -- a node that goes is there, and no edge is left at it
-  goes_there : (n : ℕ) → Contains plan.cut_nodes n → IsSome (node_at second n)
+  goes_there : (n : ℕ) → Contains changes.cut_nodes n → IsSome (node_at second n)
   goes_there n c =
       let z = gone_place (stays (kept_nodes r)) m.nodes n c in
       subst (λ (h : Graph). IsSome (node_at h n)) (sym second_is) (subst (λ i. IsSome (node_at g i)) z.2 (node_there r g m a b w o z.0 z.1))
@@ -165,7 +165,7 @@ module _ (r : Rule) (g : Graph) (m : Found) (a : Assignment) (b : IsNumbered g) 
       ]
 
   -- and one that does not go ends at no node that goes
-  end_differs : (n e : ℕ) (d : Edge) → Contains plan.cut_nodes n → edge_at g e ≡ Some d → (Contains plan.cut_edges e → ⊥) → (d.source ≡ n) ⊎ (d.target ≡ n) → ⊥
+  end_differs : (n e : ℕ) (d : Edge) → Contains changes.cut_nodes n → edge_at g e ≡ Some d → (Contains changes.cut_edges e → ⊥) → (d.source ≡ n) ⊎ (d.target ≡ n) → ⊥
   end_differs n e d c i out at =
       let unimaged = gone_apart_images (kept_nodes r) m.nodes g.next_node (images_of r g m) (keeps_nodes r g m a b w o) (node_places r g m a b w o) n c in
       let z = gone_place (stays (kept_nodes r)) m.nodes n c in
@@ -180,12 +180,12 @@ module _ (r : Rule) (g : Graph) (m : Found) (a : Assignment) (b : IsNumbered g) 
         | inr gone ↦ out gone
       ]
 
-  free : (n : ℕ) → Contains plan.cut_nodes n → HasNoEdges second n
+  free : (n : ℕ) → Contains changes.cut_nodes n → HasNoEdges second n
   free n c e d h =
-      let f = ends_stay plan.kept_edges first e d h in
-      let i : get (cut plan.cut_edges g.edges) e ≡ Some f.0 = sym (ap (λ (h : Graph). edge_at h e) first_is) ∙ f.1 in
-      let out : Contains plan.cut_edges e → ⊥ = λ x. none-some f.0 (sym (dropped plan.cut_edges g.edges e x) ∙ i) in
-      let was : edge_at g e ≡ Some f.0 = sym (left plan.cut_edges g.edges e out) ∙ i in
+      let f = ends_stay changes.kept_edges first e d h in
+      let i : get (cut changes.cut_edges g.edges) e ≡ Some f.0 = sym (ap (λ (h : Graph). edge_at h e) first_is) ∙ f.1 in
+      let out : Contains changes.cut_edges e → ⊥ = λ x. none-some f.0 (sym (dropped changes.cut_edges g.edges e x) ∙ i) in
+      let was : edge_at g e ≡ Some f.0 = sym (left changes.cut_edges g.edges e out) ∙ i in
       (λ s. end_differs n e f.0 c was out (inl (f.2 ∙ s)), λ t. end_differs n e f.0 c was out (inr (f.3 ∙ t)))
 
   -- a kept node is still there
@@ -193,8 +193,8 @@ module _ (r : Rule) (g : Graph) (m : Found) (a : Assignment) (b : IsNumbered g) 
   node_stays j i e =
       let k = node_kept j i e in
       let n = slice_index m.nodes i in
-      let stay : Contains plan.cut_nodes n → ⊥ = λ c. gone_apart_images (kept_nodes r) m.nodes g.next_node (images_of r g m) (keeps_nodes r g m a b w o) (node_places r g m a b w o) n c k.1 in
-      let same : node_at third n ≡ node_at g n = ap (λ (h : Graph). node_at h n) third_is ∙ left plan.cut_nodes g.nodes n stay in
+      let stay : Contains changes.cut_nodes n → ⊥ = λ c. gone_apart_images (kept_nodes r) m.nodes g.next_node (images_of r g m) (keeps_nodes r g m a b w o) (node_places r g m a b w o) n c k.1 in
+      let same : node_at third n ≡ node_at g n = ap (λ (h : Graph). node_at h n) third_is ∙ left changes.cut_nodes g.nodes n stay in
       rw same (node_there r g m a b w o i k.0)
 
   -- an image of a right node is there before the edges are put
@@ -210,34 +210,34 @@ module _ (r : Rule) (g : Graph) (m : Found) (a : Assignment) (b : IsNumbered g) 
   either_there true j k l h = end_there j l
   either_there false j k l h = end_there k h
 
-  ends_there : (k : ℕ) (d : Edge) → slice_get plan.new_edges k ≡ Some d → IsSome (node_at fifth d.source) × IsSome (node_at fifth d.target)
+  ends_there : (k : ℕ) (d : Edge) → slice_get changes.new_edges k ≡ Some d → IsSome (node_at fifth d.source) × IsSome (node_at fifth d.target)
   ends_there k d h =
       from_new m.edges (kept_edge r) edge r.right_edges (λ (x : Edge). IsSome (node_at fifth x.source) × IsSome (node_at fifth x.target))
       (λ j q i.
       let l = o.right_ends j q i in
       (either_there (is_exchanged m q) q.target q.source l.1 l.0, either_there (is_exchanged m q) q.source q.target l.0 l.1)) k d h
 
-  cut_there : (e : ℕ) → Contains plan.cut_edges e → IsSome (edge_at g e)
+  cut_there : (e : ℕ) → Contains changes.cut_edges e → IsSome (edge_at g e)
   cut_there e c = let z = gone_place (stays (kept_edges r)) m.edges e c in subst (λ i. IsSome (edge_at g i)) z.2 (edge_there r g m a b w o z.0 z.1)
 
-  makes : MakesStep r g m a plan
+  makes : MakesStep r g m a changes
   makes = record {
     may = record {
-      cut_edges = edges_may plan.cut_edges g cut_there (gone_apart (stays (kept_edges r)) m.edges w.edges_apart);
+      cut_edges = edges_may changes.cut_edges g cut_there (gone_apart (stays (kept_edges r)) m.edges w.edges_apart);
       kept_edges = relabels.0;
-      cut_nodes = nodes_may plan.cut_nodes second (λ n c. (goes_there n c, free n c)) (gone_apart (stays (kept_nodes r)) m.nodes w.nodes_apart);
+      cut_nodes = nodes_may changes.cut_nodes second (λ n c. (goes_there n c, free n c)) (gone_apart (stays (kept_nodes r)) m.nodes w.nodes_apart);
       kept_nodes = kept_may m.nodes origin_of node r.right_nodes third node_stays;
-      new_edges = ends_may plan.new_edges fifth ends_there;
+      new_edges = ends_may changes.new_edges fifth ends_there;
     };
     same = last_is;
   }
 
-  -- whatever holds the plan
-  pub makes_step : (p : Planned) → p ≡ plan → MakesStep r g m a p
+  -- whatever holds the changes
+  pub makes_step : (p : StepChanges) → p ≡ changes → MakesStep r g m a p
   makes_step p e = subst (MakesStep r g m a) (sym e) makes
 
-  pub keeps_held : (p : Planned) → p ≡ plan → (ks : List KeptEdge) → kept_edge_pairs g ks ≡ p.kept_edges → KeepsAs ks g (drop_edges p.cut_edges g)
-  keeps_held p e = subst (λ (z : Planned). (ks : List KeptEdge) → kept_edge_pairs g ks ≡ z.kept_edges → KeepsAs ks g (drop_edges z.cut_edges g)) (sym e) keeps_as
+  pub keeps_held : (p : StepChanges) → p ≡ changes → (ks : List KeptEdge) → kept_edge_pairs g ks ≡ p.kept_edges → KeepsAs ks g (drop_edges p.cut_edges g)
+  keeps_held p e = subst (λ (z : StepChanges). (ks : List KeptEdge) → kept_edge_pairs g ks ≡ z.kept_edges → KeepsAs ks g (drop_edges z.cut_edges g)) (sym e) keeps_as
 
 -- ---- by the assignment that its images tell
 

@@ -13,7 +13,7 @@ use Rattle.gp_step.specs.declared.inverse.Inverse.{Inverse}
 use Rattle.gp_step.specs.declared.inverse.Inverse.TheVariants.{DropNode, DropEdge, PutNode, PutEdge, Relabel, RelabelEdge, BeginAt}
 use Rattle.gp_step.specs.declared.made.Carried.{Carried}
 use Rattle.gp_step.specs.declared.made.MadeEdge.{MadeEdge}
-use Rattle.gp_step.specs.inside.Plans.{drop_edges, drop_nodes, with_nodes, with_edges, MayDropEdges, MayDropNodes, MayPutEdges}
+use Rattle.gp_step.specs.inside.Changes.{drop_edges, drop_nodes, with_nodes, with_edges, MayDropEdges, MayDropNodes, MayPutEdges}
 use Rattle.gp_step.specs.inside.Made.{node_of, edge_of, nodes_of, edges_of}
 use Rattle.gp_step.specs.Undo.{inverse_of, MayUndo, undone_by, Fits, Undoes}
 use Rattle.gp_step.specs.inside.Notes.{KeepsUndo, KeepsUndoBehind}

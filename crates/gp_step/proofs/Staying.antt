@@ -11,7 +11,7 @@ use Rattle.gp_values.specs.Graph.{Graph, Edge, edge_at, relabeled_edge}
 use Rattle.gp_values.proofs.Graphs.{get-insert_apart}
 use Rattle.gp_step.specs.declared.made.KeptEdge.{KeptEdge}
 use Rattle.gp_step.specs.declared.made.KeptEdge.TheVariants.{Stays, Carries}
-use Rattle.gp_step.specs.inside.Plans.{kept_first, kept_of, relabel_edges}
+use Rattle.gp_step.specs.inside.Changes.{kept_first, kept_of, relabel_edges}
 use Rattle.gp_step.specs.inside.Made.{carried_at, kept_edge_pairs, KeepsAs}
 use Rattle.gp_step.proofs.Halves.{none_in, split_head, at_head, behind, apart_rest, apart_head, same_place}
 use Rattle.gp_step.proofs.Afters.{some_is}

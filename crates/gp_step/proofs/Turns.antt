@@ -11,7 +11,7 @@ use Rattle.gp_values.specs.Apart.{AreApart}
 use Rattle.gp_values.specs.Graph.{Graph, Node, Edge, HasNoEdges, node_at, edge_at, with_node, with_edge, without_node, without_edge, relabeled, relabeled_edge}
 use Rattle.gp_values.proofs.Graphs.{get-remove_apart, get-insert_cases, IsSome-insert}
 use Rattle.gp_step.specs.Halves.{image_of, next_of, gone, cut, put_all}
-use Rattle.gp_step.specs.inside.Plans.{kept_first, kept_of, new_first, new_of, carried_by, drop_edges, relabel_edges, drop_nodes, relabel_nodes, with_nodes, with_edges, MayDropEdges, MayRelabelEdges, MayDropNodes, MayRelabelNodes, MayPutEdges}
+use Rattle.gp_step.specs.inside.Changes.{kept_first, kept_of, new_first, new_of, carried_by, drop_edges, relabel_edges, drop_nodes, relabel_nodes, with_nodes, with_edges, MayDropEdges, MayRelabelEdges, MayDropNodes, MayRelabelNodes, MayPutEdges}
 use Rattle.gp_step.proofs.Halves.{some_same, behind, at_head, apart_rest, apart_head, gone_place, stands_in, count-cons}
 
 -- ---- one half

@@ -4,8 +4,8 @@ ghost use Rattle.std.specs.Prelude.{◌≡◌, ◌<◌, ◌≤◌, ◌+◌, ◌-
 ghost use Rattle.gp_values.specs.Graph.{HasNoEdges, node_at, edge_at, with_node, with_edge, without_node, without_edge, relabeled, relabeled_edge};
 ghost use Rattle.gp_step.specs.declared.inverse.Inverse.{Inverse as AnyInverse};
 ghost use Rattle.gp_step.specs.declared.inverse.Inverse.TheVariants as inverses;
-ghost use Rattle.gp_step.specs.inside.Plans.{MayDropEdges, MayKeepEdges, MayDropNodes, MayRelabelNodes, MayPutEdges, kept_number, kept_one, with_nodes, with_edges};
-ghost use Rattle.gp_step.specs.inside.Plans as plans;
+ghost use Rattle.gp_step.specs.inside.Changes.{MayDropEdges, MayKeepEdges, MayDropNodes, MayRelabelNodes, MayPutEdges, kept_number, kept_one, with_nodes, with_edges};
+ghost use Rattle.gp_step.specs.inside.Changes as meant;
 ghost use Rattle.gp_step.specs.inside.Made.{node_of, edge_of, nodes_of, edges_of, kept_pairs};
 ghost use Rattle.gp_step.specs.inside.Notes.{KeepsUndo, KeepsUndoBehind};
 
@@ -176,7 +176,7 @@ fn add_edge(graph: &mut Graph, edge: MadeEdge)
 pub(crate) fn cut_edges(graph: &mut Graph, taken: &mut Vec<Inverse>, edges: &[u64])
     requires there { MayDropEdges edges.now graph.old.graph }
     requires spare { vec_len taken.old + length edges.now ≤ vec_capacity taken.old }
-    ensures graph { graph.new.graph ≡ plans.drop_edges edges.now graph.old.graph }
+    ensures graph { graph.new.graph ≡ meant.drop_edges edges.now graph.old.graph }
     ensures undo { KeepsUndo (reverse taken.old.items) graph.old.graph (reverse taken.new.items) graph.new.graph }
     ensures room { vec_capacity taken.old - vec_len taken.old ≤ (vec_capacity taken.new - vec_len taken.new) + length edges.now }
     ensures node_room { graph.new.node_room ≡ graph.old.node_room }
@@ -191,7 +191,7 @@ pub(crate) fn cut_edges(graph: &mut Graph, taken: &mut Vec<Inverse>, edges: &[u6
 pub(crate) fn keep_edges(graph: &mut Graph, taken: &mut Vec<Inverse>, kept: Vec<KeptEdge>)
     requires there { MayKeepEdges kept.items graph.old.graph }
     requires spare { vec_len taken.old + length kept.items ≤ vec_capacity taken.old }
-    ensures graph { graph.new.graph ≡ plans.keep_edges kept.items graph.old.graph }
+    ensures graph { graph.new.graph ≡ meant.keep_edges kept.items graph.old.graph }
     ensures undo { KeepsUndo (reverse taken.old.items) graph.old.graph (reverse taken.new.items) graph.new.graph }
     ensures room { vec_capacity taken.old - vec_len taken.old ≤ (vec_capacity taken.new - vec_len taken.new) + length kept.items }
     ensures node_room { graph.new.node_room ≡ graph.old.node_room }
@@ -208,7 +208,7 @@ pub(crate) fn keep_edges(graph: &mut Graph, taken: &mut Vec<Inverse>, kept: Vec<
 pub(crate) fn cut_nodes(graph: &mut Graph, taken: &mut Vec<Inverse>, nodes: &[u64])
     requires there { MayDropNodes nodes.now graph.old.graph }
     requires spare { vec_len taken.old + length nodes.now ≤ vec_capacity taken.old }
-    ensures graph { graph.new.graph ≡ plans.drop_nodes nodes.now graph.old.graph }
+    ensures graph { graph.new.graph ≡ meant.drop_nodes nodes.now graph.old.graph }
     ensures undo { KeepsUndo (reverse taken.old.items) graph.old.graph (reverse taken.new.items) graph.new.graph }
     ensures room { vec_capacity taken.old - vec_len taken.old ≤ (vec_capacity taken.new - vec_len taken.new) + length nodes.now }
     ensures node_room { graph.new.node_room ≡ graph.old.node_room }
@@ -223,7 +223,7 @@ pub(crate) fn cut_nodes(graph: &mut Graph, taken: &mut Vec<Inverse>, nodes: &[u6
 pub(crate) fn relabel_nodes(graph: &mut Graph, taken: &mut Vec<Inverse>, kept: Vec<Kept>)
     requires there { MayRelabelNodes (kept_pairs kept.items) graph.old.graph }
     requires spare { vec_len taken.old + length kept.items ≤ vec_capacity taken.old }
-    ensures graph { graph.new.graph ≡ plans.relabel_nodes (kept_pairs kept.items) graph.old.graph }
+    ensures graph { graph.new.graph ≡ meant.relabel_nodes (kept_pairs kept.items) graph.old.graph }
     ensures undo { KeepsUndo (reverse taken.old.items) graph.old.graph (reverse taken.new.items) graph.new.graph }
     ensures node_room { graph.new.node_room ≡ graph.old.node_room }
     ensures edge_room { graph.new.edge_room ≡ graph.old.edge_room }

@@ -11,12 +11,12 @@
 #![tactic(auto)]
 
 mod applying;
+mod changes;
 mod edits;
 mod inverse;
 mod inverses;
 pub mod laws;
 mod made;
-mod plan;
 mod same;
 mod step;
 mod taking_back;

@@ -12,7 +12,7 @@ ghost use Rattle.gp_syntax.specs.Tree.{rule_of_tree, right_node_of, right_edge_o
 ghost use Rattle.gp_step.specs.Halves.{image_of, next_of};
 ghost use Rattle.gp_step.specs.Edits.{images_of, origin_of};
 ghost use Rattle.gp_step.specs.Edits as edits;
-ghost use Rattle.gp_step.specs.inside.Plans.{kept_first, kept_of, new_first, new_of, carried_by};
+ghost use Rattle.gp_step.specs.inside.Changes.{kept_first, kept_of, new_first, new_of, carried_by};
 ghost use Rattle.gp_step.specs.inside.Made.{IsReady, IsRightLabel, label_at, node_of, edge_of, nodes_of, edges_of, kept_pairs, kept_edge_pair, kept_edge_pairs};
 ghost use Rattle.gp_step.specs.inside.Same.{IsUnchanged};
 

@@ -5,38 +5,38 @@ ghost use Rattle.gp_syntax.specs.Assigned.{assigned_of};
 ghost use Rattle.gp_syntax.specs.Tree.{rule_of_tree};
 ghost use Rattle.gp_step.specs.Undo.{Undoes};
 ghost use Rattle.gp_step.specs.Edits.{stepped};
-ghost use Rattle.gp_step.specs.inside.Made.{IsReady, KeepsAs, planned};
-ghost use Rattle.gp_step.specs.inside.Plans.{MayMake, drop_edges, made_by};
+ghost use Rattle.gp_step.specs.inside.Made.{IsReady, KeepsAs, changes_held};
+ghost use Rattle.gp_step.specs.inside.Changes.{MayMake, drop_edges, made_by};
 
+use crate::changes::{Changes, changes_of};
 use crate::edits::{add_edges, add_nodes, cut_edges, cut_nodes, keep_edges, relabel_nodes};
 use crate::inverse::Inverse;
 use crate::inverses::Undo;
-use crate::plan::{Plan, plan_of};
 use gp_graph::Graph;
 use gp_memory::NoMemory;
 use gp_syntax::{Assignment, Found, RuleParts};
 use std::alloc::Global;
 
 /// Makes the edits of a step, for which there is room, and keeps what takes them back.
-pub(crate) fn make(graph: &mut Graph, room: Vec<Inverse>, plan: Plan) -> Undo
-    requires may { MayMake (planned graph.old.graph plan) graph.old.graph }
-    requires keeps { KeepsAs plan.kept_edges.items graph.old.graph (drop_edges plan.cut_edges.items graph.old.graph) }
+pub(crate) fn make(graph: &mut Graph, room: Vec<Inverse>, changes: Changes) -> Undo
+    requires may { MayMake (changes_held graph.old.graph changes) graph.old.graph }
+    requires keeps { KeepsAs changes.kept_edges.items graph.old.graph (drop_edges changes.cut_edges.items graph.old.graph) }
     requires none { room.items ≡ [] }
-    requires spare { length plan.cut_edges.items + length plan.kept_edges.items + length plan.cut_nodes.items + length plan.kept_nodes.items ≤ vec_capacity room }
-    requires node_room { length plan.new_nodes.items ≤ graph.old.node_room }
-    requires edge_room { length plan.new_edges.items ≤ graph.old.edge_room }
-    ensures graph { graph.new.graph ≡ made_by (planned graph.old.graph plan) graph.old.graph }
+    requires spare { length changes.cut_edges.items + length changes.kept_edges.items + length changes.cut_nodes.items + length changes.kept_nodes.items ≤ vec_capacity room }
+    requires node_room { length changes.new_nodes.items ≤ graph.old.node_room }
+    requires edge_room { length changes.new_edges.items ≤ graph.old.edge_room }
+    ensures graph { graph.new.graph ≡ made_by (changes_held graph.old.graph changes) graph.old.graph }
     ensures undo { Undoes result graph.new.graph graph.old.graph }
 {
     let mut taken = room;
-    let nodes_made = plan.new_nodes.len() as u64;
-    let edges_made = plan.new_edges.len() as u64;
-    cut_edges(graph, &mut taken, &plan.cut_edges);
-    keep_edges(graph, &mut taken, plan.kept_edges);
-    cut_nodes(graph, &mut taken, &plan.cut_nodes);
-    relabel_nodes(graph, &mut taken, plan.kept_nodes);
-    add_nodes(graph, plan.new_nodes);
-    add_edges(graph, plan.new_edges);
+    let nodes_made = changes.new_nodes.len() as u64;
+    let edges_made = changes.new_edges.len() as u64;
+    cut_edges(graph, &mut taken, &changes.cut_edges);
+    keep_edges(graph, &mut taken, changes.kept_edges);
+    cut_nodes(graph, &mut taken, &changes.cut_nodes);
+    relabel_nodes(graph, &mut taken, changes.kept_nodes);
+    add_nodes(graph, changes.new_nodes);
+    add_edges(graph, changes.new_edges);
     Undo::new(edges_made, nodes_made, taken)
 }
 
@@ -54,10 +54,13 @@ pub(crate) fn apply_by(
     ensures err { OnErr result (graph.new.graph ≡ graph.old.graph) }
 {
     let _sound = graph.next_numbers();
-    let plan = plan_of(alloc, parts, graph, found, assignment)?;
-    let edges = plan.cut_edges.len() + plan.kept_edges.len();
-    let nodes = plan.cut_nodes.len() + plan.kept_nodes.len();
+    let changes = changes_of(alloc, parts, graph, found, assignment)?;
+    let edges = changes.cut_edges.len() + changes.kept_edges.len();
+    let nodes = changes.cut_nodes.len() + changes.kept_nodes.len();
     let room = Vec::with_capacity(alloc, edges + nodes)?;
-    graph.reserve(plan.new_nodes.len() as u64, plan.new_edges.len() as u64)?;
-    Ok(make(graph, room, plan))
+    graph.reserve(
+        changes.new_nodes.len() as u64,
+        changes.new_edges.len() as u64,
+    )?;
+    Ok(make(graph, room, changes))
 }

@@ -11,7 +11,7 @@ use Rattle.gp_step.specs.declared.made.Kept.{Kept}
 use Rattle.gp_step.specs.declared.made.KeptEdge.{KeptEdge}
 use Rattle.gp_step.specs.declared.made.KeptEdge.TheVariants.{Stays, Carries}
 use Rattle.gp_step.specs.declared.made.MadeEdge.{MadeEdge}
-use Rattle.gp_step.specs.declared.plan.Plan.{Plan}
+use Rattle.gp_step.specs.declared.changes.Changes.{Changes}
 use Rattle.gp_values.specs.declared.atom.Atom.{Atom}
 use Rattle.gp_syntax.specs.declared.rule.RuleParts.{RuleParts}
 use Rattle.gp_syntax.specs.Assigned.{PartialAssignment, IsWhole, assigned_of}
@@ -22,7 +22,7 @@ use Rattle.gp_syntax.specs.Step.{AppliesBy}
 use Rattle.gp_syntax.specs.Tree.{rule_of_tree}
 use Rattle.gp_syntax.specs.WellFormed.{IsWellFormed, IsWithin}
 use Rattle.gp_step.specs.Edits.{value_or_empty}
-use Rattle.gp_step.specs.inside.Plans.{Planned, carried_by, relabel_edges, keep_edges, MayKeepEdges}
+use Rattle.gp_step.specs.inside.Changes.{StepChanges, carried_by, relabel_edges, keep_edges, MayKeepEdges}
 
 -- a match applies, by this assignment
 pub record IsReady (p : RuleParts) (g : Graph) (m : Found) (b : PartialAssignment) : Type 0 where
@@ -79,8 +79,8 @@ pub record KeepsAs (ks : List KeptEdge) (g h : Graph) : Type 0 where
   pub same : keep_edges ks h ≡ relabel_edges (kept_edge_pairs g ks) h
 
 -- the edits that are held, over this graph
-abbrev pub planned : Graph → Plan → Planned
-planned g p = record {
+abbrev pub changes_held : Graph → Changes → StepChanges
+changes_held g p = record {
   cut_edges = p.cut_edges.items;
   kept_edges = kept_edge_pairs g p.kept_edges.items;
   cut_nodes = p.cut_nodes.items;

@@ -1,7 +1,7 @@
 use Rattle.std.proofs.Common.{◌≡◌, ◌≤◌, ◌-◌, reverse, length}
 use Rattle.gp_step.specs.declared.inverse.Inverse.TheVariants.{DropEdge}
 use Rattle.gp_step.specs.inside.Notes.{KeepsUndoBehind}
-use Rattle.gp_step.specs.inside.Plans.{with_edges, MayPutEdges}
+use Rattle.gp_step.specs.inside.Changes.{with_edges, MayPutEdges}
 use Rattle.gp_step.specs.inside.Made.{edges_of}
 use Rattle.gp_step.proofs.edits.add_edges.Given as goal
 

@@ -1,7 +1,7 @@
 use Rattle.std.proofs.Common.{◌≡◌, ◌≤◌, ◌-◌, reverse, length}
 use Rattle.gp_step.specs.declared.inverse.Inverse.TheVariants.{DropNode}
 use Rattle.gp_step.specs.inside.Notes.{KeepsUndoBehind}
-use Rattle.gp_step.specs.inside.Plans.{with_nodes}
+use Rattle.gp_step.specs.inside.Changes.{with_nodes}
 use Rattle.gp_step.specs.inside.Made.{nodes_of}
 use Rattle.gp_step.proofs.edits.add_nodes.Given as goal
 

@@ -1,6 +1,6 @@
 use Rattle.std.proofs.Common.{◌≡◌, ◌≤◌, ◌-◌, ◌+◌, drop, reverse, vec_len, vec_capacity}
 use Rattle.gp_step.specs.inside.Notes.{KeepsUndo}
-use Rattle.gp_step.specs.inside.Plans.{drop_edges, MayDropEdges}
+use Rattle.gp_step.specs.inside.Changes.{drop_edges, MayDropEdges}
 use Rattle.gp_step.proofs.edits.cut_edges.Given as goal
 
 abbrev pub invariant-loop-e : goal.invariant-loop-e

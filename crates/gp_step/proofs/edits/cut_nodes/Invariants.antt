@@ -1,6 +1,6 @@
 use Rattle.std.proofs.Common.{◌≡◌, ◌≤◌, ◌-◌, ◌+◌, drop, reverse, vec_len, vec_capacity}
 use Rattle.gp_step.specs.inside.Notes.{KeepsUndo}
-use Rattle.gp_step.specs.inside.Plans.{drop_nodes, MayDropNodes}
+use Rattle.gp_step.specs.inside.Changes.{drop_nodes, MayDropNodes}
 use Rattle.gp_step.proofs.edits.cut_nodes.Given as goal
 
 abbrev pub invariant-loop-n : goal.invariant-loop-n

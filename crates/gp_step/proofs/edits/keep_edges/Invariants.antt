@@ -1,6 +1,6 @@
 use Rattle.std.proofs.Common.{◌≡◌, ◌≤◌, ◌-◌, ◌+◌, reverse, length, vec_len, vec_capacity}
 use Rattle.gp_step.specs.inside.Notes.{KeepsUndo}
-use Rattle.gp_step.specs.inside.Plans.{keep_edges, MayKeepEdges}
+use Rattle.gp_step.specs.inside.Changes.{keep_edges, MayKeepEdges}
 use Rattle.gp_step.proofs.edits.keep_edges.Given as goal
 
 abbrev pub invariant-keeps : goal.invariant-keeps

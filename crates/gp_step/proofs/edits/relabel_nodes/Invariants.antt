@@ -1,6 +1,6 @@
 use Rattle.std.proofs.Common.{◌≡◌, ◌≤◌, ◌+◌, reverse, length, vec_len, vec_capacity}
 use Rattle.gp_step.specs.inside.Notes.{KeepsUndo}
-use Rattle.gp_step.specs.inside.Plans.{relabel_nodes, MayRelabelNodes}
+use Rattle.gp_step.specs.inside.Changes.{relabel_nodes, MayRelabelNodes}
 use Rattle.gp_step.specs.inside.Made.{kept_pairs}
 use Rattle.gp_step.proofs.edits.relabel_nodes.Given as goal
 

@@ -5,7 +5,7 @@ use Rattle.gp_syntax.specs.Assigned.{assigned_of}
 use Rattle.gp_syntax.specs.Rule.{RightEdge, kept_edge}
 use Rattle.gp_syntax.specs.Tree.{rule_of_tree, right_edge_of}
 use Rattle.gp_step.specs.Edits.{made_edge}
-use Rattle.gp_step.specs.inside.Plans.{kept_first, kept_of, new_first, new_of, carried_by}
+use Rattle.gp_step.specs.inside.Changes.{kept_first, kept_of, new_first, new_of, carried_by}
 use Rattle.gp_step.specs.inside.Made.{edge_of, edges_of, kept_edge_pair, kept_edge_pairs}
 use Rattle.gp_step.proofs.Labels.{edge_label, edge_origin, edge_ends, edge_keeps}
 use Rattle.gp_step.proofs.Collecting.{item_at, from_item, kept_more, new_more}

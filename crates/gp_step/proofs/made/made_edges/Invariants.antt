@@ -3,7 +3,7 @@ use Rattle.gp_syntax.specs.Rule.{RightEdge, kept_edge}
 use Rattle.gp_syntax.specs.Assigned.{assigned_of}
 use Rattle.gp_syntax.specs.Tree.{rule_of_tree, right_edge_of}
 use Rattle.gp_step.specs.Edits.{made_edge}
-use Rattle.gp_step.specs.inside.Plans.{kept_of, new_of, carried_by}
+use Rattle.gp_step.specs.inside.Changes.{kept_of, new_of, carried_by}
 use Rattle.gp_step.specs.inside.Made.{edges_of, kept_edge_pairs}
 use Rattle.gp_step.proofs.made.made_edges.Given as goal
 

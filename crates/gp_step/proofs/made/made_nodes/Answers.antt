@@ -4,7 +4,7 @@ use Rattle.gp_syntax.specs.Assigned.{assigned_of}
 use Rattle.gp_syntax.specs.Tree.{rule_of_tree, right_node_of}
 use Rattle.gp_step.specs.Halves.{image_of, images_from, next_of}
 use Rattle.gp_step.specs.Edits.{made_node, origin_of}
-use Rattle.gp_step.specs.inside.Plans.{kept_first, kept_of, new_first, new_of}
+use Rattle.gp_step.specs.inside.Changes.{kept_first, kept_of, new_first, new_of}
 use Rattle.gp_step.specs.inside.Made.{kept_pairs, nodes_of}
 use Rattle.gp_step.proofs.Labels.{node_label, node_origin, node_count}
 use Rattle.gp_step.proofs.Collecting.{item_at, from_item, kept_more, new_more}

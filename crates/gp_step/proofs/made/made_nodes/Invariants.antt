@@ -3,7 +3,7 @@ use Rattle.gp_syntax.specs.Assigned.{assigned_of}
 use Rattle.gp_syntax.specs.Tree.{rule_of_tree, right_node_of}
 use Rattle.gp_step.specs.Halves.{images_from}
 use Rattle.gp_step.specs.Edits.{made_node, images_of, origin_of}
-use Rattle.gp_step.specs.inside.Plans.{kept_of, new_of}
+use Rattle.gp_step.specs.inside.Changes.{kept_of, new_of}
 use Rattle.gp_step.specs.inside.Made.{kept_pairs, nodes_of}
 use Rattle.gp_step.proofs.made.made_nodes.Given as goal
 

@@ -2,8 +2,8 @@ use Rattle.std.proofs.Common.{refl, ap, ◌∙◌}
 use Rattle.gp_values.specs.Graph.{Graph}
 use Rattle.gp_syntax.specs.Assigned.{assigned_of}
 use Rattle.gp_syntax.specs.Tree.{rule_of_tree}
-use Rattle.gp_step.specs.inside.Made.{planned}
-use Rattle.gp_step.specs.inside.Plans.{made_by}
+use Rattle.gp_step.specs.inside.Made.{changes_held}
+use Rattle.gp_step.specs.inside.Changes.{made_by}
 use Rattle.gp_step.proofs.Afters.{numbered}
 use Rattle.gp_step.proofs.Makes.{makes_step, keeps_held}
 use Rattle.gp_step.proofs.step.apply_by.Goals as goal
@@ -11,18 +11,18 @@ use Rattle.gp_step.proofs.step.apply_by.Goals as goal
 pub make-requires-clause-may : goal.make-requires-clause-may
 make-requires-clause-may c =
     let g = c.args.graph.now.graph in
-    let m = makes_step (rule_of_tree c.args.parts.now) g c.args.found.now (assigned_of c.args.assignment.now) (numbered g c.next_numbers-sound.ensures.sound) c.requires.applies.is_match c.requires.well_formed (planned g c.in_ok-plan.plan) c.in_ok-plan.ensures in
+    let m = makes_step (rule_of_tree c.args.parts.now) g c.args.found.now (assigned_of c.args.assignment.now) (numbered g c.next_numbers-sound.ensures.sound) c.requires.applies.is_match c.requires.well_formed (changes_held g c.in_ok-changes.changes) c.in_ok-changes.ensures in
     rw c.in_ok-reserve.ensures.graph m.may
 
 pub make-requires-clause-keeps : goal.make-requires-clause-keeps
 make-requires-clause-keeps c =
     let g = c.args.graph.now.graph in
-    let p = planned g c.in_ok-plan.plan in
+    let p = changes_held g c.in_ok-changes.changes in
     rw c.in_ok-reserve.ensures.graph
-    (keeps_held (rule_of_tree c.args.parts.now) g c.args.found.now (assigned_of c.args.assignment.now) (numbered g c.next_numbers-sound.ensures.sound) c.requires.applies.is_match c.requires.well_formed p c.in_ok-plan.ensures c.in_ok-plan.plan.kept_edges.items refl)
+    (keeps_held (rule_of_tree c.args.parts.now) g c.args.found.now (assigned_of c.args.assignment.now) (numbered g c.next_numbers-sound.ensures.sound) c.requires.applies.is_match c.requires.well_formed p c.in_ok-changes.ensures c.in_ok-changes.changes.kept_edges.items refl)
 
 pub returns-clause-ok : goal.returns-clause-ok
 returns-clause-ok c =
     let g = c.args.graph.now.graph in
-    let m = makes_step (rule_of_tree c.args.parts.now) g c.args.found.now (assigned_of c.args.assignment.now) (numbered g c.next_numbers-sound.ensures.sound) c.requires.applies.is_match c.requires.well_formed (planned g c.in_ok-plan.plan) c.in_ok-plan.ensures in
-    c.make.ensures.graph ∙ ap (λ (h : Graph). made_by (planned h c.in_ok-plan.plan) h) c.in_ok-reserve.ensures.graph ∙ m.same
+    let m = makes_step (rule_of_tree c.args.parts.now) g c.args.found.now (assigned_of c.args.assignment.now) (numbered g c.next_numbers-sound.ensures.sound) c.requires.applies.is_match c.requires.well_formed (changes_held g c.in_ok-changes.changes) c.in_ok-changes.ensures in
+    c.make.ensures.graph ∙ ap (λ (h : Graph). made_by (changes_held h c.in_ok-changes.changes) h) c.in_ok-reserve.ensures.graph ∙ m.same

@@ -7,7 +7,7 @@ use Rattle.gp_syntax.specs.Rule as meant
 use Rattle.gp_syntax.specs.Tree.{right_node_of}
 use Rattle.gp_step.specs.Edits.{origin_of}
 use Rattle.gp_step.proofs.Labels.{any_mapped}
-use Rattle.gp_step.proofs.plan.keeps_node.Goals as goal
+use Rattle.gp_step.proofs.changes.keeps_node.Goals as goal
 
 pub returns : goal.returns
 returns c =

@@ -60,7 +60,7 @@ abbrev pub with_edges : List Edge → Graph → Graph
 with_edges ds g = fold with_edge g ds
 
 -- in the order in which they are made
-pub record Planned : Type 0 where
+pub record StepChanges : Type 0 where
   pub cut_edges : List ℕ
   pub kept_edges : List (ℕ × (List Atom × EdgeMark))
   pub cut_nodes : List ℕ
@@ -68,12 +68,12 @@ pub record Planned : Type 0 where
   pub new_nodes : List Node
   pub new_edges : List Edge
 
-abbrev pub made_by : Planned → Graph → Graph
+abbrev pub made_by : StepChanges → Graph → Graph
 made_by p g = with_edges p.new_edges (with_nodes p.new_nodes (relabel_nodes p.kept_nodes (drop_nodes p.cut_nodes (relabel_edges p.kept_edges (drop_edges p.cut_edges g)))))
 
 -- the edits of a step
-abbrev pub plan_of : Rule → Graph → Found → Assignment → Planned
-plan_of r g m a = record {
+abbrev pub changes_of : Rule → Graph → Found → Assignment → StepChanges
+changes_of r g m a = record {
   cut_edges = gone (stays (kept_edges r)) m.edges;
   kept_edges = kept_of m.edges (kept_edge r) (λ (q : RightEdge). carried_by (made_edge r g m a (images_of r g m) q)) r.right_edges;
   cut_nodes = gone (stays (kept_nodes r)) m.nodes;
@@ -114,7 +114,7 @@ MayPutEdges [] g = Unit {0}
 MayPutEdges (d ∷ ds) g = IsSome (node_at g d.source) × IsSome (node_at g d.target) × MayPutEdges ds (with_edge g d)
 
 -- the edits of a step may be made
-pub record MayMake (p : Planned) (g : Graph) : Type 0 where
+pub record MayMake (p : StepChanges) (g : Graph) : Type 0 where
   pub cut_edges : MayDropEdges p.cut_edges g
   pub kept_edges : MayRelabelEdges p.kept_edges (drop_edges p.cut_edges g)
   pub cut_nodes : MayDropNodes p.cut_nodes (relabel_edges p.kept_edges (drop_edges p.cut_edges g))

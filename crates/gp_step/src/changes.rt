@@ -6,8 +6,8 @@ ghost use Rattle.gp_syntax.specs.Rule.{kept_edge, kept_nodes, kept_edges};
 ghost use Rattle.gp_syntax.specs.Rule as rules;
 ghost use Rattle.gp_syntax.specs.Tree.{rule_of_tree, right_edge_of};
 ghost use Rattle.gp_step.specs.Halves.{stays, gone};
-ghost use Rattle.gp_step.specs.inside.Plans as plans;
-ghost use Rattle.gp_step.specs.inside.Made.{IsReady, number_of, planned};
+ghost use Rattle.gp_step.specs.inside.Changes as meant;
+ghost use Rattle.gp_step.specs.inside.Made.{IsReady, number_of, changes_held};
 
 use crate::made::{Carried, Kept, KeptEdge, MadeEdge, made_edges, made_nodes};
 use gp_graph::Graph;
@@ -18,7 +18,7 @@ use std::alloc::Global;
 /// The edits of a step, in the order in which they are made: edges that go, edges that are kept, nodes that go, nodes
 /// that are kept, new nodes and new edges.
 #[derive(Drop)]
-pub(crate) struct Plan {
+pub(crate) struct Changes {
     pub(crate) cut_edges: Vec<u64>,
     pub(crate) kept_edges: Vec<KeptEdge>,
     pub(crate) cut_nodes: Vec<u64>,
@@ -93,21 +93,21 @@ fn gone_edges(alloc: Global, parts: &RuleParts, edges: &[EdgeImage]) -> Result<V
 }
 
 /// The edits of the step of a match that applies by this assignment.
-pub(crate) fn plan_of(
+pub(crate) fn changes_of(
     alloc: Global,
     parts: &RuleParts,
     graph: &Graph,
     found: &Found,
     assignment: &Assignment,
-) -> Result<Plan, NoMemory>
+) -> Result<Changes, NoMemory>
     requires { IsReady parts.now graph.now.graph found.now assignment.now }
-    ensures { IfOk result (λ p. planned graph.now.graph p ≡ plans.plan_of (rule_of_tree parts.now) graph.now.graph found.now (assigned_of assignment.now)) }
+    ensures { IfOk result (λ p. changes_held graph.now.graph p ≡ meant.changes_of (rule_of_tree parts.now) graph.now.graph found.now (assigned_of assignment.now)) }
 {
     let placed = made_nodes(alloc, parts, graph, found, assignment)?;
     let joined = made_edges(alloc, parts, graph, found, assignment, &placed.images)?;
     let cut_edges = gone_edges(alloc, parts, found.edges())?;
     let cut_nodes = gone_nodes(alloc, parts, found.nodes())?;
-    Ok(Plan {
+    Ok(Changes {
         cut_edges,
         kept_edges: joined.kept,
         cut_nodes,

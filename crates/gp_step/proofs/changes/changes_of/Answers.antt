@@ -3,7 +3,7 @@ use Rattle.std.proofs.lemmas.List.{length-map}
 use Rattle.gp_syntax.specs.Tree.{rule_of_tree}
 use Rattle.gp_syntax.specs.Rule.{kept_nodes}
 use Rattle.gp_step.proofs.Halves.{length-images}
-use Rattle.gp_step.proofs.plan.plan_of.Goals as goal
+use Rattle.gp_step.proofs.changes.changes_of.Goals as goal
 
 pub made_edges-requires-clause-images : goal.made_edges-requires-clause-images
 made_edges-requires-clause-images c =

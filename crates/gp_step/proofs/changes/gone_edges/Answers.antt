@@ -4,8 +4,8 @@ use Rattle.gp_syntax.specs.Tree.{rule_of_tree}
 use Rattle.gp_step.specs.Halves.{stays, gone}
 use Rattle.gp_step.specs.inside.Made.{number_of}
 use Rattle.gp_step.proofs.Collecting.{gone_next}
-use Rattle.gp_step.proofs.plan.gone_edges.Goals as goal
-use Rattle.gp_step.proofs.plan.gone_edges.Goals.{then-not-keeps_edge+in_ok-push, else-not-keeps_edge}
+use Rattle.gp_step.proofs.changes.gone_edges.Goals as goal
+use Rattle.gp_step.proofs.changes.gone_edges.Goals.{then-not-keeps_edge+in_ok-push, else-not-keeps_edge}
 
 pub loop-i-preserved : goal.loop-i-preserved
 loop-i-preserved c =

@@ -3,8 +3,8 @@ use Rattle.gp_syntax.specs.Rule.{kept_nodes}
 use Rattle.gp_syntax.specs.Tree.{rule_of_tree}
 use Rattle.gp_step.specs.Halves.{stays, gone}
 use Rattle.gp_step.proofs.Collecting.{gone_next}
-use Rattle.gp_step.proofs.plan.gone_nodes.Goals as goal
-use Rattle.gp_step.proofs.plan.gone_nodes.Goals.{then-not-keeps_node+in_ok-push, else-not-keeps_node}
+use Rattle.gp_step.proofs.changes.gone_nodes.Goals as goal
+use Rattle.gp_step.proofs.changes.gone_nodes.Goals.{then-not-keeps_node+in_ok-push, else-not-keeps_node}
 
 pub loop-i-preserved : goal.loop-i-preserved
 loop-i-preserved c =

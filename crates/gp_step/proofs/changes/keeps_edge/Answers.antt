@@ -6,7 +6,7 @@ use Rattle.gp_syntax.specs.declared.rule.RightEdge.{RightEdge}
 use Rattle.gp_syntax.specs.Rule as meant
 use Rattle.gp_syntax.specs.Tree.{rule_of_tree, right_edge_of}
 use Rattle.gp_step.proofs.Labels.{any_mapped}
-use Rattle.gp_step.proofs.plan.keeps_edge.Goals as goal
+use Rattle.gp_step.proofs.changes.keeps_edge.Goals as goal
 
 pub returns : goal.returns
 returns c =
