@@ -111,8 +111,9 @@ function add_nodes(   k, name, w, is_root) {
   }
 }
 
-# Whether right edge k is the left edge of its name.
+# Whether right edge k is the left edge of its name. In version 1 of traces each step made all edges anew.
 function is_kept(k, name,   both, from_name, to_name) {
+  if (version == 1) return 0
   both = part[now, 1, "edge", k, "both"]; from_name = part[now, 1, "edge", k, "source"]; to_name = part[now, 1, "edge", k, "target"]
   if (!(name in left_ends) || !((now, from_name) in in_interface) || !((now, to_name) in in_interface)) return 0
   return left_ends[name] == both SUBSEP from_name SUBSEP to_name || (both && left_ends[name] == both SUBSEP to_name SUBSEP from_name)
@@ -161,7 +162,9 @@ function read_printed(   line, words, text) {
     } else if (word[1] == "back" && word[2] > 0) {
       live -= word[2]
       from_text(text[live + 1])
-    } else if (line !~ /^(gp2-trace 1|turn|back 0)$/) die("no trace: " line)
+    } else if (line ~ /^gp2-trace [12]$/) {
+      version = substr(line, 11) + 0
+    } else if (line !~ /^(turn|back 0)$/) die("no trace: " line)
   }
   die("no trace: its `end` is missing")
 }

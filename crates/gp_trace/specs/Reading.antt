@@ -5,7 +5,8 @@ use Rattle.gp_syntax.specs.Rule.{Found}
 use Rattle.gp_syntax.specs.Run.{Item, Stepped, Turned, Back}
 use Rattle.gp_trace.specs.declared.fault.TraceFault.{TraceFault}
 use Rattle.gp_trace.specs.declared.fault.TraceFault.TheVariants.{Line, NoMemory}
-use Rattle.gp_trace.specs.TraceText.{item_line, trace_text}
+use Rattle.gp_trace.specs.declared.version.Version.{Version}
+use Rattle.gp_trace.specs.TraceText.{item_line, header, text_in, trace_text}
 
 abbrev pub IsNumber : ℕ → Type 0
 IsNumber n = n < 2 ^ 64
@@ -22,32 +23,34 @@ CanBeHeld (Stepped m) = IsHeld m
 CanBeHeld Turned = Unit {0}
 CanBeHeld (Back k) = IsNumber k
 
--- the text is that of these items
-pub record IsTraceOf (text : List ℕ) (items : List Item) : Type 0 where
-  pub text_is : text ≡ trace_text items
+-- the text is that of these items, in this version
+pub record IsTraceOf (text : List ℕ) (version : Version) (items : List Item) : Type 0 where
+  pub text_is : text ≡ text_in version items
   pub held : All CanBeHeld items
 
--- the first line is not that of the header
+-- the first line is that of no version
 pub record HasNoHeader (text : List ℕ) (n : ℕ) : Type 0 where
-  pub none : (rest : List ℕ) → text ≡ codes "gp2-trace 1\n" ++ rest → ⊥
+  pub none : (version : Version) (rest : List ℕ) → text ≡ header version ++ rest → ⊥
   pub line : n ≡ 1
 
 -- behind the header and some items there is neither the line of an item nor that of the end
 pub record StopsShort (text : List ℕ) (n : ℕ) : Type 0 where
+  pub version : Version
   pub items : List Item
   pub rest : List ℕ
   pub held : All CanBeHeld items
-  pub begins : text ≡ codes "gp2-trace 1\n" ++ (flat_map item_line items ++ rest)
+  pub begins : text ≡ header version ++ (flat_map item_line items ++ rest)
   pub no_item : (i : Item) (more : List ℕ) → CanBeHeld i → rest ≡ item_line i ++ more → ⊥
   pub no_end : (more : List ℕ) → rest ≡ codes "end\n" ++ more → ⊥
   pub line : n ≡ length items + 2
 
 -- something stands behind the end
 pub record GoesOn (text : List ℕ) (n : ℕ) : Type 0 where
+  pub version : Version
   pub items : List Item
   pub rest : List ℕ
   pub held : All CanBeHeld items
-  pub begins : text ≡ trace_text items ++ rest
+  pub begins : text ≡ text_in version items ++ rest
   pub more : rest ≡ [] → ⊥
   pub line : n ≡ length items + 3
 

@@ -6,6 +6,8 @@ use Rattle.std.specs.Fmt.{decimal}
 use Rattle.gp_syntax.specs.declared.found.EdgeImage.{EdgeImage}
 use Rattle.gp_syntax.specs.Rule.{Found}
 use Rattle.gp_syntax.specs.Run.{Item, Stepped, Turned, Back}
+use Rattle.gp_trace.specs.declared.version.Version.{Version}
+use Rattle.gp_trace.specs.declared.version.Version.TheVariants.{One, Two}
 
 -- the number of an edge; one that was matched reversed has a tilde behind it
 abbrev pub image_word : EdgeImage → List ℕ
@@ -36,5 +38,13 @@ found_line m = line_of (found_words m)
 abbrev pub item_line : Item → List ℕ
 item_line i = line_of (item_words i)
 
+abbrev pub header : Version → List ℕ
+header One = codes "gp2-trace 1\n"
+header Two = codes "gp2-trace 2\n"
+
+abbrev pub text_in : Version → List Item → List ℕ
+text_in version items = header version ++ (flat_map item_line items ++ codes "end\n")
+
+-- what is written
 abbrev pub trace_text : List Item → List ℕ
-trace_text items = codes "gp2-trace 1\n" ++ (flat_map item_line items ++ codes "end\n")
+trace_text items = text_in Two items

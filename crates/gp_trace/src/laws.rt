@@ -2,7 +2,7 @@
 
 ghost use Rattle.gp_trace.specs.Laws.{TracesAreTold, TextsBreakOnce};
 
-/// No two lists of items have one text.
+/// No two lists of items have one text, and none is that of two versions.
 pub fn traces_are_told()
     ensures { TracesAreTold }
 {}

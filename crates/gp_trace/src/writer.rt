@@ -12,7 +12,7 @@ use gp_syntax::{EdgeImage, Found, Item};
 use itoa::Buffer;
 use std::alloc::Global;
 
-/// Puts the text of the items behind what `text` holds. On refusal `text` is as before.
+/// Puts the text of the items, which are of version 2, behind what `text` holds. On refusal `text` is as before.
 pub fn write_trace(alloc: Global, items: &[Item], text: &mut Vec<u8>) -> Result<(), NoMemory>
     ensures ok { OnOk result (text.new.items ≡ text.old.items ++ trace_text (map item_of items.now)) }
     ensures err { OnErr result (BeginsTrace (map item_of items.now) text.old.items text.new.items) }
@@ -27,7 +27,7 @@ fn text_of(alloc: Global, items: &[Item]) -> Result<Vec<u8>, NoMemory>
     ensures { IfOk result (λ v. v.items ≡ trace_text (map item_of items.now)) }
 {
     let mut text = Vec::new(alloc);
-    write(b"gp2-trace 1\n", &mut text)?;
+    write(b"gp2-trace 2\n", &mut text)?;
     write_items(items, &mut text)?;
     write(b"end\n", &mut text)?;
     Ok(text)

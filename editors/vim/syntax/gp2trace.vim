@@ -6,7 +6,7 @@ endif
 runtime! syntax/gp2host.vim
 unlet b:current_syntax
 
-syntax match gp2traceHead /^gp2-trace 1$/
+syntax match gp2traceHead /^gp2-trace [12]$/
 syntax match gp2traceItem /^\(turn\|step\|back\|end\|fail\)\>/
 syntax keyword gp2tracePart nodes edges
 syntax match gp2traceTurned /\~/

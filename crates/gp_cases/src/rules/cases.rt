@@ -65,11 +65,11 @@ pub(crate) fn case_at(alloc: Global, fields: &[Vec<u8>], place: usize) -> Result
 /// The match of a text such as `nodes 0 1 edges 0~`, as a line of a trace has it.
 pub(crate) fn found_of(alloc: Global, text: &[u8]) -> Result<Found, Wrong> {
     let mut trace = Answer::new(alloc);
-    trace.put(b"gp2-trace 1\nstep 0 ");
+    trace.put(b"gp2-trace 2\nstep 0 ");
     trace.put(text);
     trace.put(b"\nend\n");
     match read_trace(alloc, trace.text()) {
-        Ok(mut items) => step_of(items.pop()),
+        Ok((_, mut items)) => step_of(items.pop()),
         Err(fault) => Err(Wrong::from(fault)),
     }
 }

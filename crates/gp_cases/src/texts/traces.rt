@@ -5,13 +5,15 @@ use gp_syntax::Item;
 use gp_trace::{read_trace, write_trace};
 use std::alloc::Global;
 
-/// How many items a trace has, whose copies are written as the same text; or the line at which a text breaks.
+/// The version of a trace and how many items it has, whose copies are written as the same lines; or the line at which a text
+/// breaks.
 pub(crate) fn answer(alloc: Global, fields: &[Vec<u8>], out: &mut Answer) {
     match read_trace(alloc, field(fields, 0)) {
-        Ok(items) => match written(alloc, &items) {
+        Ok((version, items)) => match written(alloc, &items) {
             Ok(text) => {
+                out.debug(&version);
                 out.number(items.len() as u64);
-                if text.as_slice() != field(fields, 0) {
+                if lines(&text) != lines(field(fields, 0)) {
                     out.word(&text);
                 }
             }
@@ -19,6 +21,11 @@ pub(crate) fn answer(alloc: Global, fields: &[Vec<u8>], out: &mut Answer) {
         },
         Err(fault) => out.show(&fault),
     }
+}
+
+// What stands behind the first line.
+fn lines(text: &[u8]) -> &[u8] {
+    text.get(b"gp2-trace 2\n".len()..).unwrap_or(&[])
 }
 
 // The text of copies of items.

@@ -60,7 +60,7 @@ link(a,b,x,y,z:list) [ (n0, x) (n1, y) (n2, z) | (e0, n0, n1, a) (e1, n1, n2, b)
 % [ (a, empty) (b, empty) (c, empty) | (e0, a, b, empty) (e1, b, c, empty) ]
 % run p h --journal
 % 0 out
-gp2-trace 1
+gp2-trace 2
 turn
 step 0 nodes 0 1 2 edges 0 1
 turn
@@ -99,7 +99,7 @@ del(x:list) [ (n0, x) | ] => [ | ] interface = {}
 % [ (a, 1) | ]
 % run p h --journal
 % 0 out
-gp2-trace 1
+gp2-trace 2
 step 0 nodes 0 edges
 back 1
 end
@@ -113,7 +113,7 @@ del(x:list) [ (n0, x) | ] => [ | ] interface = {}
 % [ (a, 1) | ]
 % run p h --journal
 % 0 out
-gp2-trace 1
+gp2-trace 2
 step 0 nodes 0 edges
 back 1
 end
@@ -128,7 +128,7 @@ red(x:list) [ (n0, x # red) | ] => [ (n0, x # red) | ] interface = {n0}
 % [ (a, 1) | ]
 % run p h --journal
 % 0 out
-gp2-trace 1
+gp2-trace 2
 turn
 step 0 nodes 0 edges
 back 1
@@ -143,7 +143,7 @@ inc(n:int) [ (n0, n) | ] => [ (n0, n+1) | ] interface = {n0}
 % [ (a, 1) | ]
 % run p h --journal
 % 0 out
-gp2-trace 1
+gp2-trace 2
 turn
 step 0 nodes 0 edges
 end
@@ -235,7 +235,7 @@ back 0
 fn put_tried(first: &str, second: &str, wanted: &mut Answer) {
     for piece in &[
         "0 out
-gp2-trace 1
+gp2-trace 2
 ",
         first,
         "back 2
@@ -280,7 +280,7 @@ fn a_crew_goes_on_from_what_a_try_takes_back(rt: HostRuntime) -> Result<(), Fail
 const DELETE: &str = "Main = del! del(x:list) [ (n0, x) | ] => [ | ] interface = {}";
 
 const SECOND_FIRST: &str = "0 out
-gp2-trace 1
+gp2-trace 2
 turn
 step 0 nodes 1 edges
 turn
@@ -293,7 +293,7 @@ end
 ]";
 
 const FIRST_FIRST: &str = "0 out
-gp2-trace 1
+gp2-trace 2
 turn
 step 0 nodes 0 edges
 turn

@@ -112,7 +112,7 @@ fn demos_tell_their_summaries(rt: HostRuntime) -> Result<(), Fail> {
 
 const HOST: &str = "[ (a, empty # red) (b, empty # blue) (c, empty) (d(R), empty # red) | ]";
 
-const TRACE: &[u8] = b"gp2-trace 1
+const TRACE: &[u8] = b"gp2-trace 2
 step 0 nodes edges
 turn
 step 0 nodes edges
@@ -126,7 +126,7 @@ const SUMMARY: &[u8] = b"kind tree\nsize 2\nnodes 4\nedges 0\nred 2\nblue 1\nste
 #[test]
 fn marks_and_live_steps_are_counted(rt: HostRuntime) -> Result<(), Fail> {
     let host = read_host(rt.alloc(), HOST.as_bytes())?;
-    let items = read_trace(rt.alloc(), TRACE)?;
+    let (_, items) = read_trace(rt.alloc(), TRACE)?;
     let text = summary(rt.alloc(), Kind::Tree, 2, &host, &items)?;
     expect(text.as_slice() == SUMMARY, "a summary")
 }

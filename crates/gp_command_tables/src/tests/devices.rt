@@ -104,7 +104,7 @@ link(a,b,x,y,z:list) [ (n0, x) (n1, y) (n2, z) | (e0, n0, n1, a) (e1, n1, n2, b)
 
 const PATH: &str = "[ (a, empty) (b, empty) (c, empty) | (e0, a, b, empty) (e1, b, c, empty) ]";
 
-const ITS_JOURNAL: &[u8] = b"gp2-trace 1
+const ITS_JOURNAL: &[u8] = b"gp2-trace 2
 turn
 step 0 nodes 0 1 2 edges 0 1
 turn

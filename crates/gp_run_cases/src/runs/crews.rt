@@ -80,7 +80,7 @@ fn is_replayed(
 ) -> Result<bool, Wrong> {
     let mut text = Vec::new(alloc);
     write_trace(alloc, journal.items(), &mut text)?;
-    let items = read_trace(alloc, &text)?;
+    let (_, items) = read_trace(alloc, &text)?;
     let mut trail = Trail::new(alloc, host.copy(alloc)?);
     let is_made = catch_up(alloc, rules, &items, &mut trail)?;
     Ok(is_made && are_alike(alloc, trail.graph(), journal.graph())?)

@@ -25,7 +25,7 @@ pub(crate) fn answer(alloc: Global, fields: &[Vec<u8>], out: &mut Answer) {
 }
 
 fn is_made(alloc: Global, fields: &[Vec<u8>], trail: &mut Trail) -> Result<bool, Wrong> {
-    let items = read_trace(alloc, field(fields, 2))?;
+    let (_, items) = read_trace(alloc, field(fields, 2))?;
     let rules = rules_of(alloc, field(fields, 0))?;
     Ok(catch_up(alloc, rules.as_slice(), &items, trail)?)
 }

@@ -295,7 +295,7 @@ bid(z:list) [ (n0, 1) (n1, 2) | (e0(B), n0, n1, z) ] => [ (n0, 1 # red) (n1, 2) 
 % [ (a, 1) (b, 2) | (e0, b, a, 7) ]
 % run p h --journal
 % 0 out
-gp2-trace 1
+gp2-trace 2
 step 0 nodes 0 1 edges 0~
 end
 [
@@ -318,7 +318,7 @@ wipe(x,y,a:list) [ (n0, x) (n1, y) | (e0, n0, n1, a # red) ] => [ (n0, x) (n1, y
 % [ (a, 1) (b, 2) | (x, a, b, 3) ]
 % run p h --journal
 % 0 out
-gp2-trace 1
+gp2-trace 2
 step 0 nodes 0 1 edges 0
 step 1 nodes 0 1 edges 0
 end
@@ -412,7 +412,7 @@ Main = {}!
 % [ (a, 1) | ]
 % run p h --journal
 % 0 out
-gp2-trace 1
+gp2-trace 2
 turn
 back 0
 end
@@ -431,7 +431,7 @@ Main = skip or skip
 % [ (a, 1) | ]
 % run p h --journal
 % 0 out
-gp2-trace 1
+gp2-trace 2
 end
 [
   (n0, 1)
@@ -442,7 +442,7 @@ Main = skip; fail
 % [ (a, 1) | ]
 % run p h --journal
 % 1 out
-gp2-trace 1
+gp2-trace 2
 end
 fail";
 
