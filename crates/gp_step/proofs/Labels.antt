@@ -23,7 +23,8 @@ use Rattle.gp_syntax.proofs.Unique.{element}
 use Rattle.gp_syntax.proofs.KeptEdges.{kept_edge_at}
 use Rattle.gp_step.specs.Edits.{value_or_empty, made_edge}
 use Rattle.gp_step.specs.inside.Changes.{carried_by}
-use Rattle.gp_step.specs.inside.Made.{IsReady, IsRightLabel, carried_at}
+use Rattle.gp_step.specs.inside.Made.{carried_at}
+use Rattle.gp_step.specs.inside.Scene.{SceneView, IsReady, IsRightLabel}
 use Rattle.gp_step.specs.inside.Same.{SaysSame, IsUnchanged}
 use Rattle.gp_step.proofs.Afters.{both_values, has_values, there}
 use Rattle.gp_step.proofs.Wholes.{all_left, at_label, all_right}
@@ -48,7 +49,19 @@ agreed_mark : {M : Type 0} (pattern : MarkPattern M) (found none : M) → Agrees
 agreed_mark (Marked mark) found none a = a
 agreed_mark AnyMark found none a = refl
 
-module _ (p : RuleParts) (g : Graph) (m : meant.Found) (b : PartialAssignment) (w : IsReady p g m b) where
+module _ (scene : SceneView) (w : IsReady scene) where
+  abbrev p : RuleParts
+  p = scene.parts
+
+  abbrev g : Graph
+  g = scene.graph
+
+  abbrev m : meant.Found
+  m = scene.found
+
+  abbrev b : PartialAssignment
+  b = scene.assignment
+
   abbrev r : meant.Rule
   r = rule_of_tree p
 
@@ -68,7 +81,7 @@ module _ (p : RuleParts) (g : Graph) (m : meant.Found) (b : PartialAssignment) (
       slice_get-map (λ (z : meant.RightEdge). z.label) r.right_edges k
       ∙ ap (option_map (λ (z : meant.RightEdge). z.label)) (slice_get-map right_edge_of p.right_edges k ∙ ap (option_map right_edge_of) e)
 
-  pub node_label : (k : ℕ) (q : RightNode) → slice_get p.right_nodes k ≡ Some q → IsRightLabel p g m b (expression_of q.label)
+  pub node_label : (k : ℕ) (q : RightNode) → slice_get p.right_nodes k ≡ Some q → IsRightLabel scene (expression_of q.label)
   node_label k q e =
       let s = setting_of r g m (assigned_of b) in
       let v = both_values node_labels edge_labels s w.applies.values in
@@ -79,7 +92,7 @@ module _ (p : RuleParts) (g : Graph) (m : meant.Found) (b : PartialAssignment) (
         has_value = has_values node_labels s v.0 k (expression_of q.label) i;
       }
 
-  pub edge_label : (k : ℕ) (q : RightEdge) → slice_get p.right_edges k ≡ Some q → IsRightLabel p g m b (expression_of q.label)
+  pub edge_label : (k : ℕ) (q : RightEdge) → slice_get p.right_edges k ≡ Some q → IsRightLabel scene (expression_of q.label)
   edge_label k q e =
       let s = setting_of r g m (assigned_of b) in
       let v = both_values node_labels edge_labels s w.applies.values in

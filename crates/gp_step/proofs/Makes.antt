@@ -24,7 +24,8 @@ use Rattle.gp_syntax.proofs.KeptEdges.{kept_ends}
 use Rattle.gp_step.specs.Halves.{images_from, stays, gone, cut}
 use Rattle.gp_step.specs.Edits.{made_node, made_edge, images_of, origin_of, stepped}
 use Rattle.gp_step.specs.declared.made.KeptEdge.{KeptEdge}
-use Rattle.gp_step.specs.inside.Made.{IsReady, KeepsAs, kept_edge_pairs}
+use Rattle.gp_step.specs.inside.Made.{KeepsAs, kept_edge_pairs}
+use Rattle.gp_step.specs.inside.Scene.{IsReady, scene}
 use Rattle.gp_step.specs.inside.Changes.{StepChanges, MayMake, made_by, changes_of, kept_of, carried_by, drop_edges, relabel_edges, drop_nodes, relabel_nodes, with_nodes}
 use Rattle.gp_step.proofs.Halves.{standing, stands_in, dropped, left, kept_or_gone, gone_place, gone_apart_images, places, stands, length-images}
 use Rattle.gp_step.proofs.Turns.{HasEnds, MayAs, write, add_all, placed, length-new, from_new, drop_edges_half, drop_nodes_half, relabel_nodes_half, with_nodes_half, with_edges_half, kept_relabeled, ends_stay, edges_may, nodes_may, kept_may, ends_may, gone_apart}
@@ -244,7 +245,7 @@ module _ (r : Rule) (g : Graph) (m : Found) (a : Assignment) (b : IsNumbered g) 
 pub assignment_is : (r : Rule) (g : Graph) (m : Found) (o : Option PartialAssignment) (b : PartialAssignment) (k : Applies r g m) → IsThatOfMatch o r g m → o ≡ Some b → IsAssignment r k.0 b
 assignment_is r g m o b k h e = subst (λ z. IsSomeAnd z (IsAssignment r k.0)) e (h k.0 k.1.is_match)
 
-pub is_ready : (p : RuleParts) (g : Graph) (m : Found) (b : PartialAssignment) → IsWellFormed (rule_of_tree p) → (k : Applies (rule_of_tree p) g m) → IsAssignment (rule_of_tree p) k.0 b → IsReady p g m b
+pub is_ready : (p : RuleParts) (g : Graph) (m : Found) (b : PartialAssignment) → IsWellFormed (rule_of_tree p) → (k : Applies (rule_of_tree p) g m) → IsAssignment (rule_of_tree p) k.0 b → IsReady (scene p g m b)
 is_ready p g m b c k i = record { well_formed = c; applies = subst (AppliesBy (rule_of_tree p) g m) (sym i.values) k.1; types = i.types; whole = i.whole }
 
 pub after_is : (r : Rule) (g : Graph) (m : Found) (b : PartialAssignment) → IsWellFormed r → (k : Applies r g m) → IsAssignment r k.0 b → after r g m ≡ stepped r g m (assigned_of b)

@@ -7,12 +7,13 @@ ghost use Rattle.gp_syntax.specs.Rule as rules;
 ghost use Rattle.gp_syntax.specs.Tree.{rule_of_tree, right_edge_of};
 ghost use Rattle.gp_step.specs.Halves.{stays, gone};
 ghost use Rattle.gp_step.specs.inside.Changes as meant;
-ghost use Rattle.gp_step.specs.inside.Made.{IsReady, number_of, changes_held};
+ghost use Rattle.gp_step.specs.inside.Made.{number_of, changes_held};
+ghost use Rattle.gp_step.specs.inside.Scene.{rule_at};
 
 use crate::made::{Carried, Kept, KeptEdge, MadeEdge, made_edges, made_nodes};
-use gp_graph::Graph;
+use crate::scene::Scene;
 use gp_memory::NoMemory;
-use gp_syntax::{Assignment, EdgeImage, Found, RightEdge, RuleParts};
+use gp_syntax::{EdgeImage, RightEdge, RuleParts};
 use std::alloc::Global;
 
 /// The edits of a step, in the order in which they are made: edges that go, edges that are kept, nodes that go, nodes
@@ -93,20 +94,13 @@ fn gone_edges(alloc: Global, parts: &RuleParts, edges: &[EdgeImage]) -> Result<V
 }
 
 /// The edits of the step of a match that applies by this assignment.
-pub(crate) fn changes_of(
-    alloc: Global,
-    parts: &RuleParts,
-    graph: &Graph,
-    found: &Found,
-    assignment: &Assignment,
-) -> Result<Changes, NoMemory>
-    requires { IsReady parts.now graph.now.graph found.now assignment.now }
-    ensures { IfOk result (λ p. changes_held graph.now.graph p ≡ meant.changes_of (rule_of_tree parts.now) graph.now.graph found.now (assigned_of assignment.now)) }
+pub(crate) fn changes_of(alloc: Global, scene: &Scene<'_>) -> Result<Changes, NoMemory>
+    ensures { IfOk result (λ p. changes_held scene.now.graph p ≡ meant.changes_of (rule_at scene.now) scene.now.graph scene.now.found (assigned_of scene.now.assignment)) }
 {
-    let placed = made_nodes(alloc, parts, graph, found, assignment)?;
-    let joined = made_edges(alloc, parts, graph, found, assignment, &placed.images)?;
-    let cut_edges = gone_edges(alloc, parts, found.edges())?;
-    let cut_nodes = gone_nodes(alloc, parts, found.nodes())?;
+    let placed = made_nodes(alloc, scene)?;
+    let joined = made_edges(alloc, scene, &placed.images)?;
+    let cut_edges = gone_edges(alloc, scene.parts, scene.found.edges())?;
+    let cut_nodes = gone_nodes(alloc, scene.parts, scene.found.nodes())?;
     Ok(Changes {
         cut_edges,
         kept_edges: joined.kept,

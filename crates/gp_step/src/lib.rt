@@ -18,6 +18,7 @@ mod inverses;
 pub mod laws;
 mod made;
 mod same;
+mod scene;
 mod step;
 mod taking_back;
 

@@ -3,7 +3,6 @@
 ghost use Rattle.std.specs.Prelude.{◌≡◌, ◌<◌, ◌++◌, ◌∷◌, [], map, length, true, false, Some, slice_index, IfOk, IfSome, OnOk};
 ghost use Rattle.std.specs.Option.{option_map, option_map_or};
 ghost use Rattle.gp_values.specs.Graph.{Node as AnyNode, Edge as AnyEdge};
-ghost use Rattle.gp_syntax.specs.Assigned.{assigned_of};
 ghost use Rattle.gp_syntax.specs.Step.{found_node, found_edge, left_root};
 ghost use Rattle.gp_syntax.specs.Step as meant;
 ghost use Rattle.gp_syntax.specs.Rule.{kept_edge};
@@ -11,16 +10,17 @@ ghost use Rattle.gp_syntax.specs.Rule as rules;
 ghost use Rattle.gp_syntax.specs.Tree.{rule_of_tree, right_node_of, right_edge_of, expression_of, pattern_of};
 ghost use Rattle.gp_step.specs.Halves.{image_of, next_of};
 ghost use Rattle.gp_step.specs.Edits.{images_of, origin_of};
-ghost use Rattle.gp_step.specs.Edits as edits;
 ghost use Rattle.gp_step.specs.inside.Changes.{kept_first, kept_of, new_first, new_of, carried_by};
-ghost use Rattle.gp_step.specs.inside.Made.{IsReady, IsRightLabel, label_at, node_of, edge_of, nodes_of, edges_of, kept_pairs, kept_edge_pair, kept_edge_pairs};
+ghost use Rattle.gp_step.specs.inside.Made.{node_of, edge_of, nodes_of, edges_of, kept_pairs, kept_edge_pair, kept_edge_pairs};
+ghost use Rattle.gp_step.specs.inside.Scene.{IsRightLabel, rule_at, label_at, node_made, edge_made};
 ghost use Rattle.gp_step.specs.inside.Same.{IsUnchanged};
 
 use crate::same::{is_mark_kept, is_written_again};
+use crate::scene::Scene;
 use gp_eval::{Valued, value};
 use gp_graph::Graph;
 use gp_memory::NoMemory;
-use gp_syntax::{Assignment, Expr, Found, MarkPattern, RightEdge, RightNode, RuleParts};
+use gp_syntax::{Expr, Found, MarkPattern, RightEdge, RightNode, RuleParts};
 use gp_values::{EdgeMark, List, NodeMark};
 use std::alloc::Global;
 
@@ -75,19 +75,17 @@ pub(crate) struct Joined {
 }
 
 // The value of a right label, which has one where the match applies.
-fn label_of(
-    alloc: Global,
-    parts: &RuleParts,
-    graph: &Graph,
-    found: &Found,
-    assignment: &Assignment,
-    label: &Expr<u32>,
-) -> Result<List, NoMemory>
-    requires ready { IsReady parts.now graph.now.graph found.now assignment.now }
-    requires label { IsRightLabel parts.now graph.now.graph found.now assignment.now (expression_of label.now) }
-    ensures { IfOk result (λ l. l ≡ label_at parts.now graph.now.graph found.now assignment.now (expression_of label.now)) }
+fn label_of(alloc: Global, scene: &Scene<'_>, label: &Expr<u32>) -> Result<List, NoMemory>
+    requires { IsRightLabel scene.now (expression_of label.now) }
+    ensures { IfOk result (λ l. l ≡ label_at scene.now (expression_of label.now)) }
 {
-    match value(alloc, label, assignment, found.nodes(), graph) {
+    match value(
+        alloc,
+        label,
+        scene.assignment,
+        scene.found.nodes(),
+        scene.graph,
+    ) {
         Valued::Value(list) => Ok(list),
         Valued::NoValue(_) => unreachable!(),
         Valued::NoMemory => Err(NoMemory),
@@ -132,22 +130,14 @@ fn was_root(parts: &RuleParts, origin: Option<u32>) -> bool
 }
 
 // What a right node is to carry.
-fn made_node(
-    alloc: Global,
-    parts: &RuleParts,
-    graph: &Graph,
-    found: &Found,
-    assignment: &Assignment,
-    q: &RightNode,
-) -> Result<Carried, NoMemory>
-    requires ready { IsReady parts.now graph.now.graph found.now assignment.now }
-    requires label { IsRightLabel parts.now graph.now.graph found.now assignment.now (expression_of q.now.label) }
-    requires origin { IfSome q.now.origin (λ i. i < length parts.now.left_nodes) }
-    ensures { IfOk result (λ x. node_of x ≡ edits.made_node (rule_of_tree parts.now) graph.now.graph found.now (assigned_of assignment.now) (right_node_of q.now)) }
+fn made_node(alloc: Global, scene: &Scene<'_>, q: &RightNode) -> Result<Carried, NoMemory>
+    requires label { IsRightLabel scene.now (expression_of q.now.label) }
+    requires origin { IfSome q.now.origin (λ i. i < length scene.now.parts.left_nodes) }
+    ensures { IfOk result (λ x. node_of x ≡ node_made scene.now (right_node_of q.now)) }
 {
-    let label = label_of(alloc, parts, graph, found, assignment, &q.label)?;
-    let (found_mark, found_root) = found_at(graph, found, q.origin);
-    let left_root = was_root(parts, q.origin);
+    let label = label_of(alloc, scene, &q.label)?;
+    let (found_mark, found_root) = found_at(scene.graph, scene.found, q.origin);
+    let left_root = was_root(scene.parts, q.origin);
     Ok(Carried {
         label,
         mark: mark_of(q.mark, found_mark, NodeMark::None),
@@ -186,28 +176,21 @@ fn place(
 }
 
 /// What the right nodes are to carry, and where they are.
-pub(crate) fn made_nodes(
-    alloc: Global,
-    parts: &RuleParts,
-    graph: &Graph,
-    found: &Found,
-    assignment: &Assignment,
-) -> Result<Placed, NoMemory>
-    requires { IsReady parts.now graph.now.graph found.now assignment.now }
-    ensures images { IfOk result (λ p. p.images.items ≡ images_of (rule_of_tree parts.now) graph.now.graph found.now) }
-    ensures kept { IfOk result (λ p. kept_pairs p.kept.items ≡ kept_of found.now.nodes origin_of (edits.made_node (rule_of_tree parts.now) graph.now.graph found.now (assigned_of assignment.now)) (map right_node_of parts.now.right_nodes)) }
-    ensures added { IfOk result (λ p. nodes_of p.added.items ≡ new_of origin_of (edits.made_node (rule_of_tree parts.now) graph.now.graph found.now (assigned_of assignment.now)) (map right_node_of parts.now.right_nodes)) }
+pub(crate) fn made_nodes(alloc: Global, scene: &Scene<'_>) -> Result<Placed, NoMemory>
+    ensures images { IfOk result (λ p. p.images.items ≡ images_of (rule_at scene.now) scene.now.graph scene.now.found) }
+    ensures kept { IfOk result (λ p. kept_pairs p.kept.items ≡ kept_of scene.now.found.nodes origin_of (node_made scene.now) (map right_node_of scene.now.parts.right_nodes)) }
+    ensures added { IfOk result (λ p. nodes_of p.added.items ≡ new_of origin_of (node_made scene.now) (map right_node_of scene.now.parts.right_nodes)) }
 {
-    let (next, _) = graph.next_numbers();
+    let (next, _) = scene.graph.next_numbers();
     let mut placed = Placed {
         images: Vec::new(alloc),
         kept: Vec::new(alloc),
         added: Vec::new(alloc),
         next,
     };
-    for q in parts.right_nodes.as_slice() {
-        let carried = made_node(alloc, parts, graph, found, assignment, q)?;
-        place(&mut placed, found, q.origin, carried)?;
+    for q in scene.parts.right_nodes.as_slice() {
+        let carried = made_node(alloc, scene, q)?;
+        place(&mut placed, scene.found, q.origin, carried)?;
     }
     Ok(placed)
 }
@@ -241,25 +224,25 @@ fn is_exchanged(found: &Found, q: &RightEdge) -> bool
 // The edge that a right edge makes.
 fn made_edge(
     alloc: Global,
-    parts: &RuleParts,
-    graph: &Graph,
-    found: &Found,
-    assignment: &Assignment,
+    scene: &Scene<'_>,
     images: &[u64],
     q: &RightEdge,
 ) -> Result<MadeEdge, NoMemory>
-    requires ready { IsReady parts.now graph.now.graph found.now assignment.now }
-    requires label { IsRightLabel parts.now graph.now.graph found.now assignment.now (expression_of q.now.label) }
-    requires origin { IfSome q.now.origin (λ i. i < length found.now.edges) }
+    requires label { IsRightLabel scene.now (expression_of q.now.label) }
+    requires origin { IfSome q.now.origin (λ i. i < length scene.now.found.edges) }
     requires source { q.now.source < length images.now }
     requires target { q.now.target < length images.now }
-    ensures { IfOk result (λ d. edge_of d ≡ edits.made_edge (rule_of_tree parts.now) graph.now.graph found.now (assigned_of assignment.now) images.now (right_edge_of q.now)) }
+    ensures { IfOk result (λ d. edge_of d ≡ edge_made scene.now images.now (right_edge_of q.now)) }
 {
-    let label = label_of(alloc, parts, graph, found, assignment, &q.label)?;
-    let mark = mark_of(q.mark, found_mark(graph, found, q.origin), EdgeMark::None);
+    let label = label_of(alloc, scene, &q.label)?;
+    let mark = mark_of(
+        q.mark,
+        found_mark(scene.graph, scene.found, q.origin),
+        EdgeMark::None,
+    );
     let source = images[q.source as usize];
     let target = images[q.target as usize];
-    if is_exchanged(found, q) {
+    if is_exchanged(scene.found, q) {
         Ok(MadeEdge {
             source: target,
             target: source,
@@ -288,54 +271,50 @@ fn is_unchanged(parts: &RuleParts, place: u32, q: &RightEdge) -> bool
 // What the edge that a right edge keeps is to carry. Where it is what the left edge says, no label is valued.
 fn carried_edge(
     alloc: Global,
-    parts: &RuleParts,
-    graph: &Graph,
-    found: &Found,
-    assignment: &Assignment,
+    scene: &Scene<'_>,
     place: u32,
     q: &RightEdge,
 ) -> Result<KeptEdge, NoMemory>
-    requires ready { IsReady parts.now graph.now.graph found.now assignment.now }
-    requires label { IsRightLabel parts.now graph.now.graph found.now assignment.now (expression_of q.now.label) }
-    requires keeps { kept_edge (rule_of_tree parts.now) (right_edge_of q.now) ≡ Some place }
-    requires within { place < length found.now.edges }
-    ensures { IfOk result (λ k. kept_edge_pair graph.now.graph k ≡ (slice_index found.now.edges place, carried_by (edits.made_edge (rule_of_tree parts.now) graph.now.graph found.now (assigned_of assignment.now) [] (right_edge_of q.now)))) }
+    requires label { IsRightLabel scene.now (expression_of q.now.label) }
+    requires keeps { kept_edge (rule_at scene.now) (right_edge_of q.now) ≡ Some place }
+    requires within { place < length scene.now.found.edges }
+    ensures { IfOk result (λ k. kept_edge_pair scene.now.graph k ≡ (slice_index scene.now.found.edges place, carried_by (edge_made scene.now [] (right_edge_of q.now)))) }
 {
-    let number = found.edges()[place as usize].number;
-    if is_unchanged(parts, place, q) {
+    let number = scene.found.edges()[place as usize].number;
+    if is_unchanged(scene.parts, place, q) {
         return Ok(KeptEdge::Stays(number));
     }
-    let label = label_of(alloc, parts, graph, found, assignment, &q.label)?;
-    let mark = mark_of(q.mark, found_mark(graph, found, q.origin), EdgeMark::None);
+    let label = label_of(alloc, scene, &q.label)?;
+    let mark = mark_of(
+        q.mark,
+        found_mark(scene.graph, scene.found, q.origin),
+        EdgeMark::None,
+    );
     Ok(KeptEdge::Carries(number, label, mark))
 }
 
 /// What the right edges are to carry, and the new ones among them, between these images of the right nodes.
 pub(crate) fn made_edges(
     alloc: Global,
-    parts: &RuleParts,
-    graph: &Graph,
-    found: &Found,
-    assignment: &Assignment,
+    scene: &Scene<'_>,
     images: &[u64],
 ) -> Result<Joined, NoMemory>
-    requires ready { IsReady parts.now graph.now.graph found.now assignment.now }
-    requires images { length images.now ≡ length parts.now.right_nodes }
-    ensures kept { IfOk result (λ j. kept_edge_pairs graph.now.graph j.kept.items ≡ kept_of found.now.edges (kept_edge (rule_of_tree parts.now)) (λ (q : rules.RightEdge). carried_by (edits.made_edge (rule_of_tree parts.now) graph.now.graph found.now (assigned_of assignment.now) images.now q)) (map right_edge_of parts.now.right_edges)) }
-    ensures added { IfOk result (λ j. edges_of j.added.items ≡ new_of (kept_edge (rule_of_tree parts.now)) (edits.made_edge (rule_of_tree parts.now) graph.now.graph found.now (assigned_of assignment.now) images.now) (map right_edge_of parts.now.right_edges)) }
+    requires { length images.now ≡ length scene.now.parts.right_nodes }
+    ensures kept { IfOk result (λ j. kept_edge_pairs scene.now.graph j.kept.items ≡ kept_of scene.now.found.edges (kept_edge (rule_at scene.now)) (λ (q : rules.RightEdge). carried_by (edge_made scene.now images.now q)) (map right_edge_of scene.now.parts.right_edges)) }
+    ensures added { IfOk result (λ j. edges_of j.added.items ≡ new_of (kept_edge (rule_at scene.now)) (edge_made scene.now images.now) (map right_edge_of scene.now.parts.right_edges)) }
 {
     let mut joined = Joined {
         kept: Vec::new(alloc),
         added: Vec::new(alloc),
     };
-    for q in parts.right_edges.as_slice() {
-        match parts.kept_edge(q) {
+    for q in scene.parts.right_edges.as_slice() {
+        match scene.parts.kept_edge(q) {
             Some(place) => {
-                let edge = carried_edge(alloc, parts, graph, found, assignment, place, q)?;
+                let edge = carried_edge(alloc, scene, place, q)?;
                 joined.kept.push(edge)?;
             }
             None => {
-                let edge = made_edge(alloc, parts, graph, found, assignment, images, q)?;
+                let edge = made_edge(alloc, scene, images, q)?;
                 joined.added.push(edge)?;
             }
         }

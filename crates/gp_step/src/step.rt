@@ -5,13 +5,15 @@ ghost use Rattle.gp_syntax.specs.Assigned.{assigned_of};
 ghost use Rattle.gp_syntax.specs.Tree.{rule_of_tree};
 ghost use Rattle.gp_step.specs.Undo.{Undoes};
 ghost use Rattle.gp_step.specs.Edits.{stepped};
-ghost use Rattle.gp_step.specs.inside.Made.{IsReady, KeepsAs, changes_held};
+ghost use Rattle.gp_step.specs.inside.Made.{KeepsAs, changes_held};
+ghost use Rattle.gp_step.specs.inside.Scene.{IsReady, scene};
 ghost use Rattle.gp_step.specs.inside.Changes.{MayMake, drop_edges, made_by};
 
 use crate::changes::{Changes, changes_of};
 use crate::edits::{add_edges, add_nodes, cut_edges, cut_nodes, keep_edges, relabel_nodes};
 use crate::inverse::Inverse;
 use crate::inverses::Undo;
+use crate::scene::Scene;
 use gp_graph::Graph;
 use gp_memory::NoMemory;
 use gp_syntax::{Assignment, Found, RuleParts};
@@ -48,13 +50,19 @@ pub(crate) fn apply_by(
     found: &Found,
     assignment: &Assignment,
 ) -> Result<Undo, NoMemory>
-    requires { IsReady parts.now graph.old.graph found.now assignment.now }
+    requires { IsReady (scene parts.now graph.old.graph found.now assignment.now) }
     ensures ok { OnOk result (graph.new.graph ≡ stepped (rule_of_tree parts.now) graph.old.graph found.now (assigned_of assignment.now)) }
     ensures undo { IfOk result (λ u. Undoes u graph.new.graph graph.old.graph) }
     ensures err { OnErr result (graph.new.graph ≡ graph.old.graph) }
 {
     let _sound = graph.next_numbers();
-    let changes = changes_of(alloc, parts, graph, found, assignment)?;
+    let scene = Scene {
+        parts,
+        graph,
+        found,
+        assignment,
+    };
+    let changes = changes_of(alloc, &scene)?;
     let edges = changes.cut_edges.len() + changes.kept_edges.len();
     let nodes = changes.cut_nodes.len() + changes.kept_nodes.len();
     let room = Vec::with_capacity(alloc, edges + nodes)?;

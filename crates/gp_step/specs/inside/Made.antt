@@ -1,10 +1,9 @@
 -- What the right side is to carry, as it is held while a step is made.
-use Rattle.std.specs.Prelude.{◌≡◌, ℕ, List, [], length, map}
+use Rattle.std.specs.Prelude.{◌≡◌, ℕ, List, [], map}
 use Rattle.std.specs.Option.{option_map_or}
 use Rattle.gp_values.specs.declared.marks.EdgeMark.{EdgeMark}
 use Rattle.gp_values.specs.declared.marks.EdgeMark.TheVariants as edge_marks
 use Rattle.gp_values.specs.Graph.{Graph, Node, Edge, edge_at}
-use Rattle.gp_syntax.specs.Rule.{Found}
 use Rattle.gp_syntax.specs.declared.found.EdgeImage.{EdgeImage}
 use Rattle.gp_step.specs.declared.made.Carried.{Carried}
 use Rattle.gp_step.specs.declared.made.Kept.{Kept}
@@ -13,32 +12,7 @@ use Rattle.gp_step.specs.declared.made.KeptEdge.TheVariants.{Stays, Carries}
 use Rattle.gp_step.specs.declared.made.MadeEdge.{MadeEdge}
 use Rattle.gp_step.specs.declared.changes.Changes.{Changes}
 use Rattle.gp_values.specs.declared.atom.Atom.{Atom}
-use Rattle.gp_syntax.specs.declared.rule.RuleParts.{RuleParts}
-use Rattle.gp_syntax.specs.Assigned.{PartialAssignment, IsWhole, assigned_of}
-use Rattle.gp_syntax.specs.Expression.{Expression}
-use Rattle.gp_syntax.specs.Value.{Value, value_of}
-use Rattle.gp_syntax.specs.Match.{setting_of}
-use Rattle.gp_syntax.specs.Step.{AppliesBy}
-use Rattle.gp_syntax.specs.Tree.{rule_of_tree}
-use Rattle.gp_syntax.specs.WellFormed.{IsWellFormed, IsWithin}
-use Rattle.gp_step.specs.Edits.{value_or_empty}
 use Rattle.gp_step.specs.inside.Changes.{StepChanges, carried_by, relabel_edges, keep_edges, MayKeepEdges}
-
--- a match applies, by this assignment
-pub record IsReady (p : RuleParts) (g : Graph) (m : Found) (b : PartialAssignment) : Type 0 where
-  pub well_formed : IsWellFormed (rule_of_tree p)
-  pub applies : AppliesBy (rule_of_tree p) g m (assigned_of b)
-  pub types : b.types ≡ p.types
-  pub whole : IsWhole b
-
--- what a label of the right side is valued to
-abbrev pub label_at : RuleParts → Graph → Found → PartialAssignment → Expression ℕ → List Atom
-label_at p g m b e = value_or_empty (value_of e (setting_of (rule_of_tree p) g m (assigned_of b)))
-
--- its places are there, and it has a value
-pub record IsRightLabel (p : RuleParts) (g : Graph) (m : Found) (b : PartialAssignment) (e : Expression ℕ) : Type 0 where
-  pub within : IsWithin (length p.types) (length p.left_nodes) e
-  pub has_value : value_of e (setting_of (rule_of_tree p) g m (assigned_of b)) ≡ Value (label_at p g m b e)
 
 abbrev pub number_of : EdgeImage → ℕ
 number_of i = i.number
