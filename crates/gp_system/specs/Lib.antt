@@ -1,4 +1,5 @@
 pub mod Sought
+pub mod Rules
 pub mod Cost
 pub mod Ended
 pub mod Gp
