@@ -1,5 +1,4 @@
 pub mod Sought
-pub mod Rules
 pub mod Cost
 pub mod Ended
 pub mod Gp
