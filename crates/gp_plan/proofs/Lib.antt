@@ -4,3 +4,4 @@ pub mod Orders
 pub mod Counts
 pub mod Beginnings
 pub mod Rounds
+pub mod Pairs

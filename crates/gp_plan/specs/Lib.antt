@@ -3,3 +3,4 @@ pub mod Order
 pub mod Laws
 pub mod Places
 pub mod Round
+pub mod Rules

@@ -7,6 +7,9 @@
 //! operation finds known what it begins at, and that the plan begins at the node by which matches are dealt out to
 //! shares. What a search may make of a plan stands in `specs/Order`.
 //!
+//! `Planned` are rules with their plans, `RuleSet` a set of them and `Share` one of several shares of their matches, each a
+//! type that knows what a search asks of it.
+//!
 //! Then call `numbers_of_share` and `Round::next` for each search: the numbers below a limit that are this share modulo
 //! so many, from the first one that is not below the start of a `Hint` up to the limit, and then those before it; but
 //! second comes the node that was changed last, where the hint tells one of the share. Contracts see the numbers that
@@ -18,11 +21,15 @@ mod changes;
 mod hint;
 pub mod laws;
 mod operation;
+mod planned;
 mod planning;
 mod round;
+mod share;
 pub mod sharing;
 
 pub use hint::Hint;
 pub use operation::{Operation, Plan};
+pub use planned::{Planned, RuleSet};
 pub use planning::plan;
 pub use round::{Round, numbers_of_share};
+pub use share::Share;

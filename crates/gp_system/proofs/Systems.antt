@@ -31,7 +31,7 @@ use Rattle.gp_system.specs.declared.goal.Fault.{Fault}
 use Rattle.gp_system.specs.Gp.{RuleSystem, rules_of, has, with_rule, judged_by, judged_in, share_in, gp_means}
 use Rattle.gp_system.specs.Sought.{HasSought}
 use Rattle.gp_system.specs.inside.Planned.{verdict_of, sought_of}
-use Rattle.gp_system.proofs.Searches.{rule_here}
+use Rattle.gp_plan.proofs.Pairs.{rule_here}
 use Rattle.gp_system.proofs.Sessions.{set_within}
 
 pub some_same : {X : Type 0} {x y : X} → Some x ≡ Some y → x ≡ y

@@ -11,7 +11,7 @@ ghost use Rattle.gp_system.specs.inside.Pursued.{HasPursued, called_of};
 use crate::crew::Crew;
 use crate::goal::{CallGoal, Fault};
 use crate::gp::Gp;
-use crate::pursuit::{brought, note_used, pursue_goal};
+use crate::pursuit::{Asked, brought, note_used, pursue_goal};
 use crate::session::Session;
 use gp_graph::Graph;
 use gp_journal::{Journal, Trail};
@@ -131,7 +131,8 @@ impl<'a> CrewSession<'a> {
         let missing = &items.as_slice()[had..];
         let rules = self.system.rules();
         let there = brought(rules, self.crew.workers, &trail, missing, replicas)?;
-        let pursued = pursue_goal(rt, &self.system, goal, trail, left, there, self.pace)?;
+        let asked = Asked { goal, trail, left };
+        let pursued = pursue_goal(rt, &self.system, asked, there, self.pace)?;
         let used = left - pursued.left;
         note_used(&mut items, pursued.entries, goal.mode, used)?;
         self.had = items.as_slice().len();

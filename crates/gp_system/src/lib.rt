@@ -2,9 +2,9 @@
 //!
 //! Call `execute` with a program, a host graph, a bound and a `Chooser`: the outcome has the journal of a run
 //! (`specs/Ended`), whose items are those that were really made. `Session` is the engine behind it, for who runs
-//! `gp_run::run` by hand, and `seek_set` the search for the rules of a set (`specs/Sought`). `Gp` is the same rules as an
-//! `opt_system::System`, whose goals are calls (`specs/Gp`): it keeps the laws of a system. `execute` with two
-//! workers or more starts threads and may wait; with one, nothing here does.
+//! `gp_run::run` by hand, and `seek_set` the search for the rules of a set (`specs/Sought`): a `RuleSet` of `Planned` rules
+//! in a `Share`. `Gp` is the same rules as an `opt_system::System`, whose goals are calls (`specs/Gp`): it keeps the laws
+//! of a system. `execute` with two workers or more starts threads and may wait; with one, nothing here does.
 #![tactic(auto)]
 
 mod answer;

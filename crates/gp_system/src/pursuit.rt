@@ -33,6 +33,14 @@ pub(crate) struct Pursued {
     pub(crate) replicas: Vec<Trail>,
 }
 
+/// A goal to be pursued from the trail, with so many counted items left for it.
+#[derive(Drop)]
+pub(crate) struct Asked {
+    pub(crate) goal: CallGoal,
+    pub(crate) trail: Trail,
+    pub(crate) left: u64,
+}
+
 // So many copies of a trail.
 fn copies(alloc: Global, trail: &Trail, count: u32) -> Result<Vec<Trail>, NoMemory>
     ensures all { IfOk result (λ v. All (λ t. t ≡ trail.now) v.items) }
@@ -118,23 +126,22 @@ fn level(
     Ok(())
 }
 
-/// Pursues a goal from the trail, with a worker for each replica. So many counted items are left for it.
+/// Pursues what is asked, with a worker for each replica.
 pub(crate) fn pursue_goal<P: Pace + Sync, R: Threads + Wait + Sync>(
     rt: &R,
     system: &Gp<'_>,
-    goal: CallGoal,
-    trail: Trail,
-    left: u64,
+    asked: Asked,
     replicas: Vec<Trail>,
     pace: &P,
 ) -> Result<Pursued, NoMemory>
     requires some { 0 < vec_len replicas }
     requires few { vec_len replicas < 2 ^ 32 }
-    requires there { All (λ t. t ≡ trail) replicas.items }
-    ensures pursued { IfOk result (λ p. IsPursued system.now goal trail left p.trail p.entries.items p.left p.ending) }
+    requires there { All (λ t. t ≡ asked.trail) replicas.items }
+    ensures pursued { IfOk result (λ p. IsPursued system.now asked.goal asked.trail asked.left p.trail p.entries.items p.left p.ending) }
     ensures there { IfOk result (λ p. All (λ t. t ≡ p.trail) p.replicas.items) }
     ensures few { IfOk result (λ p. vec_len p.replicas < 2 ^ 32) }
 {
+    let Asked { goal, trail, left } = asked;
     let Ok(core) = Core::start(*replicas.allocator(), system, trail, goal, left) else {
         return Err(NoMemory);
     };

@@ -1,10 +1,8 @@
--- What holds of the rules of a program with their plans.
-use Rattle.std.specs.Prelude.{◌≡◌, ◌<◌, ℕ, List, All, map, length}
+-- What holds of the rules of a program, and answers for one of them.
+use Rattle.std.specs.Prelude.{◌<◌, ℕ, List, All, map, length}
 use Rattle.gp_syntax.specs.declared.rule.RuleParts.{RuleParts}
 use Rattle.gp_syntax.specs.Tree.{rule_of_tree}
 use Rattle.gp_syntax.specs.WellFormed.{IsWellFormed}
-use Rattle.gp_plan.specs.Plan.{plan_of}
-use Rattle.gp_plan.specs.declared.operation.Operation.{Operation}
 use Rattle.gp_syntax.specs.Rule.{Found}
 use Rattle.gp_match.specs.declared.check.Verdict as match_verdict
 use Rattle.gp_match.specs.declared.check.Verdict.TheVariants as matched
@@ -16,8 +14,7 @@ use Rattle.opt_system.specs.declared.answers.Sought.{Sought}
 use Rattle.opt_system.specs.declared.answers.Sought.TheVariants as sought
 use Rattle.gp_system.specs.declared.goal.Fault.{Fault}
 
-pub record IsPlanned (rules : List RuleParts) (sets : List (List ℕ)) (plans : List (List Operation)) : Type 0 where
-  pub planned : plans ≡ map plan_of (map rule_of_tree rules)
+pub record AreChecked (rules : List RuleParts) (sets : List (List ℕ)) : Type 0 where
   pub well_formed : All IsWellFormed (map rule_of_tree rules)
   pub in_range : All (All (λ k. k < length rules)) sets
 

@@ -3,14 +3,13 @@ use Rattle.std.specs.Prelude.{◌≡◌, ℕ, List, [], ◌++◌, All, map, Some
 use Rattle.std.specs.Coded.{Coded, code_by, coded×, coded_ℕ}
 use Rattle.gp_values.specs.Graph.{Graph}
 use Rattle.gp_syntax.specs.declared.command.ProgramParts.{ProgramParts}
+use Rattle.gp_syntax.specs.declared.rule.RuleParts.{RuleParts}
 use Rattle.gp_syntax.specs.contracts.command.ProgramParts.{the_row as program_row}
 use Rattle.gp_syntax.specs.Rule.{Found}
 use Rattle.gp_syntax.specs.Step.{Applies}
 use Rattle.gp_syntax.specs.Run.{Program, Item}
 use Rattle.gp_syntax.specs.Tree.{rule_of_tree, program_of_tree}
 use Rattle.gp_syntax.specs.WellFormed.{IsWellFormed}
-use Rattle.gp_plan.specs.Plan.{plan_of}
-use Rattle.gp_plan.specs.declared.operation.Operation.{Operation}
 use Rattle.gp_journal.specs.Trail.{root_of, fresh}
 use Rattle.gp_journal.specs.Journal.{Journal, IsJournalOf, items_of, journal_code}
 use Rattle.gp_run.specs.Engine.{View}
@@ -48,9 +47,9 @@ pub record Grows (v w : Shown) : Type 0 where
   pub more : List Item
   pub items : items_of w.journal.items ≡ items_of v.journal.items ++ more
 
--- the plans are those of the program's rules, and the journal is one of these
-pub record IsSound (p : ProgramParts) (plans : List (List Operation)) (j : Journal) : Type 0 where
-  pub planned : plans ≡ map plan_of (map rule_of_tree p.rules)
+-- the rules are those of the program, and the journal is one of these
+pub record IsSound (p : ProgramParts) (rules : List RuleParts) (j : Journal) : Type 0 where
+  pub same_rules : rules ≡ p.rules
   pub well_formed : All IsWellFormed (map rule_of_tree p.rules)
   pub of_rules : IsJournalOf (map rule_of_tree p.rules) j
 

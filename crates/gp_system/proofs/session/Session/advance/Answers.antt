@@ -1,6 +1,5 @@
 use Rattle.std.proofs.Common.{◌∙◌, List, map, ap, sym, subst, arith}
 use Rattle.gp_values.specs.Graph.{IsGraph}
-use Rattle.gp_syntax.specs.declared.command.ProgramParts.{ProgramParts}
 use Rattle.gp_syntax.specs.declared.rule.RuleParts.{RuleParts}
 use Rattle.gp_syntax.specs.Tree.{rule_of_tree}
 use Rattle.gp_journal.specs.Journal.{with_step}
@@ -14,4 +13,4 @@ returns-then-self-eq0-clause-called c = (stands_here c.args.call c.args.self.now
 pub returns-in-Ok-clause-called : goal.returns-in-Ok-clause-called
 returns-in-Ok-clause-called c =
     stepped_here c.args.self.now c.self.inside.program.now c.self.inside.journal c.set_hints.new.self c.args.call c.self.inside.left c.args.found.now c.self.view_is c.self.invariant.well_formed (subst IsGraph c.graph.ensures c.next_numbers-sound.ensures.sound) c.requires (omega (arith, c.if-self-eq0.false))
-    (c.set_hints.ensures ∙ c.in-Ok.ensures.ok ∙ ap (λ (rs : List RuleParts). with_step (map rule_of_tree rs) c.self.inside.journal c.args.found.now) (c.as_slice.ensures ∙ ap (λ (p : ProgramParts). p.rules) c.parts.ensures.value))
+    (c.set_hints.ensures ∙ c.in-Ok.ensures.ok ∙ ap (λ (rs : List RuleParts). with_step (map rule_of_tree rs) c.self.inside.journal c.args.found.now) (c.rules.ensures ∙ c.self.invariant.same_rules))
