@@ -1,0 +1,4 @@
+pub mod StepAnew
+pub mod Upgrade
+pub mod Laws
+pub mod inside

@@ -1,0 +1,91 @@
+//! A trace of version 1 that is replayed by today's step.
+
+ghost use Rattle.std.specs.Prelude.{◌≡◌, ◌++◌, ◌∷◌, [], List, map, IfOk, MatchBool};
+ghost use Rattle.gp_values.specs.Graph.{Graph as AnyGraph};
+ghost use Rattle.gp_syntax.specs.Run.{Item as AnyItem};
+ghost use Rattle.gp_syntax.specs.Tree.{rule_of_tree, item_of};
+ghost use Rattle.gp_upgrade.specs.inside.Standing.{Follows, StandsIn, ReplaysToNone};
+
+use crate::found::{found_today, right_numbers};
+use crate::table::EdgeTable;
+use gp_graph::Graph;
+use gp_journal::Trail;
+use gp_match::{Verdict, check_match};
+use gp_memory::NoMemory;
+use gp_syntax::{Found, Item, Rule};
+use std::alloc::Global;
+
+/// The items so far, brought up to date, with the graph that they lead to and the table of its edges.
+pub(crate) struct Replay {
+    pub(crate) trail: Trail,
+    pub(crate) table: EdgeTable,
+    pub(crate) items: Vec<Item>,
+    pub(crate) alloc: Global,
+}
+
+impl Replay {
+    /// No items yet.
+    pub(crate) fn new(alloc: Global, host: Graph) -> Result<Replay, NoMemory>
+    {
+        let table = EdgeTable::new(alloc, &host)?;
+        Ok(Replay {
+            trail: Trail::new(alloc, host),
+            table,
+            items: Vec::new(alloc),
+            alloc,
+        })
+    }
+
+    /// One item more, where it replays.
+    pub(crate) fn follow(&mut self, rules: &[Rule], item: &Item) -> Result<bool, NoMemory>
+    {
+        match item {
+            Item::Step(found) => self.step(rules, found),
+            Item::Turn => {
+                self.items.push(Item::Turn)?;
+                Ok(true)
+            }
+            Item::Back(count) => self.back(*count),
+        }
+    }
+
+    fn step(&mut self, rules: &[Rule], was: &Found) -> Result<bool, NoMemory>
+    {
+        let Some(rule) = rules.get(was.rule() as usize) else {
+            return Ok(false);
+        };
+        let Some(found) = found_today(self.alloc, &self.table, was)? else {
+            return Ok(false);
+        };
+        match check_match(self.alloc, rule, self.trail.graph(), &found) {
+            Verdict::Applies => (),
+            Verdict::NoMemory => return Err(NoMemory),
+            Verdict::Faulty(_) | Verdict::No => return Ok(false),
+        }
+        self.make(rules, was, found)?;
+        Ok(true)
+    }
+
+    // Makes the step of a match that applies.
+    fn make(&mut self, rules: &[Rule], was: &Found, found: Found) -> Result<(), NoMemory>
+    {
+        let (_, next) = self.trail.graph().next_numbers();
+        self.trail.advance(rules, &found)?;
+        let rule = &rules[found.rule() as usize];
+        let made = right_numbers(self.alloc, rule, &found, next)?;
+        self.table.step(was.edges(), found.edges(), &made)?;
+        self.items.push(Item::Step(found))?;
+        Ok(())
+    }
+
+    fn back(&mut self, count: u64) -> Result<bool, NoMemory>
+    {
+        if count > self.trail.depth() {
+            return Ok(false);
+        }
+        self.trail.back(count);
+        self.table.back(count);
+        self.items.push(Item::Back(count))?;
+        Ok(true)
+    }
+}
