@@ -1,7 +1,7 @@
 //! The kinds of rows.
 
 use crate::graphs::{beside, edits, hub};
-use crate::runs::{commands, crews, journals, random};
+use crate::runs::{commands, crews, journals, random, upgrades};
 use gp_rows::Answer;
 use std::alloc::Global;
 use std::sync::Wait;
@@ -16,6 +16,8 @@ pub(crate) enum Kind {
     Hubs,
     Met,
     Journals,
+    Upgrades,
+    Upgraded,
     Replays,
     Parts,
     Commands,
@@ -23,13 +25,15 @@ pub(crate) enum Kind {
 }
 
 /// The files of rows, `NAME.rows`, and the kind of each.
-pub(crate) const FILES: [(&'static str, Kind); 10] = [
+pub(crate) const FILES: [(&'static str, Kind); 12] = [
     ("edits", Kind::Edits),
     ("leads", Kind::Leads),
     ("walks", Kind::Walks),
     ("hubs", Kind::Hubs),
     ("met", Kind::Met),
     ("journals", Kind::Journals),
+    ("upgrades", Kind::Upgrades),
+    ("upgraded", Kind::Upgraded),
     ("replays", Kind::Replays),
     ("parts", Kind::Parts),
     ("commands", Kind::Commands),
@@ -51,6 +55,8 @@ pub(crate) fn answer<R: Threads + Wait + Sync>(
         Kind::Hubs => hub::answer(alloc, fields, out),
         Kind::Met => hub::order(alloc, fields, out),
         Kind::Journals => journals::answer(alloc, fields, out),
+        Kind::Upgrades => upgrades::answer(alloc, fields, out),
+        Kind::Upgraded => upgrades::graph(alloc, fields, out),
         Kind::Replays => random::replays(alloc, fields, out),
         Kind::Parts => random::parts(alloc, fields, out),
         Kind::Commands => commands::answer(rt, alloc, fields, out),

@@ -6,3 +6,4 @@ pub(crate) mod crews;
 pub(crate) mod journals;
 pub(crate) mod random;
 mod replay;
+pub(crate) mod upgrades;

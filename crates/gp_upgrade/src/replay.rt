@@ -1,10 +1,11 @@
 //! A trace of version 1 that is replayed by today's step.
 
-ghost use Rattle.std.specs.Prelude.{◌≡◌, ◌++◌, ◌∷◌, [], List, map, IfOk, MatchBool};
-ghost use Rattle.gp_values.specs.Graph.{Graph as AnyGraph};
-ghost use Rattle.gp_syntax.specs.Run.{Item as AnyItem};
+ghost use Rattle.std.specs.Prelude.{◌≡◌, [], Some, map, IfOk, OnOk};
+ghost use Rattle.gp_syntax.specs.Run.{Stepped, Back};
 ghost use Rattle.gp_syntax.specs.Tree.{rule_of_tree, item_of};
-ghost use Rattle.gp_upgrade.specs.inside.Standing.{Follows, StandsIn, ReplaysToNone};
+ghost use Rattle.gp_journal.specs.Leads.{AppliesBy};
+ghost use Rattle.gp_upgrade.specs.inside.Standing.{Follows, Makes, StandsIn};
+ghost use Rattle.gp_upgrade.specs.inside.Table.{found_today};
 
 use crate::found::{found_today, right_numbers};
 use crate::table::EdgeTable;
@@ -26,6 +27,7 @@ pub(crate) struct Replay {
 impl Replay {
     /// No items yet.
     pub(crate) fn new(alloc: Global, host: Graph) -> Result<Replay, NoMemory>
+        ensures { IfOk result (λ x. (rules : _) → StandsIn rules host.graph [] x) }
     {
         let table = EdgeTable::new(alloc, &host)?;
         Ok(Replay {
@@ -38,6 +40,7 @@ impl Replay {
 
     /// One item more, where it replays.
     pub(crate) fn follow(&mut self, rules: &[Rule], item: &Item) -> Result<bool, NoMemory>
+        ensures { IfOk result (Follows (map rule_of_tree rules.now) (item_of item.now) self.old self.new) }
     {
         match item {
             Item::Step(found) => self.step(rules, found),
@@ -50,6 +53,7 @@ impl Replay {
     }
 
     fn step(&mut self, rules: &[Rule], was: &Found) -> Result<bool, NoMemory>
+        ensures { IfOk result (Follows (map rule_of_tree rules.now) (Stepped was.now) self.old self.new) }
     {
         let Some(rule) = rules.get(was.rule() as usize) else {
             return Ok(false);
@@ -68,6 +72,9 @@ impl Replay {
 
     // Makes the step of a match that applies.
     fn make(&mut self, rules: &[Rule], was: &Found, found: Found) -> Result<(), NoMemory>
+        requires applies { AppliesBy (map rule_of_tree rules.now) self.old.trail.graph found }
+        requires today { found_today self.old.table.now was.now ≡ Some found }
+        ensures { OnOk result (Makes (map rule_of_tree rules.now) was.now found self.old self.new) }
     {
         let (_, next) = self.trail.graph().next_numbers();
         self.trail.advance(rules, &found)?;
@@ -79,6 +86,8 @@ impl Replay {
     }
 
     fn back(&mut self, count: u64) -> Result<bool, NoMemory>
+        requires { length self.old.table.before ≡ length self.old.trail.before }
+        ensures { IfOk result (Follows (map rule_of_tree rules.now) (Back count) self.old self.new) }
     {
         if count > self.trail.depth() {
             return Ok(false);
