@@ -14,7 +14,7 @@ use Rattle.gp_journal.specs.Journal.{items_of}
 use Rattle.gp_upgrade.specs.StepAnew.{StepAnew, StepsAnewTo}
 use Rattle.gp_upgrade.specs.Upgrade.{Renumbers, RenumbersAll}
 use Rattle.gp_upgrade.specs.inside.Table as tables
-use Rattle.gp_upgrade.specs.inside.Standing.{LedBoth, Led}
+use Rattle.gp_upgrade.specs.inside.Led.{LedBoth, Led}
 
 -- ---- the first ones of a list
 

@@ -19,7 +19,8 @@ use Rattle.gp_upgrade.specs.StepAnew.{StepAnew, StepAnewBy, StepsAnewTo, Replays
 use Rattle.gp_upgrade.specs.Upgrade.{Renumbers, RenumbersAll, LeadAlike}
 use Rattle.gp_upgrade.specs.inside.Table.{IsTable, as_it_was, own_numbers, moved, all_today, found_today, Tables, stepped}
 use Rattle.gp_upgrade.specs.inside.Table as tables
-use Rattle.gp_upgrade.specs.inside.Standing.{LedBoth, Led, Stands, StandsIn, ReplaysToNone, Makes}
+use Rattle.gp_upgrade.specs.inside.Led.{LedBoth, Led}
+use Rattle.gp_upgrade.specs.inside.Standing.{Stands, StandsIn, ReplaysToNone, Makes}
 use Rattle.gp_upgrade.proofs.Tables.{own_table, own_graph, all_today_length, alike}
 use Rattle.gp_upgrade.proofs.Renumbered.{value_was, applies_on, applies_back, match_there}
 use Rattle.gp_upgrade.proofs.OneStep.{one_step_anew}
