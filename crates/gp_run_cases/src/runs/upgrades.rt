@@ -66,6 +66,7 @@ fn without_names(alloc: Global, text: &[u8]) -> Result<Vec<u8>, Wrong> {
     for line in text.split(|byte| *byte == b'\n') {
         match line.strip_prefix(b"  (e") {
             Some(rest) => edges.push(behind_name(rest))?,
+            None if line.is_empty() => (),
             None => lines.push(line)?,
         }
     }
