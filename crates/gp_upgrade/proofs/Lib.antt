@@ -1,4 +1,5 @@
 pub mod Tables
+pub mod Changes
 pub mod Alike
 pub mod Renumbered
 pub mod OneStep
@@ -6,3 +7,4 @@ pub mod Breaks
 pub mod Moves
 pub mod Stacks
 pub mod Standings
+pub mod Rights

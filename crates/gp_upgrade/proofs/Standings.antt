@@ -160,10 +160,10 @@ stands_step rules host s m n x y f k st =
 pub none_step : (rules : List Rule) (host : Graph) (s : List Item) (m : Found) (x : Replay)
     → ((r : Rule) (n : Found) → slice_get rules m.rule ≡ Some r → found_today x.table.now m ≡ Some n → Applies r x.trail.graph n → ⊥)
     → StandsIn rules host s x → ReplaysToNone rules host (s ++ Stepped m ∷ [])
-none_step rules host s m x no st = λ g w.
+none_step rules host s m x never st = λ g w.
     let t = items_of x.items.items in
     let l = led_both rules host (live s) (live t) x.table.now x.trail.graph x.table.before x.trail.before st.led in
     let p = anew_split rules host (live s) g m (subst (λ ms. StepsAnewTo rules host ms g) (live_more s (Stepped m)) w.steps) in
     let step : StepAnew p.2.0 (as_it_was x.table.now x.trail.graph) m g = subst (λ z. StepAnew p.2.0 z m g) (l.only p.0 p.1) p.2.2 in
     let n = match_there p.2.0 x.table.now x.trail.graph m step.0 l.table step.1.is_match in
-    no p.2.0 n.0 p.2.1 n.1 (step.0, applies_on p.2.0 x.table.now x.trail.graph m n.0 step.0 l.table n.1 step.1)
+    never p.2.0 n.0 p.2.1 n.1 (step.0, applies_on p.2.0 x.table.now x.trail.graph m n.0 step.0 l.table n.1 step.1)

@@ -1,3 +1,4 @@
 pub mod Table
+pub mod Held
 pub mod Led
 pub mod Standing

@@ -9,10 +9,10 @@
 
 mod fault;
 mod found;
+mod items;
 pub mod laws;
 mod replay;
 mod table;
-mod upgrade;
 
 pub use fault::UpgradeFault;
-pub use upgrade::upgrade;
+pub use items::upgrade;

@@ -1,6 +1,6 @@
 //! A trace of version 1 that is replayed by today's step.
 
-ghost use Rattle.std.specs.Prelude.{◌≡◌, [], Some, map, IfOk, OnOk};
+ghost use Rattle.std.specs.Prelude.{◌≡◌, [], Some, length, map, IfOk, OnOk};
 ghost use Rattle.gp_syntax.specs.Run.{Stepped, Back};
 ghost use Rattle.gp_syntax.specs.Tree.{rule_of_tree, item_of};
 ghost use Rattle.gp_journal.specs.Leads.{AppliesBy};
@@ -18,17 +18,43 @@ use std::alloc::Global;
 
 /// The items so far, brought up to date, with the graph that they lead to and the table of its edges.
 pub(crate) struct Replay {
-    pub(crate) trail: Trail,
-    pub(crate) table: EdgeTable,
-    pub(crate) items: Vec<Item>,
-    pub(crate) alloc: Global,
+    trail: Trail,
+    table: EdgeTable,
+    items: Vec<Item>,
+    alloc: Global,
+}
+
+// Written, so that a function that lets a replay go calls it.
+impl Drop for Replay {
+    fn drop(self) {
+        let Replay {
+            trail,
+            table,
+            items,
+            alloc: _,
+        } = self;
+        drop(trail);
+        drop(table);
+        drop(items);
+    }
 }
 
 impl Replay {
+    /// The items.
+    pub(crate) fn into_items(self) -> Vec<Item>
+        ensures { result ≡ self.items }
+    {
+        let Replay { trail, table, items, alloc: _ } = self;
+        drop(trail);
+        drop(table);
+        items
+    }
+
     /// No items yet.
     pub(crate) fn new(alloc: Global, host: Graph) -> Result<Replay, NoMemory>
         ensures { IfOk result (λ x. (rules : _) → StandsIn rules host.graph [] x) }
     {
+        let _sound = host.next_numbers();
         let table = EdgeTable::new(alloc, &host)?;
         Ok(Replay {
             trail: Trail::new(alloc, host),
@@ -40,7 +66,8 @@ impl Replay {
 
     /// One item more, where it replays.
     pub(crate) fn follow(&mut self, rules: &[Rule], item: &Item) -> Result<bool, NoMemory>
-        ensures { IfOk result (Follows (map rule_of_tree rules.now) (item_of item.now) self.old self.new) }
+        requires { length self.old.table.before ≡ length self.old.trail.before }
+        ensures follows { IfOk result (Follows (map rule_of_tree rules.now) (item_of item.now) self.old self.new) }
     {
         match item {
             Item::Step(found) => self.step(rules, found),
@@ -77,8 +104,10 @@ impl Replay {
         ensures { OnOk result (Makes (map rule_of_tree rules.now) was.now found self.old self.new) }
     {
         let (_, next) = self.trail.graph().next_numbers();
-        self.trail.advance(rules, &found)?;
         let rule = &rules[found.rule() as usize];
+        let _well_formed = rule.parts();
+        self.trail.advance(rules, &found)?;
+        let _fits = self.trail.graph().next_numbers();
         let made = right_numbers(self.alloc, rule, &found, next)?;
         self.table.step(was.edges(), found.edges(), &made)?;
         self.items.push(Item::Step(found))?;
@@ -87,7 +116,7 @@ impl Replay {
 
     fn back(&mut self, count: u64) -> Result<bool, NoMemory>
         requires { length self.old.table.before ≡ length self.old.trail.before }
-        ensures { IfOk result (Follows (map rule_of_tree rules.now) (Back count) self.old self.new) }
+        ensures { IfOk result (λ b. (rules : _) → Follows rules (Back count) self.old self.new b) }
     {
         if count > self.trail.depth() {
             return Ok(false);

@@ -22,5 +22,5 @@ pub fn upgrade(alloc: Global, rules: &[Rule], host: Graph, items: &[Item]) -> Re
             return Err(UpgradeFault::Item(n as u64));
         }
     }
-    Ok(replay.items)
+    Ok(replay.into_items())
 }
