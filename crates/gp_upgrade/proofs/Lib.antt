@@ -7,4 +7,6 @@ pub mod Breaks
 pub mod Moves
 pub mod Stacks
 pub mod Standings
+pub mod Followed
+pub mod Upgraded
 pub mod Rights

@@ -1,5 +1,5 @@
 -- Live steps and items, one more at a time and taken back.
-use Rattle.std.proofs.Common.{◌≡◌, ℕ, zero, suc, ◌+◌, ◌-◌, ◌≤◌, List, [], ◌∷◌, ◌++◌, map, length, take, sym, subst, ap, refl, ◌∙◌, arith, length-append}
+use Rattle.std.proofs.Common.{◌≡◌, ℕ, zero, suc, ◌+◌, ◌-◌, ◌≤◌, List, [], ◌∷◌, ◌++◌, length, take, sym, subst, ap, refl, ◌∙◌, arith, length-append}
 use Rattle.std.specs.Prelude.{Option, Some, slice_get}
 use Rattle.gp_values.specs.Graph.{Graph}
 use Rattle.gp_syntax.specs.declared.found.Item.{Item as ItemTree}

@@ -1,22 +1,21 @@
 -- An upgrade stands behind one item more.
-use Rattle.std.proofs.Common.{◌≡◌, ◌⊎◌, inl, inr, ℕ, zero, suc, ◌+◌, ◌-◌, ◌≤◌, ◌<◌, List, [], ◌∷◌, ◌++◌, map, length, take, sym, subst, ap, refl, ◌∙◌, arith, length-append}
+use Rattle.std.proofs.Common.{◌≡◌, inl, inr, ℕ, zero, suc, ◌≤◌, ◌<◌, List, [], ◌∷◌, ◌++◌, length, take, sym, subst, ap, refl, ◌∙◌, arith, length-append}
 use Rattle.std.specs.Prelude.{Option, Some, None, slice_get}
 use Rattle.std.specs.Option.{option_map}
 use Rattle.std.proofs.lemmas.Bool.{cases_lt}
 use Rattle.gp_values.specs.Graph.{Graph, IsGraph}
 use Rattle.gp_syntax.specs.declared.found.Item.TheVariants as trees
 use Rattle.gp_syntax.specs.Rule.{Rule, Found, kept_edges}
-use Rattle.gp_syntax.specs.Value.{Assignment}
 use Rattle.gp_syntax.specs.WellFormed.{IsWellFormed}
-use Rattle.gp_syntax.specs.Step.{Applies, AppliesBy, StepBy, Step}
+use Rattle.gp_syntax.specs.Step.{Applies, Step}
 use Rattle.gp_syntax.specs.Run.{Item, Stepped, Turned, Back, live_after, live}
 use Rattle.gp_syntax.specs.Replay.{BacksFit}
 use Rattle.gp_step.specs.Halves.{images_from}
 use Rattle.gp_journal.specs.Trail as trails
 use Rattle.gp_journal.specs.Journal.{items_of}
 use Rattle.gp_upgrade.specs.declared.replay.Replay.{Replay}
-use Rattle.gp_upgrade.specs.StepAnew.{StepAnew, StepAnewBy, StepsAnewTo, ReplaysAnew}
-use Rattle.gp_upgrade.specs.Upgrade.{Renumbers, RenumbersAll, LeadAlike}
+use Rattle.gp_upgrade.specs.StepAnew.{StepAnew, StepsAnewTo}
+use Rattle.gp_upgrade.specs.Upgrade.{Renumbers, LeadAlike}
 use Rattle.gp_upgrade.specs.inside.Table.{IsTable, as_it_was, own_numbers, moved, all_today, found_today, Tables, stepped}
 use Rattle.gp_upgrade.specs.inside.Table as tables
 use Rattle.gp_upgrade.specs.inside.Led.{LedBoth, Led}
@@ -25,7 +24,7 @@ use Rattle.gp_upgrade.proofs.Tables.{own_table, own_graph, all_today_length, ali
 use Rattle.gp_upgrade.proofs.Renumbered.{value_was, applies_on, applies_back, match_there}
 use Rattle.gp_upgrade.proofs.OneStep.{one_step_anew}
 use Rattle.gp_upgrade.proofs.Moves.{step_was, table_moved}
-use Rattle.gp_upgrade.proofs.Stacks.{take_short, take_long, live_more, OneFits, fits_more, fits_last, StepsAnewBy, anew_more, anew_split, steps_more, renumbers_more, as_long, items-more, led_both, length-was, length-now, length-tables, led_back}
+use Rattle.gp_upgrade.proofs.Stacks.{take_short, take_long, live_more, OneFits, fits_more, fits_last, anew_more, anew_split, steps_more, renumbers_more, as_long, items-more, led_both, length-was, length-now, led_back}
 
 some_same : {X : Type 0} {x y : X} → Some x ≡ Some y → x ≡ y
 some_same e = cc
@@ -133,7 +132,7 @@ both_more rules host ms ns t h k m n r is wf w f s l =
     let same = value_was r t h m n s.0 l.table fr.nodes in
     let here : slice_get rules m.rule ≡ Some r = ap (slice_get rules) (sym fr.rule) ∙ is in
     let anew : StepAnew r (as_it_was t h) m (as_it_was u k) =
-      (s.0, applies_back r t h m n s.0 l.table f s.1, step_was r t h k m n s.0 wf w l.table f same s.1.is_match s.2) in
+    (s.0, applies_back r t h m n s.0 l.table f s.1, step_was r t h k m n s.0 wf w l.table f same s.1.is_match s.2) in
     record {
       table = table_moved r t h k m n s.0 wf w l.table f same s.1.is_match s.2;
       was = anew_more rules host ms (as_it_was t h) (as_it_was u k) m l.was (r, here, anew);

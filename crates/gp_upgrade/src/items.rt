@@ -12,7 +12,12 @@ use std::alloc::Global;
 
 /// The items of version 2 of these items of version 1, by these rules and from this host: the same but for the numbers of
 /// edges.
-pub fn upgrade(alloc: Global, rules: &[Rule], host: Graph, items: &[Item]) -> Result<Vec<Item>, UpgradeFault>
+pub fn upgrade(
+    alloc: Global,
+    rules: &[Rule],
+    host: Graph,
+    items: &[Item],
+) -> Result<Vec<Item>, UpgradeFault>
     ensures items { IfOk result (λ t. IsUpgrade (map rule_of_tree rules.now) host.graph (map item_of items.now) (map item_of t.items)) }
     ensures fault { IfErr result (HasFault (map rule_of_tree rules.now) host.graph (map item_of items.now)) }
 {

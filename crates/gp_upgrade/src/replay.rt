@@ -1,7 +1,10 @@
 //! A trace of version 1 that is replayed by today's step.
 
 ghost use Rattle.std.specs.Prelude.{◌≡◌, [], Some, length, map, IfOk, OnOk};
+ghost use Rattle.std.specs.Bool.{Decides};
+ghost use Rattle.gp_values.specs.Graph.{IsGraph};
 ghost use Rattle.gp_syntax.specs.Run.{Stepped, Back};
+ghost use Rattle.gp_syntax.specs.Step.{Applies};
 ghost use Rattle.gp_syntax.specs.Tree.{rule_of_tree, item_of};
 ghost use Rattle.gp_journal.specs.Leads.{AppliesBy};
 ghost use Rattle.gp_upgrade.specs.inside.Standing.{Follows, Makes, StandsIn};
@@ -44,7 +47,12 @@ impl Replay {
     pub(crate) fn into_items(self) -> Vec<Item>
         ensures { result ≡ self.items }
     {
-        let Replay { trail, table, items, alloc: _ } = self;
+        let Replay {
+            trail,
+            table,
+            items,
+            alloc: _,
+        } = self;
         drop(trail);
         drop(table);
         items
@@ -82,16 +90,15 @@ impl Replay {
     fn step(&mut self, rules: &[Rule], was: &Found) -> Result<bool, NoMemory>
         ensures { IfOk result (Follows (map rule_of_tree rules.now) (Stepped was.now) self.old self.new) }
     {
-        let Some(rule) = rules.get(was.rule() as usize) else {
+        let number = was.rule() as usize;
+        if number >= rules.len() {
             return Ok(false);
-        };
+        }
         let Some(found) = found_today(self.alloc, &self.table, was)? else {
             return Ok(false);
         };
-        match check_match(self.alloc, rule, self.trail.graph(), &found) {
-            Verdict::Applies => (),
-            Verdict::NoMemory => return Err(NoMemory),
-            Verdict::Faulty(_) | Verdict::No => return Ok(false),
+        if !applies(self.alloc, &rules[number], self.trail.graph(), &found)? {
+            return Ok(false);
         }
         self.make(rules, was, found)?;
         Ok(true)
@@ -103,11 +110,11 @@ impl Replay {
         requires today { found_today self.old.table.now was.now ≡ Some found }
         ensures { OnOk result (Makes (map rule_of_tree rules.now) was.now found self.old self.new) }
     {
-        let (_, next) = self.trail.graph().next_numbers();
+        let next = next_edge(self.trail.graph());
         let rule = &rules[found.rule() as usize];
         let _well_formed = rule.parts();
         self.trail.advance(rules, &found)?;
-        let _fits = self.trail.graph().next_numbers();
+        let _next_after = next_edge(self.trail.graph());
         let made = right_numbers(self.alloc, rule, &found, next)?;
         self.table.step(was.edges(), found.edges(), &made)?;
         self.items.push(Item::Step(found))?;
@@ -126,4 +133,26 @@ impl Replay {
         self.items.push(Item::Back(count))?;
         Ok(true)
     }
+}
+
+// Whether a match applies.
+fn applies(alloc: Global, rule: &Rule, graph: &Graph, found: &Found) -> Result<bool, NoMemory>
+    ensures { IfOk result (λ b. Decides b (Applies (rule_of_tree rule.now) graph.now.graph found.now)) }
+{
+    let _well_formed = rule.parts();
+    match check_match(alloc, rule, graph, found) {
+        Verdict::Applies => Ok(true),
+        Verdict::Faulty(_) => Ok(false),
+        Verdict::No => Ok(false),
+        Verdict::NoMemory => Err(NoMemory),
+    }
+}
+
+// The next number of an edge.
+fn next_edge(graph: &Graph) -> u64
+    ensures number { result ≡ graph.now.graph.next_edge }
+    ensures sound { IsGraph graph.now.graph }
+{
+    let (_, next) = graph.next_numbers();
+    next
 }

@@ -1,5 +1,5 @@
 -- What holds of an upgrade after some items.
-use Rattle.std.specs.Prelude.{◌≡◌, ℕ, Bool, MatchBool, List, [], ◌∷◌, ◌++◌, map, take, Option, Some, slice_get}
+use Rattle.std.specs.Prelude.{◌≡◌, ℕ, Bool, MatchBool, List, [], ◌∷◌, ◌++◌, take, Option, Some, slice_get}
 use Rattle.gp_values.specs.Graph.{Graph, IsGraph}
 use Rattle.gp_syntax.specs.declared.found.Item.TheVariants as items
 use Rattle.gp_syntax.specs.Rule.{Rule, Found, kept_edges}
