@@ -1,0 +1,224 @@
+-- What each function over a table of commands keeps.
+use Rattle.std.proofs.Common.{◌≡◌, ◌⊎◌, inl, inr, ℕ, zero, suc, ◌+◌, ◌-◌, ◌*◌, ◌<◌, ◌≤◌, ◌^◌, Bool, true, false, List, [], ◌∷◌, length, slice_get, slice_index_or, Some, Contains, refl, sym, ap, subst, ◌∙◌, arith}
+use Rattle.std.proofs.lemmas.Option.{slice_get_within, slice_get-get_or}
+use Rattle.gp_syntax.specs.Run.{Command, Loop, Program, Item, Turned}
+use Rattle.gp_code.specs.declared.node.Node.{Node}
+use Rattle.gp_code.specs.declared.node.Node.TheVariants as node
+use Rattle.gp_certify.specs.declared.ways.Way.{Way}
+use Rattle.gp_certify.specs.declared.ways.Way.TheVariants as way
+use Rattle.gp_certify.specs.declared.end.Outcome.{Outcome}
+use Rattle.gp_certify.specs.declared.end.Outcome.TheVariants as outcome
+use Rattle.gp_certify.specs.declared.end.End.{End}
+use Rattle.gp_certify.specs.declared.starts.Reached.{Reached}
+use Rattle.gp_certify.specs.Places.{Spans, IsPart, IsTakenBack}
+use Rattle.gp_certify.specs.Parts.{OfParts}
+use Rattle.gp_certify.specs.View.{View, IsTape}
+use Rattle.gp_code.specs.Code.{at, Means, IsCode}
+use Rattle.gp_certify.specs.inside.Ways.{EndsSo, IsFirst, way_of, above, ByWay}
+use Rattle.gp_certify.specs.inside.Grows.{Grows, Has, IsTaken, IsAmong, OfOne}
+use Rattle.gp_certify.specs.inside.Memory.{Kept, Knows, Learns}
+use Rattle.gp_certify.specs.inside.Found.{AreEnds, AreEndsAt, IsTrueOf, GoesOn, Leaves, HasTurned, IsFound}
+use Rattle.gp_certify.specs.inside.Kept.{FirstsSoFar, TurnsSoFar}
+use Rattle.gp_certify.proofs.Places.{item_within}
+use Rattle.gp_certify.proofs.Grown.{grows_as, grows_of}
+use Rattle.gp_certify.proofs.Parted.{out, into, part_of, first_below}
+
+-- ---- an equal tape
+
+pub tape_at : {u v : View} → u ≡ v → IsTape v → IsTape u
+tape_at e h = subst IsTape (sym e) h
+
+pub code_at : {u v : View} (code : List Node) → u ≡ v → ((cs : List Command) × IsCode v.program code cs) → (cs : List Command) × IsCode u.program code cs
+code_at {u} {v} code e h = subst (λ (z : View). (cs : List Command) × IsCode z.program code cs) (sym e) h
+
+pub place_at : {u v : View} {i : ℕ} → u ≡ v → i ≤ length v.trace → i ≤ length u.trace
+place_at {u} {v} {i} e h = subst (λ (z : View). i ≤ length z.trace) (sym e) h
+
+pub part_at : {u v : View} {i j : ℕ} → u ≡ v → IsPart v.trace i j → IsPart u.trace i j
+part_at {u} {v} {i} {j} e h = subst (λ (z : View). IsPart z.trace i j) (sym e) h
+
+pub memory_at : {u v : View} (code : List Node) (m : Kept) → u ≡ v → IsTrueOf v code m → IsTrueOf u code m
+memory_at {u} {v} code m e h = subst (λ (z : View). IsTrueOf z code m) (sym e) h
+
+pub ends_at : {u v : View} (code : List Node) (n i : ℕ) (es : List End) → u ≡ v → AreEndsAt v code n i es → AreEndsAt u code n i es
+ends_at {u} {v} code n i es e h = subst (λ (z : View). AreEndsAt z code n i es) (sym e) h
+
+-- ---- nodes
+
+pub node_is : (code : List Node) (n : ℕ) (d x : Node) → n < length code → slice_index_or code n d ≡ x → slice_get code n ≡ Some x
+node_is code n d x l e = slice_get-get_or code n d l ∙ ap Some e
+
+pub first_of_three : (x : Node) (m : ℕ) → ((a : ℕ) × (x ≡ node.Seq m a)) ⊎ (((a : ℕ) × (b : ℕ) × (x ≡ node.If m a b)) ⊎ ((a : ℕ) × (b : ℕ) × (x ≡ node.Try m a b))) → IsFirst x m
+first_of_three x m (inl (a, e)) = rw e refl
+first_of_three x m (inr (inl (a, b, e))) = rw e refl
+first_of_three x m (inr (inr (a, b, e))) = rw e refl
+
+pub same_ends : (v : View) (p q : Command) (i : ℕ) (es : List End) → p ≡ q → AreEnds v q i es → AreEnds v p i es
+same_ends v p q i es e a = subst (λ (z : Command). AreEnds v z i es) (sym e) a
+
+pub first_less : (program : Program) (code : List Node) (n m : ℕ) (x : Node) → ((cs : List Command) × IsCode program code cs) → slice_get code n ≡ Some x → IsFirst x m → m < n
+first_less program code n m x h s f = first_below program h.0 n x m (h.1 n x s) f
+
+-- ---- memory
+
+pub true_learned : (v : View) (code : List Node) (m k : Kept) (n i : ℕ) (es : List End) → IsTrueOf v code m → AreEndsAt v code n i es → Learns m k n i es → IsTrueOf v code k
+true_learned v code m k n i es t a l = λ o j fs w cs h. elim (l o j fs w) [
+  | inl z ↦ t o j fs z cs h
+  | inr z ↦ subst (λ (y : ℕ). AreEnds v (at cs y) j fs) (sym z.0) (subst (λ (y : ℕ). AreEnds v (at cs n) y fs) (sym z.1) (subst (λ (y : List End). AreEnds v (at cs n) i y) (sym z.2) (a cs h)))
+]
+
+-- ---- ways
+
+module _ (v : View) (cs : List Command) where
+  pub by_end : (x : Way) (i : ℕ) (f : End) (old new : End → Type 0) → x ≡ way.Ends → Grows old new (λ e. e ≡ f) → Grows old new (ByWay v cs x i f)
+  by_end x i f old new e g = subst (λ (z : Way). Grows old new (ByWay v cs z i f)) (sym e) g
+
+  pub by_on : (x : Way) (i a : ℕ) (f : End) (es : List End) (old new : End → Type 0) → x ≡ way.On a → AreEnds v (at cs a) f.place es → Grows old new (Contains es) → Grows old new (ByWay v cs x i f)
+  by_on x i a f es old new e k g = subst (λ (z : Way). Grows old new (ByWay v cs z i f)) (sym e) (grows_as old new (Contains es) (ByWay v cs (way.On a) i f) k.sound k.whole g)
+
+  pub by_behind : (x : Way) (i a : ℕ) (f : End) (es : List End) (old new : End → Type 0) → x ≡ way.OnBehind a → IsTakenBack v.trace i f.place → AreEnds v (at cs a) (f.place + 1) es → Grows old new (Contains es)
+      → Grows old new (ByWay v cs x i f)
+  by_behind x i a f es old new e b k g =
+      subst (λ (z : Way). Grows old new (ByWay v cs z i f)) (sym e) (grows_as old new (Contains es) (ByWay v cs (way.OnBehind a) i f) (λ y c. (b, k.sound y c)) (λ y c. k.whole y c.1) g)
+
+-- ---- the ends of a first part, one after another
+
+pub firsts_more : (v u w : View) (code : List Node) (m k : Kept) (shape : Node) (i : ℕ) (es : List End) (n : ℕ) (old mid new : List End) (z d : End) (x : Way) → n < length es → FirstsSoFar v u code m shape i es n old mid → z ≡ slice_index_or es n d
+    → x ≡ way_of shape z.outcome → w ≡ u → IsTrueOf u code k → ((cs : List Command) → IsCode u.program code cs → Grows (Contains mid) (Contains new) (ByWay u cs x i z)) → FirstsSoFar v w code k shape i es (n + 1) old new
+firsts_more v u w code m k shape i es n old mid new z d x l s zi xi e t g =
+    let h : (cs : List Command) → IsCode v.program code cs → Grows (Contains mid) (Contains new) (ByWay v cs x i z) =
+    subst (λ (y : View). (cs : List Command) → IsCode y.program code cs → Grows (Contains mid) (Contains new) (ByWay y cs x i z)) s.same g in
+    record {
+      same = e ∙ s.same;
+      memory = memory_at code k (sym s.same) t;
+      found = λ cs c. grows_of (λ f y. ByWay v cs (way_of shape f.outcome) i f y) _ _ _ es n z d l zi (s.found cs c) (subst (λ (y : Way). Grows (Contains mid) (Contains new) (ByWay v cs y i z)) xi (h cs c));
+    }
+
+-- ---- loops
+
+module _ (v : View) (w : IsTape v) (body : Command) where
+  abbrev L : Command
+  L = Loop body
+
+  abbrev S : Command → ℕ → ℕ → Outcome → Type 0
+  S = Spans v.program v.trace v.graphs
+
+  only_gives : (k j : ℕ) (x : Outcome) → S L k j x → x ≡ outcome.Gives
+  only_gives k j outcome.Gives s = refl
+  only_gives k j outcome.Fails s = absurd (out v w L k j outcome.Fails s)
+  only_gives k j outcome.Breaks s = absurd (out v w L k j outcome.Breaks s)
+
+  as_gives : (k : ℕ) (e : End) → EndsSo v L k e → S L k e.place outcome.Gives
+  as_gives k e s = subst (λ (x : Outcome). S L k e.place x) (only_gives k e.place e.outcome s) s
+
+  from_gives : (k : ℕ) (e : End) → e.outcome ≡ outcome.Gives → S L k e.place outcome.Gives → EndsSo v L k e
+  from_gives k e o s = subst (λ (x : Outcome). S L k e.place x) (sym o) s
+
+  body_as : (k : ℕ) (f : End) (x : Outcome) → f.outcome ≡ x → EndsSo v body k f → S body k f.place x
+  body_as k f x o s = subst (λ (y : Outcome). S body k f.place y) o s
+
+  turn_within : (k : ℕ) → slice_get v.trace k ≡ Some Turned → k ≤ length v.trace
+  turn_within k t = let l = item_within v.trace k Turned t in omega arith
+
+  -- a turn at k that goes on at m, and the end of the loop from there
+  goes_on : (k m : ℕ) (f e : End) → slice_get v.trace k ≡ Some Turned → EndsSo v body (k + 1) f → GoesOn f m → EndsSo v L m e → EndsSo v L k e
+  goes_on k m f e t s g r =
+      from_gives k e (only_gives m e.place e.outcome r)
+      (into v w L k e.place outcome.Gives (turn_within k t) (t, inl (m, subst (λ (z : ℕ). S body (k + 1) z outcome.Gives) (sym g.1) (body_as (k + 1) f outcome.Gives g.0 s), as_gives m e r)))
+
+  leaves : (k : ℕ) (f e : End) → slice_get v.trace k ≡ Some Turned → EndsSo v body (k + 1) f → Leaves v (k + 1) f e → EndsSo v L k e
+  leaves k f e t s (o, inl (x, b, p)) = from_gives k e o (into v w L k e.place outcome.Gives (turn_within k t) (t, inr (inl (f.place, body_as (k + 1) f outcome.Fails x s, b, p))))
+  leaves k f e t s (o, inr (x, p)) =
+      from_gives k e o (into v w L k e.place outcome.Gives (turn_within k t) (t, inr (inr (subst (λ (z : ℕ). S body (k + 1) z outcome.Breaks) (sym p) (body_as (k + 1) f outcome.Breaks x s)))))
+
+  pub found_first : (i : ℕ) (r : Reached) → i ≤ length v.trace → ((k : ℕ) → (Has r.starts k → k ≡ i) × (k ≡ i → Has r.starts k)) → ((e : End) → Contains r.ends.items e → ⊥) → IsFound v L i i r
+  found_first i r l s n = record {
+    later = λ k h. (let e = (s k).0 h in omega arith);
+    within = λ k h. (let e = (s k).0 h in omega arith);
+    starts = λ k e h z. subst (λ (y : ℕ). EndsSo v L y e) ((s k).0 h) z;
+    ends = λ e c. absurd (n e c);
+    whole = λ e z. inr (i, (s i).1 refl, z);
+  }
+
+  pub found_all : (i floor : ℕ) (r : Reached) → IsFound v L i floor r → ((k : ℕ) → Has r.starts k → ⊥) → AreEnds v L i r.ends.items
+  found_all i floor r f n = record { sound = f.ends; whole = λ e s. elim (f.whole e s) [ inl c ↦ c | inr c ↦ absurd (n c.0 c.1) ] }
+
+  pub has_turned : (i : ℕ) (es : List End) (old new : Reached) → AreEnds v body (i + 1) es → slice_get v.trace i ≡ Some Turned → Grows (Has old.starts) (Has new.starts) (OfOne GoesOn es (length es))
+      → Grows (Contains old.ends.items) (Contains new.ends.items) (OfOne (Leaves v (i + 1)) es (length es)) → HasTurned v body i old new
+  has_turned i es old new a t g h = record {
+    starts = grows_as _ _ _ _ (λ m o. (t, o.0, a.sound o.0 o.1, o.2)) (λ m o. (o.1, a.whole o.1 o.2, o.3)) g;
+    ends = grows_as _ _ _ _ (λ e o. (t, o.0, a.sound o.0 o.1, o.2)) (λ e o. (o.1, a.whole o.1 o.2, o.3)) h;
+  }
+
+  -- one turn was looked at, the least
+  module _ (i floor k : ℕ) (old mid new : Reached) (f : IsFound v L i floor old) (t : IsTaken old.starts mid.starts k) (ends : mid.ends.items ≡ old.ends.items) (h : HasTurned v body k mid new) where
+    later : (m : ℕ) → Has new.starts m → k + 1 ≤ m
+    later m n = elim (h.starts.only m n) [
+      | inl z ↦ (let l = (t.left m z).1 in omega arith)
+      | inr z ↦ (let l = z.2.ordered in let e = z.3.1 in omega arith)
+    ]
+
+    within : (m : ℕ) → Has new.starts m → m ≤ length v.trace
+    within m n = elim (h.starts.only m n) [ inl z ↦ f.within m (t.left m z).0 | inr z ↦ (let l = z.2.within in let e = z.3.1 in omega arith) ]
+
+    starts : (m : ℕ) (e : End) → Has new.starts m → EndsSo v L m e → EndsSo v L i e
+    starts m e n s = elim (h.starts.only m n) [ inl z ↦ f.starts m e (t.left m z).0 s | inr z ↦ f.starts k e t.was (goes_on k m z.1 e z.0 z.2 z.3 s) ]
+
+    as_old : (e : End) → Contains mid.ends.items e → Contains old.ends.items e
+    as_old e c = subst (λ (z : List End). Contains z e) ends c
+
+    as_mid : (e : End) → Contains old.ends.items e → Contains mid.ends.items e
+    as_mid e c = subst (λ (z : List End). Contains z e) (sym ends) c
+
+    left : (e : End) → Contains new.ends.items e → EndsSo v L i e
+    left e n = elim (h.ends.only e n) [ inl z ↦ f.ends e (as_old e z) | inr z ↦ f.starts k e t.was (leaves k z.1 e z.0 z.2 z.3) ]
+
+    here : (e : End) → EndsSo v L k e → Contains new.ends.items e ⊎ ((m : ℕ) × Has new.starts m × EndsSo v L m e)
+    here e s = by (only_gives k e.place e.outcome s) (out v w L k e.place outcome.Gives (as_gives k e s))
+      where
+        by : e.outcome ≡ outcome.Gives → OfParts v.program v.trace v.graphs S L k e.place outcome.Gives → Contains new.ends.items e ⊎ ((m : ℕ) × Has new.starts m × EndsSo v L m e)
+        by o (y, inl (m, a, b)) = inr (m, h.starts.has m (y, record { place = m; outcome = outcome.Gives }, a, (refl, refl)), from_gives m e o b)
+        by o (y, inr (inl (m, a, b, c))) = inl (h.ends.has e (y, record { place = m; outcome = outcome.Fails }, a, (o, inl (refl, b, c))))
+        by o (y, inr (inr a)) = inl (h.ends.has e (y, record { place = e.place; outcome = outcome.Breaks }, a, (o, inr (refl, refl))))
+
+    whole : (e : End) → EndsSo v L i e → Contains new.ends.items e ⊎ ((m : ℕ) × Has new.starts m × EndsSo v L m e)
+    whole e s = elim (f.whole e s) [
+      | inl c ↦ inl (h.ends.keeps e (as_mid e c))
+      | inr c ↦ elim (t.others c.0 c.1) [
+        | inl z ↦ here e (subst (λ (y : ℕ). EndsSo v L y e) z c.2)
+        | inr z ↦ inr (c.0, h.starts.keeps c.0 z, c.2)
+      ]
+    ]
+
+    pub found_more : IsFound v L i (k + 1) new
+    found_more = record { later = later; within = within; starts = starts; ends = left; whole = whole }
+
+-- of a node of a table
+pub loop_means : (v : View) (code : List Node) (cs : List Command) (n b : ℕ) → slice_get code n ≡ Some (node.Loop b) → IsCode v.program code cs → (at cs n ≡ Loop (at cs b)) × (b < n)
+loop_means v code cs n b s h = h n (node.Loop b) s
+
+pub turns_first : (v : View) (code : List Node) (m : Kept) (n b i : ℕ) (r : Reached) → IsTape v → IsTrueOf v code m → slice_get code n ≡ Some (node.Loop b) → i ≤ length v.trace → ((k : ℕ) → (Has r.starts k → k ≡ i) × (k ≡ i → Has r.starts k))
+    → ((e : End) → Contains r.ends.items e → ⊥) → TurnsSoFar v v code m n i i r
+turns_first v code m n b i r w t c l s e = record {
+  same = refl;
+  memory = t;
+  bound = omega arith;
+  found = λ cs h. subst (λ (p : Command). IsFound v p i i r) (sym (loop_means v code cs n b c h).0) (found_first v w (at cs b) i r l s e);
+}
+
+pub turns_more : (v u y : View) (code : List Node) (m k : Kept) (n b i floor start : ℕ) (old mid new : Reached) → IsTape v → ((cs : List Command) × IsCode v.program code cs) → slice_get code n ≡ Some (node.Loop b) → TurnsSoFar v u code m n i floor old
+    → IsTaken old.starts mid.starts start → mid.ends.items ≡ old.ends.items → y ≡ u → IsTrueOf u code k → ((cs : List Command) → IsCode u.program code cs → HasTurned u (at cs b) start mid new) → TurnsSoFar v y code k n i (start + 1) new
+turns_more v u y code m k n b i floor start old mid new w x c s t ends e z g =
+    let h : (cs : List Command) → IsCode v.program code cs → HasTurned v (at cs b) start mid new =
+    subst (λ (a : View). (cs : List Command) → IsCode a.program code cs → HasTurned a (at cs b) start mid new) s.same g in
+    let l : start ≤ length v.trace = (s.found x.0 x.1).within start t.was in
+    record {
+      same = e ∙ s.same;
+      memory = memory_at code k (sym s.same) z;
+      bound = omega arith;
+      found = λ cs j. (let q = sym (loop_means v code cs n b c j).0 in
+          subst (λ (p : Command). IsFound v p i (start + 1) new) q (found_more v w (at cs b) i floor start old mid new (subst (λ (p : Command). IsFound v p i floor old) (sym q) (s.found cs j)) t ends (h cs j)));
+    }
+
+pub turn_at : (v u : View) (code : List Node) (m : Kept) (n i floor start : ℕ) (r : Reached) → ((cs : List Command) × IsCode v.program code cs) → TurnsSoFar v u code m n i floor r → Has r.starts start → (floor ≤ start) × (start ≤ length u.trace)
+turn_at v u code m n i floor start r x s h = let f = s.found x.0 x.1 in (f.later start h, place_at s.same (f.within start h))

@@ -1,0 +1,6 @@
+//! Commands as a table.
+#![tactic(auto)]
+
+mod node;
+
+pub use node::Node;
