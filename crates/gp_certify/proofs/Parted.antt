@@ -27,9 +27,12 @@ pub on_ok : {X F : Type 0} (r : Result X F) (P Q : Type 0) → OnOk r P → (P �
 on_ok (Ok x) P Q h f = f h
 on_ok (Err e) P Q h f = tt
 
-contains_one : (x e : End) → Contains (x ∷ []) e → x ≡ e
+pub contains_one : (x e : End) → Contains (x ∷ []) e → x ≡ e
 contains_one x e (zero, l, h) = h
 contains_one x e (suc k, l, h) = absurd (omega arith)
+
+pub nothing : (e : End) → Contains [] e → ⊥
+nothing e (k, l, h) = absurd (omega arith)
 
 -- the end of this place and this outcome
 pub end_is : (e : End) (j : ℕ) (x : Outcome) → e.place ≡ j → e.outcome ≡ x → e ≡ record { place = j; outcome = x }
@@ -80,9 +83,6 @@ module _ (v : View) (w : IsTape v) where
       by outcome.Gives k (a, e) = absurd (n a)
       by outcome.Fails k (a, e) = (e, refl)
       by outcome.Breaks k h = absurd h
-
-  pub nothing : (e : End) → Contains [] e → ⊥
-  nothing e (k, l, h) = absurd (omega arith)
 
   pub call_neither : (c i : ℕ) → (StepsAt v.program v.trace v.graphs c i → ⊥) → (BlockedAt v.program v.graphs c i → ⊥) → AreEnds v (Call c) i []
   call_neither c i n b = record { sound = λ e h. absurd (nothing e h); whole = λ e h. absurd (by e.outcome e.place (out (Call c) i e.place e.outcome h)) }
@@ -226,23 +226,26 @@ first_below program cs n node.Fail m h f = absurd f
 first_below program cs n node.Break m h f = absurd f
 first_below program cs n (node.Proc k a) m h f = absurd f
 
-pub ways_below : (program : Program) (cs : List Command) (n : ℕ) (x : Node) (y : Outcome) → Means program cs n x → IsBelow n (way_of x y)
-ways_below program cs n (node.Call c) y h = tt
-ways_below program cs n (node.Seq a b) outcome.Gives h = h.2
-ways_below program cs n (node.Seq a b) outcome.Fails h = tt
-ways_below program cs n (node.Seq a b) outcome.Breaks h = tt
-ways_below program cs n (node.If a b c) outcome.Gives h = h.2
-ways_below program cs n (node.If a b c) outcome.Fails h = h.3
-ways_below program cs n (node.If a b c) outcome.Breaks h = tt
-ways_below program cs n (node.Try a b c) outcome.Gives h = h.2
-ways_below program cs n (node.Try a b c) outcome.Fails h = h.3
-ways_below program cs n (node.Try a b c) outcome.Breaks h = tt
-ways_below program cs n (node.Loop a) y h = tt
-ways_below program cs n (node.Or a b) y h = tt
-ways_below program cs n node.Skip y h = tt
-ways_below program cs n node.Fail y h = tt
-ways_below program cs n node.Break y h = tt
-ways_below program cs n (node.Proc k a) y h = tt
+above_less : (a n : ℕ) → a < n → a + 1 ≤ n
+above_less a n l = omega arith
+
+pub ways_below : (program : Program) (cs : List Command) (n : ℕ) (x : Node) (y : Outcome) → Means program cs n x → above (way_of x y) ≤ n
+ways_below program cs n (node.Call c) y h = omega arith
+ways_below program cs n (node.Seq a b) outcome.Gives h = above_less b n h.2
+ways_below program cs n (node.Seq a b) outcome.Fails h = omega arith
+ways_below program cs n (node.Seq a b) outcome.Breaks h = omega arith
+ways_below program cs n (node.If a b c) outcome.Gives h = above_less b n h.2
+ways_below program cs n (node.If a b c) outcome.Fails h = above_less c n h.3
+ways_below program cs n (node.If a b c) outcome.Breaks h = omega arith
+ways_below program cs n (node.Try a b c) outcome.Gives h = above_less b n h.2
+ways_below program cs n (node.Try a b c) outcome.Fails h = above_less c n h.3
+ways_below program cs n (node.Try a b c) outcome.Breaks h = omega arith
+ways_below program cs n (node.Loop a) y h = omega arith
+ways_below program cs n (node.Or a b) y h = omega arith
+ways_below program cs n node.Skip y h = omega arith
+ways_below program cs n node.Fail y h = omega arith
+ways_below program cs n node.Break y h = omega arith
+ways_below program cs n (node.Proc k a) y h = omega arith
 
 -- ---- the end of a loop's body
 

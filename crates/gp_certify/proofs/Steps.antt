@@ -14,14 +14,14 @@ use Rattle.gp_certify.specs.Places.{Spans, IsPart, IsTakenBack}
 use Rattle.gp_certify.specs.Parts.{OfParts}
 use Rattle.gp_certify.specs.View.{View, IsTape}
 use Rattle.gp_code.specs.Code.{at, Means, IsCode}
-use Rattle.gp_certify.specs.inside.Ways.{EndsSo, IsFirst, way_of, above, ByWay}
+use Rattle.gp_certify.specs.inside.Ways.{EndsSo, IsFirst, HasFirst, way_of, ByWay}
 use Rattle.gp_certify.specs.inside.Grows.{Grows, Has, IsTaken, IsAmong, OfOne}
 use Rattle.gp_certify.specs.inside.Memory.{Kept, Knows, Learns}
-use Rattle.gp_certify.specs.inside.Found.{AreEnds, AreEndsAt, IsTrueOf, GoesOn, Leaves, HasTurned, IsFound}
+use Rattle.gp_certify.specs.inside.Found.{AreEnds, AreEndsAt, AreByWay, IsTrueOf, GoesOn, Leaves, HasTurned, IsFound}
 use Rattle.gp_certify.specs.inside.Kept.{FirstsSoFar, TurnsSoFar}
 use Rattle.gp_certify.proofs.Places.{item_within}
 use Rattle.gp_certify.proofs.Grown.{grows_as, grows_of}
-use Rattle.gp_certify.proofs.Parted.{out, into, part_of, first_below}
+use Rattle.gp_certify.proofs.Parted.{contains_one, nothing, out, into, first_below}
 
 -- ---- an equal tape
 
@@ -48,16 +48,29 @@ ends_at {u} {v} code n i es e h = subst (λ (z : View). AreEndsAt z code n i es)
 pub node_is : (code : List Node) (n : ℕ) (d x : Node) → n < length code → slice_index_or code n d ≡ x → slice_get code n ≡ Some x
 node_is code n d x l e = slice_get-get_or code n d l ∙ ap Some e
 
-pub first_of_three : (x : Node) (m : ℕ) → ((a : ℕ) × (x ≡ node.Seq m a)) ⊎ (((a : ℕ) × (b : ℕ) × (x ≡ node.If m a b)) ⊎ ((a : ℕ) × (b : ℕ) × (x ≡ node.Try m a b))) → IsFirst x m
-first_of_three x m (inl (a, e)) = rw e refl
-first_of_three x m (inr (inl (a, b, e))) = rw e refl
-first_of_three x m (inr (inr (a, b, e))) = rw e refl
+pub first_of_three : (code : List Node) (n : ℕ) (x : Node) (m : ℕ) → slice_get code n ≡ Some x → ((a : ℕ) × (x ≡ node.Seq m a)) ⊎ (((a : ℕ) × (b : ℕ) × (x ≡ node.If m a b)) ⊎ ((a : ℕ) × (b : ℕ) × (x ≡ node.Try m a b))) → HasFirst code n m
+first_of_three code n x m s h = record { shape = x; is_node = s; first = by h }
+  where
+    by : ((a : ℕ) × (x ≡ node.Seq m a)) ⊎ (((a : ℕ) × (b : ℕ) × (x ≡ node.If m a b)) ⊎ ((a : ℕ) × (b : ℕ) × (x ≡ node.Try m a b))) → IsFirst x m
+    by (inl (a, e)) = rw e refl
+    by (inr (inl (a, b, e))) = rw e refl
+    by (inr (inr (a, b, e))) = rw e refl
 
 pub same_ends : (v : View) (p q : Command) (i : ℕ) (es : List End) → p ≡ q → AreEnds v q i es → AreEnds v p i es
 same_ends v p q i es e a = subst (λ (z : Command). AreEnds v z i es) (sym e) a
 
-pub first_less : (program : Program) (code : List Node) (n m : ℕ) (x : Node) → ((cs : List Command) × IsCode program code cs) → slice_get code n ≡ Some x → IsFirst x m → m < n
-first_less program code n m x h s f = first_below program h.0 n x m (h.1 n x s) f
+pub first_within : (code : List Node) (n m : ℕ) → HasFirst code n m → n < length code
+first_within code n m f = slice_get_within code n f.shape f.is_node
+
+-- the shape of the node that is there
+pub first_shape : (code : List Node) (n m : ℕ) (d : Node) → HasFirst code n m → slice_get code n ≡ Some (slice_index_or code n d)
+first_shape code n m d f = slice_get-get_or code n d (first_within code n m f)
+
+pub shape_first : (code : List Node) (n m : ℕ) (d : Node) → HasFirst code n m → IsFirst (slice_index_or code n d) m
+shape_first code n m d f = let e : f.shape ≡ slice_index_or code n d = cc (f.is_node, first_shape code n m d f) in subst (λ (x : Node). IsFirst x m) e f.first
+
+pub first_less : (program : Program) (code : List Node) (n m : ℕ) → ((cs : List Command) × IsCode program code cs) → HasFirst code n m → m < n
+first_less program code n m h f = first_below program h.0 n f.shape m (h.1 n f.shape f.is_node) f.first
 
 -- ---- memory
 
@@ -69,29 +82,33 @@ true_learned v code m k n i es t a l = λ o j fs w cs h. elim (l o j fs w) [
 
 -- ---- ways
 
-module _ (v : View) (cs : List Command) where
-  pub by_end : (x : Way) (i : ℕ) (f : End) (old new : End → Type 0) → x ≡ way.Ends → Grows old new (λ e. e ≡ f) → Grows old new (ByWay v cs x i f)
-  by_end x i f old new e g = subst (λ (z : Way). Grows old new (ByWay v cs z i f)) (sym e) g
+module _ (v : View) (code : List Node) where
+  pub by_none : (x : Way) (i : ℕ) (f : End) → x ≡ way.Stops → AreByWay v code x i f []
+  by_none x i f e = subst (λ (z : Way). AreByWay v code z i f []) (sym e) (λ cs c. record { sound = λ y h. absurd (nothing y h); whole = λ y h. absurd h })
 
-  pub by_on : (x : Way) (i a : ℕ) (f : End) (es : List End) (old new : End → Type 0) → x ≡ way.On a → AreEnds v (at cs a) f.place es → Grows old new (Contains es) → Grows old new (ByWay v cs x i f)
-  by_on x i a f es old new e k g = subst (λ (z : Way). Grows old new (ByWay v cs z i f)) (sym e) (grows_as old new (Contains es) (ByWay v cs (way.On a) i f) k.sound k.whole g)
+  pub by_end : (x : Way) (i : ℕ) (f : End) (es : List End) → x ≡ way.Ends → es ≡ f ∷ [] → AreByWay v code x i f es
+  by_end x i f es e l = subst (λ (z : Way). AreByWay v code z i f es) (sym e) (subst (λ (z : List End). AreByWay v code way.Ends i f z) (sym l) (λ cs c. record { sound = λ y h. sym (contains_one f y h); whole = λ y h. (0, omega arith, sym h) }))
 
-  pub by_behind : (x : Way) (i a : ℕ) (f : End) (es : List End) (old new : End → Type 0) → x ≡ way.OnBehind a → IsTakenBack v.trace i f.place → AreEnds v (at cs a) (f.place + 1) es → Grows old new (Contains es)
-      → Grows old new (ByWay v cs x i f)
-  by_behind x i a f es old new e b k g =
-      subst (λ (z : Way). Grows old new (ByWay v cs z i f)) (sym e) (grows_as old new (Contains es) (ByWay v cs (way.OnBehind a) i f) (λ y c. (b, k.sound y c)) (λ y c. k.whole y c.1) g)
+  pub by_on : (x : Way) (i a : ℕ) (f : End) (es : List End) → x ≡ way.On a → AreEndsAt v code a f.place es → AreByWay v code x i f es
+  by_on x i a f es e k = subst (λ (z : Way). AreByWay v code z i f es) (sym e) (λ cs c. record { sound = (k cs c).sound; whole = (k cs c).whole })
+
+  pub by_behind : (x : Way) (i a : ℕ) (f : End) (es : List End) → x ≡ way.OnBehind a → IsTakenBack v.trace i f.place → AreEndsAt v code a (f.place + 1) es → AreByWay v code x i f es
+  by_behind x i a f es e b k = subst (λ (z : Way). AreByWay v code z i f es) (sym e) (λ cs c. record { sound = λ y h. (b, (k cs c).sound y h); whole = λ y h. (k cs c).whole y h.1 })
+
+  pub by_no_back : (x : Way) (i a : ℕ) (f : End) → x ≡ way.OnBehind a → (IsTakenBack v.trace i f.place → ⊥) → AreByWay v code x i f []
+  by_no_back x i a f e n = subst (λ (z : Way). AreByWay v code z i f []) (sym e) (λ cs c. record { sound = λ y h. absurd (nothing y h); whole = λ y h. absurd (n h.0) })
 
 -- ---- the ends of a first part, one after another
 
-pub firsts_more : (v u w : View) (code : List Node) (m k : Kept) (shape : Node) (i : ℕ) (es : List End) (n : ℕ) (old mid new : List End) (z d : End) (x : Way) → n < length es → FirstsSoFar v u code m shape i es n old mid → z ≡ slice_index_or es n d
-    → x ≡ way_of shape z.outcome → w ≡ u → IsTrueOf u code k → ((cs : List Command) → IsCode u.program code cs → Grows (Contains mid) (Contains new) (ByWay u cs x i z)) → FirstsSoFar v w code k shape i es (n + 1) old new
-firsts_more v u w code m k shape i es n old mid new z d x l s zi xi e t g =
-    let h : (cs : List Command) → IsCode v.program code cs → Grows (Contains mid) (Contains new) (ByWay v cs x i z) =
-    subst (λ (y : View). (cs : List Command) → IsCode y.program code cs → Grows (Contains mid) (Contains new) (ByWay y cs x i z)) s.same g in
+pub firsts_more : (v u w : View) (code : List Node) (k : Kept) (shape : Node) (i : ℕ) (es : List End) (n : ℕ) (old mid new more : List End) (z d : End) (x : Way) (m : Kept) → n < length es → FirstsSoFar v u code m shape i es n old mid → z ≡ slice_index_or es n d
+    → x ≡ way_of shape z.outcome → w ≡ u → IsTrueOf u code k → AreByWay u code x i z more → Grows (Contains mid) (Contains new) (Contains more) → FirstsSoFar v w code k shape i es (n + 1) old new
+firsts_more v u w code k shape i es n old mid new more z d x m l s zi xi e t b g =
+    let h : AreByWay v code x i z more = subst (λ (y : View). AreByWay y code x i z more) s.same b in
     record {
       same = e ∙ s.same;
       memory = memory_at code k (sym s.same) t;
-      found = λ cs c. grows_of (λ f y. ByWay v cs (way_of shape f.outcome) i f y) _ _ _ es n z d l zi (s.found cs c) (subst (λ (y : Way). Grows (Contains mid) (Contains new) (ByWay v cs y i z)) xi (h cs c));
+      found = λ cs c. grows_of (λ f y. ByWay v cs (way_of shape f.outcome) i f y) _ _ _ es n z d l zi (s.found cs c)
+          (subst (λ (y : Way). Grows (Contains mid) (Contains new) (ByWay v cs y i z)) xi (grows_as _ _ (Contains more) (ByWay v cs x i z) (h cs c).sound (h cs c).whole g));
     }
 
 -- ---- loops

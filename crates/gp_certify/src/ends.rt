@@ -127,7 +127,8 @@ fn fresh_ends<T: Tape>(
     ensures memory { IsTrueOf (T.view tape.old) code.now memory.new.found }
     ensures ends { IfOk result (λ es. AreEndsAt (T.view tape.old) code.now node place es.items) }
 {
-    match code[node as usize] {
+    let shape = code[node as usize];
+    match shape {
         Node::Call(call) => call_ends(memory.alloc, call, place, tape),
         Node::Seq(first, _) | Node::If(first, _, _) | Node::Try(first, _, _) => {
             first_ends(code, node, first, place, tape, memory)

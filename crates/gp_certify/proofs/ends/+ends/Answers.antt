@@ -1,4 +1,4 @@
-use Rattle.std.proofs.Common.{rules, ◌≡◌, ◌∙◌, ℕ, ◌+◌, ◌*◌, ◌<◌, ◌≤◌, ◌^◌, List, length, slice_get, slice_index_or, Some, Contains, refl, sym, ap, subst, arith}
+use Rattle.std.proofs.Common.{rules, ◌≡◌, ◌∙◌, ℕ, ◌+◌, ◌*◌, ◌<◌, ◌≤◌, ◌^◌, List, length, slice_get, slice_index_or, Some, Contains, true, false, refl, sym, ap, subst, arith}
 use Rattle.std.proofs.lemmas.Option.{slice_get_within}
 use Rattle.gp_syntax.specs.Run.{Command, Program}
 use Rattle.gp_syntax.specs.Run as meant
@@ -8,14 +8,14 @@ use Rattle.gp_certify.specs.declared.end.End.{End}
 use Rattle.gp_certify.specs.Places.{IsPart}
 use Rattle.gp_certify.specs.View.{View, IsTape}
 use Rattle.gp_code.specs.Code.{at, IsCode}
-use Rattle.gp_certify.specs.inside.Ways.{IsFirst, above, way_of, ByWay}
-use Rattle.gp_certify.specs.inside.Found.{AreEnds, AreEndsAt, IsTrueOf, IsFound, GoesOn, Leaves}
+use Rattle.gp_certify.specs.inside.Ways.{IsFirst, HasFirst, above, way_of, ByWay}
+use Rattle.gp_certify.specs.inside.Found.{AreEnds, AreEndsAt, AreByWay, IsTrueOf, IsFound, GoesOn, Leaves}
 use Rattle.std.proofs.lemmas.List.Elements.{Contains-get_or}
 use Rattle.gp_certify.specs.inside.Grows.{Grows, Has, OfOne}
 use Rattle.gp_certify.specs.declared.end.Outcome.TheVariants as outcome
 use Rattle.gp_certify.proofs.Grown.{grows_of}
 use Rattle.gp_certify.proofs.Parted.{if_ok, on_ok, part_of, skip_ends, fail_ends, break_ends, procedure_ends, or_ends, first_ends, ways_below}
-use Rattle.gp_certify.proofs.Steps.{tape_at, code_at, place_at, part_at, memory_at, ends_at, node_is, first_of_three, same_ends, first_less, true_learned, by_end, by_on, by_behind, firsts_more, found_all, has_turned, loop_means, turns_first, turns_more, turn_at}
+use Rattle.gp_certify.proofs.Steps.{tape_at, code_at, place_at, part_at, memory_at, ends_at, node_is, first_of_three, same_ends, first_within, first_shape, shape_first, first_less, true_learned, by_none, by_end, by_on, by_behind, by_no_back, firsts_more, found_all, has_turned, loop_means, turns_first, turns_more, turn_at}
 use Rattle.gp_certify.proofs.ends.+ends.Goals as goal
 
 pub ends_of-returns-in_err-keep-clause-memory : goal.ends_of-returns-in_err-keep-clause-memory
@@ -26,27 +26,29 @@ ends_of-returns-clause-memory g t c = true_learned (g.T.Tape.view c.args.tape.no
 
 pub first_ends-ends_of-requires : goal.first_ends-ends_of-requires
 first_ends-ends_of-requires g t c =
-    let less : c.args.first < c.args.node = first_less (g.T.Tape.view c.args.tape.now).program c.args.code.now c.args.node c.args.first c.args.shape c.requires.code c.requires.shape c.requires.first in
-    let within : c.args.node < length c.args.code.now = slice_get_within c.args.code.now c.args.node c.args.shape c.requires.shape in
+    let less : c.args.first < c.args.node = first_less (g.T.Tape.view c.args.tape.now).program c.args.code.now c.args.node c.args.first c.requires.code c.requires.first in
+    let within : c.args.node < length c.args.code.now = first_within c.args.code.now c.args.node c.args.first c.requires.first in
     let first : c.args.first < length c.args.code.now = omega arith in
     search rules
 
 pub first_ends-way_ends-requires : goal.first_ends-way_ends-requires
 first_ends-way_ends-requires g t c =
     let v = g.T.Tape.view c.args.tape.now in
+    let shape = slice_index_or c.args.code.now c.args.node (node.Call 0) in
     let z = slice_index_or c.deref-end-items.result.now c.firsts.end-index (record { place = 0; outcome = outcome.Gives }) in
     let same = c.firsts.invariant.same in
     let tape = tape_at same c.requires.tape in
     let code = code_at c.args.code.now same c.requires.code in
     let memory = memory_at c.args.code.now c.firsts.memory.found same c.firsts.invariant.memory in
-    let within : c.args.node < length c.args.code.now = slice_get_within c.args.code.now c.args.node c.args.shape c.requires.shape in
-    let below : IsBelow c.args.node c.way_of-way.result = rw c.way_of-way.ensures (ways_below v.program c.requires.code.0 c.args.node c.args.shape z.outcome (c.requires.code.1 c.args.node c.args.shape c.requires.shape)) in
+    let within : c.args.node < length c.args.code.now = first_within c.args.code.now c.args.node c.args.first c.requires.first in
+    let below : above c.way_of-way.result ≤ c.args.node = rw c.way_of-way.ensures (ways_below v.program c.requires.code.0 c.args.node shape z.outcome (c.requires.code.1 c.args.node shape (first_shape c.args.code.now c.args.node c.args.first (node.Call 0) c.requires.first))) in
     let here : Contains c.in_ok-firsts.firsts.items z = subst (λ (l : List End). Contains l z) c.deref-end-items.ensures.value (Contains-get_or c.deref-end-items.result.now c.firsts.end-index _ c.firsts-test.true) in
     let part : IsPart (g.T.Tape.view c.firsts.tape).trace c.args.place z.place = part_at same (part_of v c.requires.tape (at c.requires.code.0 c.args.first) c.args.place z ((c.in_ok-firsts.ensures.ends c.requires.code.0 c.requires.code.1).sound z here)) in
+    let bound : above c.way_of-way.result ≤ length c.args.code.now = omega arith in
     search rules
 
 pub first_ends-firsts-preserved : goal.first_ends-firsts-preserved
-first_ends-firsts-preserved g t c = firsts_more (g.T.Tape.view c.args.tape.now) (g.T.Tape.view c.firsts.tape) (g.T.Tape.view c.way_ends.new.tape) c.args.code.now c.firsts.memory.found c.way_ends.new.memory.found c.args.shape c.args.place c.deref-end-items.result.now c.firsts.end-index _ _ _ _ _ c.way_of-way.result c.firsts-test.true c.firsts.invariant refl c.way_of-way.ensures c.way_ends.ensures.same c.way_ends.ensures.memory c.in_ok-way_ends.ensures.ends
+first_ends-firsts-preserved g t c = firsts_more (g.T.Tape.view c.args.tape.now) (g.T.Tape.view c.firsts.tape) (g.T.Tape.view c.way_ends.new.tape) c.args.code.now c.way_ends.new.memory.found _ c.args.place c.deref-end-items.result.now c.firsts.end-index _ c.firsts.found.items c.put_ends.new.ends.items c.deref.result.now _ _ c.way_of-way.result c.firsts.memory.found c.firsts-test.true c.firsts.invariant refl c.way_of-way.ensures c.way_ends.ensures.same c.way_ends.ensures.memory (rw c.deref.ensures.value c.in_ok-more.ensures.ends) c.in_ok-put_ends.ensures
 
 pub first_ends-returns-clause-ends : goal.first_ends-returns-clause-ends
 first_ends-returns-clause-ends g t c =
@@ -54,10 +56,10 @@ first_ends-returns-clause-ends g t c =
         let n : c.firsts.end-index ≡ length c.deref-end-items.result.now = omega arith in
         let es = c.in_ok-firsts.firsts.items in
         let k : c.firsts.end-index ≡ length es = n ∙ ap length c.deref-end-items.ensures.value in
-        let f = subst (λ (l : List End). Grows (Contains c.new-found.result.items) (Contains c.firsts.found.items) (OfOne (λ f e. ByWay v cs (way_of c.args.shape f.outcome) c.args.place f e) l c.firsts.end-index)) c.deref-end-items.ensures.value (c.firsts.invariant.found cs h) in
-        let q = subst (λ (m : ℕ). Grows (Contains c.new-found.result.items) (Contains c.firsts.found.items) (OfOne (λ f e. ByWay v cs (way_of c.args.shape f.outcome) c.args.place f e) es m)) k f in
-        first_ends v c.requires.tape cs c.args.node c.args.shape c.args.first c.args.place es c.firsts.found.items c.requires.place (h c.args.node c.args.shape c.requires.shape) c.requires.first (c.in_ok-firsts.ensures.ends cs h)
-        (subst (λ (l : List End). Grows (Contains l) (Contains c.firsts.found.items) (OfOne (λ f e. ByWay v cs (way_of c.args.shape f.outcome) c.args.place f e) es (length es))) c.new-found.ensures.items q))
+        let f = subst (λ (l : List End). Grows (Contains c.new-found.result.items) (Contains c.firsts.found.items) (OfOne (λ f e. ByWay v cs (way_of (slice_index_or c.args.code.now c.args.node (node.Call 0)) f.outcome) c.args.place f e) l c.firsts.end-index)) c.deref-end-items.ensures.value (c.firsts.invariant.found cs h) in
+        let q = subst (λ (m : ℕ). Grows (Contains c.new-found.result.items) (Contains c.firsts.found.items) (OfOne (λ f e. ByWay v cs (way_of (slice_index_or c.args.code.now c.args.node (node.Call 0)) f.outcome) c.args.place f e) es m)) k f in
+        first_ends v c.requires.tape cs c.args.node (slice_index_or c.args.code.now c.args.node (node.Call 0)) c.args.first c.args.place es c.firsts.found.items c.requires.place (h c.args.node (slice_index_or c.args.code.now c.args.node (node.Call 0)) (first_shape c.args.code.now c.args.node c.args.first (node.Call 0) c.requires.first)) (shape_first c.args.code.now c.args.node c.args.first (node.Call 0) c.requires.first) (c.in_ok-firsts.ensures.ends cs h)
+        (subst (λ (l : List End). Grows (Contains l) (Contains c.firsts.found.items) (OfOne (λ f e. ByWay v cs (way_of (slice_index_or c.args.code.now c.args.node (node.Call 0)) f.outcome) c.args.place f e) es (length es))) c.new-found.ensures.items q))
 
 pub fresh_ends-call_ends-requires-clause-set : goal.fresh_ends-call_ends-requires-clause-set
 fresh_ends-call_ends-requires-clause-set g t c = (c.requires.code.1 c.args.node (node.Call c.in-Call.call) (node_is c.args.code.now c.args.node _ _ c.requires.node c.in-Call.is)).1
@@ -98,8 +100,8 @@ fresh_ends-ends_of-requires-in-Proc g t c =
 
 pub fresh_ends-first_ends-requires : goal.fresh_ends-first_ends-requires
 fresh_ends-first_ends-requires g t c =
-    let shape : slice_get c.args.code.now c.args.node ≡ Some c.in-Seq.shape = node_is c.args.code.now c.args.node (node.Call 0) c.in-Seq.shape c.requires.node (sym c.in-Seq.shape-is) in
-    let first : IsFirst c.in-Seq.shape c.in-Seq.first = rw c.in-Seq.shape-is (first_of_three (slice_index_or c.args.code.now c.args.node (node.Call 0)) c.in-Seq.first c.in-Seq.is) in
+    let shape = slice_index_or c.args.code.now c.args.node (node.Call 0) in
+    let first : HasFirst c.args.code.now c.args.node c.in-Seq.first = first_of_three c.args.code.now c.args.node shape c.in-Seq.first (node_is c.args.code.now c.args.node (node.Call 0) shape c.requires.node refl) c.in-Seq.is in
     search rules
 
 pub fresh_ends-returns-in-Call-clause-ends : goal.fresh_ends-returns-in-Call-clause-ends
@@ -141,6 +143,7 @@ loop_ends-turn_ends-requires g t c =
     let memory = memory_at c.args.code.now c.turns.memory.found same c.turns.invariant.memory in
     let within : c.args.node < length c.args.code.now = slice_get_within c.args.code.now c.args.node (node.Loop c.args.body) c.requires.shape in
     let less : c.args.body < c.args.node = (loop_means (g.T.Tape.view c.args.tape.now) c.args.code.now c.requires.code.0 c.args.node c.args.body c.requires.shape c.requires.code.1).1 in
+    let body : c.args.body < length c.args.code.now = omega arith in
     search rules
 
 pub loop_ends-turns-smaller : goal.loop_ends-turns-smaller
@@ -180,11 +183,20 @@ turn_ends-returns-clause-turned g t c =
         (subst (λ (m : ℕ). Grows (Has c.args.reached.now.starts) (Has c.ends.reached.starts) (OfOne GoesOn es m)) k (subst (λ (l : List End). Grows (Has c.args.reached.now.starts) (Has c.ends.reached.starts) (OfOne GoesOn l c.ends.end-index)) c.deref-end-items.ensures.value c.ends.invariant.0))
         (subst (λ (m : ℕ). Grows (Contains c.args.reached.now.ends.items) (Contains c.ends.reached.ends.items) (OfOne (Leaves v (c.args.start + 1)) es m)) k (subst (λ (l : List End). Grows (Contains c.args.reached.now.ends.items) (Contains c.ends.reached.ends.items) (OfOne (Leaves v (c.args.start + 1)) l c.ends.end-index)) c.deref-end-items.ensures.value (subst (λ (u : View). Grows (Contains c.args.reached.now.ends.items) (Contains c.ends.reached.ends.items) (OfOne (Leaves u (c.args.start + 1)) c.deref-end-items.result.now c.ends.end-index)) c.ends_of.ensures.same c.ends.invariant.1))))
 
+pub first_ends-bounds-code-node : goal.first_ends-bounds-code-node
+first_ends-bounds-code-node g t c = first_within c.args.code.now c.args.node c.args.first c.requires.first
+
+pub way_ends-returns-in-Stops-clause-ends : goal.way_ends-returns-in-Stops-clause-ends
+way_ends-returns-in-Stops-clause-ends g t c = subst (λ (z : List End). AreByWay (g.T.Tape.view c.args.tape.now) c.args.code.now c.args.way c.args.place c.args.end z) (sym c.new.ensures.items) (by_none (g.T.Tape.view c.args.tape.now) c.args.code.now c.args.way c.args.place c.args.end c.in-Stops.is)
+
 pub way_ends-returns-in-Ends-clause-ends : goal.way_ends-returns-in-Ends-clause-ends
-way_ends-returns-in-Ends-clause-ends g t c = on_ok c.put_end.result _ _ c.put_end.ensures (λ q cs h. by_end (g.T.Tape.view c.args.tape.now) cs c.args.way c.args.place c.args.end _ _ c.in-Ends.is q)
+way_ends-returns-in-Ends-clause-ends g t c = if_ok c.one_end.result _ _ c.one_end.ensures (λ es e. by_end (g.T.Tape.view c.args.tape.now) c.args.code.now c.args.way c.args.place c.args.end es.items c.in-Ends.is e)
 
-pub way_ends-returns-in_ok-more-in-On-clause-ends : goal.way_ends-returns-in_ok-more-in-On-clause-ends
-way_ends-returns-in_ok-more-in-On-clause-ends g t c = on_ok c.put_ends.result _ _ c.put_ends.ensures (λ q cs h. by_on (g.T.Tape.view c.args.tape.now) cs c.args.way c.args.place c.in-On.part c.args.end c.deref.result.now _ _ c.in-On.is (subst (λ (z : List End). AreEnds (g.T.Tape.view c.args.tape.now) (at cs c.in-On.part) c.args.end.place z) (sym c.deref.ensures.value) (c.in_ok-more-in-On.ensures.ends cs h)) q)
+pub way_ends-returns-in-On-clause-ends : goal.way_ends-returns-in-On-clause-ends
+way_ends-returns-in-On-clause-ends g t c = if_ok c.ends_of.result _ _ c.ends_of.ensures.ends (λ es e. by_on (g.T.Tape.view c.args.tape.now) c.args.code.now c.args.way c.args.place c.in-On.part c.args.end es.items c.in-On.is e)
 
-pub way_ends-returns-in_ok-more-in-OnBehind-clause-ends : goal.way_ends-returns-in_ok-more-in-OnBehind-clause-ends
-way_ends-returns-in_ok-more-in-OnBehind-clause-ends g t c = on_ok c.put_ends-in-OnBehind.result _ _ c.put_ends-in-OnBehind.ensures (λ q cs h. by_behind (g.T.Tape.view c.args.tape.now) cs c.args.way c.args.place c.in-OnBehind.part c.args.end c.deref-in-OnBehind.result.now _ _ c.in-OnBehind.is (c.if-not-takes_back.ensures.0 refl) (subst (λ (z : List End). AreEnds (g.T.Tape.view c.args.tape.now) (at cs c.in-OnBehind.part) (c.args.end.place + 1) z) (sym c.deref-in-OnBehind.ensures.value) (c.in_ok-more-in-OnBehind.ensures.ends cs h)) q)
+pub way_ends-returns-else-not-takes_back-clause-ends : goal.way_ends-returns-else-not-takes_back-clause-ends
+way_ends-returns-else-not-takes_back-clause-ends g t c = if_ok c.ends_of-in-OnBehind.result _ _ c.ends_of-in-OnBehind.ensures.ends (λ es e. by_behind (g.T.Tape.view c.args.tape.now) c.args.code.now c.args.way c.args.place c.in-OnBehind.part c.args.end es.items c.in-OnBehind.is (c.if-not-takes_back.ensures.0 refl) e)
+
+pub way_ends-returns-then-not-takes_back-clause-ends : goal.way_ends-returns-then-not-takes_back-clause-ends
+way_ends-returns-then-not-takes_back-clause-ends g t c = subst (λ (z : List End). AreByWay (g.T.Tape.view c.args.tape.now) c.args.code.now c.args.way c.args.place c.args.end z) (sym c.new-then-not-takes_back.ensures.items) (by_no_back (g.T.Tape.view c.args.tape.now) c.args.code.now c.args.way c.args.place c.in-OnBehind.part c.args.end c.in-OnBehind.is (λ s. absurd (let n : false ≡ true = c.if-not-takes_back.ensures.1 s in cc)))

@@ -3,7 +3,7 @@ use Rattle.gp_syntax.specs.Run.{Command}
 use Rattle.gp_certify.specs.declared.end.End.{End}
 use Rattle.gp_certify.specs.View.{View}
 use Rattle.gp_code.specs.Code.{at, IsCode}
-use Rattle.gp_certify.specs.inside.Ways.{way_of, ByWay}
+use Rattle.gp_certify.specs.inside.Ways.{above}
 use Rattle.gp_certify.specs.inside.Grows.{Grows, Has, OfOne}
 use Rattle.gp_certify.specs.inside.Found.{IsTrueOf, GoesOn, Leaves, IsFound}
 use Rattle.gp_certify.specs.inside.Kept.{FirstsSoFar, TurnsSoFar}
@@ -22,10 +22,10 @@ abbrev pub decreases-loop_ends : goal.decreases-loop_ends
 decreases-loop_ends g l = 4 * l.node + 1
 
 abbrev pub decreases-way_ends : goal.decreases-way_ends
-decreases-way_ends g l = 4 * l.node
+decreases-way_ends g l = 4 * above l.way
 
 abbrev pub decreases-turn_ends : goal.decreases-turn_ends
-decreases-turn_ends g l = 4 * l.node
+decreases-turn_ends g l = 4 * l.body + 4
 
 abbrev pub invariant-first_ends-firsts : goal.invariant-first_ends-firsts
 invariant-first_ends-firsts g l = FirstsSoFar (g.T.Tape.view l.fn.tape) (g.T.Tape.view l.tape) l.code l.memory.found l.shape l.place l.end-items l.end-index l.initial.found.items l.found.items
