@@ -1,7 +1,7 @@
 -- Where a command may end, by its parts.
-use Rattle.std.proofs.Common.{◌≡◌, ◌⊎◌, inl, inr, ℕ, suc, zero, ◌+◌, ◌-◌, ◌<◌, ◌≤◌, Bool, List, [], ◌∷◌, ◌++◌, length, slice_get, Some, refl, sym, ap, subst, ◌∙◌, arith, length-append}
+use Rattle.std.proofs.Common.{◌≡◌, inl, inr, ℕ, ◌+◌, ◌-◌, ◌<◌, ◌≤◌, Bool, List, [], ◌∷◌, ◌++◌, length, slice_get, Some, refl, sym, ap, subst, ◌∙◌, arith, length-append}
 use Rattle.gp_values.specs.Graph.{Graph}
-use Rattle.gp_syntax.specs.Run.{Command, Call, Seq, If, Try, Loop, Or, Skip, Fail, Break, Procedure, Program, Item, Stepped, Turned, Back, Ending, Gives, Fails, Breaks, At, AtTurn, graph_at, Stands, at_call, at_turn, live, undone, Run, call_steps, call_fails, call_stands, seq, seq_fails, seq_breaks, seq_stands, if_then, if_else, if_stands, try_then, try_else, try_stands, loop_stands, loop_goes_on, loop_ends, loop_breaks, loop_body_stands, or_first, or_second, skips, fails, breaks, procedure}
+use Rattle.gp_syntax.specs.Run.{Command, Call, Seq, If, Try, Loop, Or, Skip, Fail, Break, Procedure, Program, Item, Stepped, Turned, Back, Ending, Gives, graph_at, Stands, at_call, at_turn, live, undone, Run, call_steps, call_fails, call_stands, seq, seq_fails, seq_breaks, seq_stands, if_then, if_else, if_stands, try_then, try_else, try_stands, loop_stands, loop_goes_on, loop_ends, loop_breaks, loop_body_stands, or_first, or_second, skips, fails, breaks, procedure}
 use Rattle.gp_syntax.specs.Replay.{Replays}
 use Rattle.gp_syntax.specs.Step.{CallsTo, Blocked}
 use Rattle.gp_syntax.proofs.Runs.{traced}
@@ -9,8 +9,8 @@ use Rattle.gp_syntax.proofs.Traces.{replays-undone}
 use Rattle.gp_certify.specs.declared.end.Outcome.{Outcome}
 use Rattle.gp_certify.specs.declared.end.Outcome.TheVariants as outcome
 use Rattle.gp_certify.specs.Places.{ending, between, AreGraphsOf, Spans, IsTakenBack}
-use Rattle.gp_certify.specs.Parts.{StepsAt, BlockedAt, OfParts}
-use Rattle.gp_certify.proofs.Places.{length-between, between-append, between_nothing, Cut, cut, item_within, one_between, Front, front}
+use Rattle.gp_certify.specs.Parts.{OfParts}
+use Rattle.gp_certify.proofs.Places.{length-between, between-append, between_nothing, cut, item_within, one_between, front}
 
 -- ---- endings
 

@@ -1,6 +1,6 @@
 -- What the ends of Main say of its runs.
-use Rattle.std.proofs.Common.{◌≡◌, ℕ, Bool, true, List, length, Contains, refl, sym, ap, subst, ◌∙◌}
-use Rattle.gp_syntax.specs.Run.{Command, Run}
+use Rattle.std.proofs.Common.{◌≡◌, ℕ, Bool, true, List, length, Contains, refl, sym, subst}
+use Rattle.gp_syntax.specs.Run.{Command}
 use Rattle.gp_code.specs.declared.node.Node.{Node}
 use Rattle.gp_certify.specs.declared.end.Outcome.{Outcome}
 use Rattle.gp_certify.specs.declared.end.End.{End}

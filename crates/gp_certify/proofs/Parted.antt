@@ -1,8 +1,6 @@
 -- The ends of commands, put together from those of their parts.
-use Rattle.std.proofs.Common.{◌≡◌, ◌⊎◌, inl, inr, ℕ, zero, suc, ◌+◌, ◌<◌, ◌≤◌, Bool, true, false, List, [], ◌∷◌, length, slice_get, slice_index_or, Some, Result, Ok, Err, IfOk, OnOk, Contains, refl, sym, ap, subst, ◌∙◌, arith}
-use Rattle.std.proofs.lemmas.Option.{slice_get_within}
-use Rattle.gp_syntax.specs.Rule.{Rule}
-use Rattle.gp_syntax.specs.Run.{Command, Call, Seq, If, Try, Loop, Or, Skip, Fail, Break, Procedure, Program, Item, Turned}
+use Rattle.std.proofs.Common.{◌≡◌, inl, inr, ℕ, zero, suc, ◌+◌, ◌<◌, ◌≤◌, List, [], ◌∷◌, length, slice_get, Some, Result, Ok, Err, IfOk, OnOk, Contains, refl, sym, ap, subst, ◌∙◌, arith}
+use Rattle.gp_syntax.specs.Run.{Command, Call, Seq, If, Try, Or, Skip, Fail, Break, Procedure, Program}
 use Rattle.gp_code.specs.declared.node.Node.{Node}
 use Rattle.gp_code.specs.declared.node.Node.TheVariants as node
 use Rattle.gp_certify.specs.declared.end.Outcome.{Outcome}
@@ -11,10 +9,10 @@ use Rattle.gp_certify.specs.declared.end.End.{End}
 use Rattle.gp_certify.specs.Places.{Spans, IsPart, IsTakenBack}
 use Rattle.gp_certify.specs.Parts.{StepsAt, BlockedAt, OfParts}
 use Rattle.gp_certify.specs.View.{View, IsTape}
-use Rattle.gp_code.specs.Code.{at, Means, IsCode}
+use Rattle.gp_code.specs.Code.{at, Means}
 use Rattle.gp_certify.specs.inside.Ways.{EndsSo, IsFirst, way_of, above, ByWay}
-use Rattle.gp_certify.specs.inside.Grows.{Grows, IsAmong, OfOne}
-use Rattle.gp_certify.specs.inside.Found.{AreEnds, AreEndsAt, GoesOn, Leaves}
+use Rattle.gp_certify.specs.inside.Grows.{Grows, OfOne}
+use Rattle.gp_certify.specs.inside.Found.{AreEnds, Leaves}
 use Rattle.gp_syntax.proofs.Runs.{traced}
 use Rattle.gp_certify.proofs.Compose.{spans_out, spans_in, seq_row}
 use Rattle.gp_certify.proofs.Grown.{grows_as}

@@ -1,5 +1,5 @@
 -- The graphs of a trace are its replays.
-use Rattle.std.proofs.Common.{◌≡◌, ℕ, ◌+◌, ◌-◌, ◌≤◌, Bool, List, [], ◌∷◌, ◌++◌, length, take, drop, slice_get, Some, refl, sym, ap, subst, ◌∙◌, arith}
+use Rattle.std.proofs.Common.{◌≡◌, ℕ, ◌+◌, ◌-◌, ◌≤◌, Bool, List, [], ◌∷◌, ◌++◌, length, take, drop, slice_get, Some, sym, ap, subst, ◌∙◌, arith}
 use Rattle.std.proofs.Math.Seq.{take-add, take-length}
 use Rattle.std.proofs.lemmas.List.{take-append-drop}
 use Rattle.gp_values.specs.Graph.{Graph}
@@ -15,7 +15,7 @@ use Rattle.gp_syntax.proofs.Traces.{replays-append}
 use Rattle.gp_step.proofs.Afters.{only_steps}
 use Rattle.gp_step.proofs.Wholes.{numbered_after}
 use Rattle.gp_certify.specs.declared.end.Outcome.{Outcome}
-use Rattle.gp_certify.specs.Places.{ending, between, AreGraphsOf, Spans}
+use Rattle.gp_certify.specs.Places.{ending, between, AreGraphsOf}
 use Rattle.gp_certify.specs.Laws.{WholeRuns}
 use Rattle.gp_certify.proofs.Compose.{lands, at_ending}
 

@@ -1,7 +1,7 @@
 -- What each function over a table of commands keeps.
-use Rattle.std.proofs.Common.{◌≡◌, ◌⊎◌, inl, inr, ℕ, zero, suc, ◌+◌, ◌-◌, ◌*◌, ◌<◌, ◌≤◌, ◌^◌, Bool, true, false, List, [], ◌∷◌, length, slice_get, slice_index_or, Some, Contains, refl, sym, ap, subst, ◌∙◌, arith}
+use Rattle.std.proofs.Common.{◌≡◌, ◌⊎◌, inl, inr, ℕ, ◌+◌, ◌<◌, ◌≤◌, List, [], ◌∷◌, length, slice_get, slice_index_or, Some, Contains, refl, sym, ap, subst, ◌∙◌, arith}
 use Rattle.std.proofs.lemmas.Option.{slice_get_within, slice_get-get_or}
-use Rattle.gp_syntax.specs.Run.{Command, Loop, Program, Item, Turned}
+use Rattle.gp_syntax.specs.Run.{Command, Loop, Program, Turned}
 use Rattle.gp_code.specs.declared.node.Node.{Node}
 use Rattle.gp_code.specs.declared.node.Node.TheVariants as node
 use Rattle.gp_certify.specs.declared.ways.Way.{Way}
@@ -13,10 +13,10 @@ use Rattle.gp_certify.specs.declared.starts.Reached.{Reached}
 use Rattle.gp_certify.specs.Places.{Spans, IsPart, IsTakenBack}
 use Rattle.gp_certify.specs.Parts.{OfParts}
 use Rattle.gp_certify.specs.View.{View, IsTape}
-use Rattle.gp_code.specs.Code.{at, Means, IsCode}
+use Rattle.gp_code.specs.Code.{at, IsCode}
 use Rattle.gp_certify.specs.inside.Ways.{EndsSo, IsFirst, HasFirst, way_of, ByWay}
-use Rattle.gp_certify.specs.inside.Grows.{Grows, Has, IsTaken, IsAmong, OfOne}
-use Rattle.gp_certify.specs.inside.Memory.{Kept, Knows, Learns}
+use Rattle.gp_certify.specs.inside.Grows.{Grows, Has, IsTaken, OfOne}
+use Rattle.gp_certify.specs.inside.Memory.{Kept, Learns}
 use Rattle.gp_certify.specs.inside.Found.{AreEnds, AreEndsAt, AreByWay, IsTrueOf, GoesOn, Leaves, HasTurned, IsFound}
 use Rattle.gp_certify.specs.inside.Kept.{FirstsSoFar, TurnsSoFar}
 use Rattle.gp_certify.proofs.Places.{item_within}

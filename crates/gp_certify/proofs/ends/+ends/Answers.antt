@@ -1,20 +1,19 @@
-use Rattle.std.proofs.Common.{rules, ◌≡◌, ◌∙◌, ℕ, ◌+◌, ◌*◌, ◌<◌, ◌≤◌, ◌^◌, List, length, slice_get, slice_index_or, Some, Contains, true, false, refl, sym, ap, subst, arith}
+use Rattle.std.proofs.Common.{rules, ◌≡◌, ◌∙◌, ℕ, ◌+◌, ◌<◌, ◌≤◌, List, length, slice_get, slice_index_or, Some, Contains, true, false, refl, sym, ap, subst, arith}
 use Rattle.std.proofs.lemmas.Option.{slice_get_within}
 use Rattle.gp_syntax.specs.Run.{Command, Program}
 use Rattle.gp_syntax.specs.Run as meant
-use Rattle.gp_code.specs.declared.node.Node.{Node}
 use Rattle.gp_code.specs.declared.node.Node.TheVariants as node
 use Rattle.gp_certify.specs.declared.end.End.{End}
 use Rattle.gp_certify.specs.Places.{IsPart}
-use Rattle.gp_certify.specs.View.{View, IsTape}
-use Rattle.gp_code.specs.Code.{at, IsCode}
-use Rattle.gp_certify.specs.inside.Ways.{IsFirst, HasFirst, above, way_of, ByWay}
-use Rattle.gp_certify.specs.inside.Found.{AreEnds, AreEndsAt, AreByWay, IsTrueOf, IsFound, GoesOn, Leaves}
+use Rattle.gp_certify.specs.View.{View}
+use Rattle.gp_code.specs.Code.{at}
+use Rattle.gp_certify.specs.inside.Ways.{HasFirst, above, way_of, ByWay}
+use Rattle.gp_certify.specs.inside.Found.{AreEnds, AreEndsAt, AreByWay, IsFound, GoesOn, Leaves}
 use Rattle.std.proofs.lemmas.List.Elements.{Contains-get_or}
 use Rattle.gp_certify.specs.inside.Grows.{Grows, Has, OfOne}
 use Rattle.gp_certify.specs.declared.end.Outcome.TheVariants as outcome
 use Rattle.gp_certify.proofs.Grown.{grows_of}
-use Rattle.gp_certify.proofs.Parted.{if_ok, on_ok, part_of, skip_ends, fail_ends, break_ends, procedure_ends, or_ends, first_ends, ways_below}
+use Rattle.gp_certify.proofs.Parted.{if_ok, part_of, skip_ends, fail_ends, break_ends, procedure_ends, or_ends, first_ends, ways_below}
 use Rattle.gp_certify.proofs.Steps.{tape_at, code_at, place_at, part_at, memory_at, ends_at, node_is, first_of_three, same_ends, first_within, first_shape, shape_first, first_less, true_learned, by_none, by_end, by_on, by_behind, by_no_back, firsts_more, found_all, has_turned, loop_means, turns_first, turns_more, turn_at}
 use Rattle.gp_certify.proofs.ends.+ends.Goals as goal
 

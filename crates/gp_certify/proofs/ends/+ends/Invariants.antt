@@ -1,11 +1,7 @@
-use Rattle.std.proofs.Common.{◌≡◌, ℕ, ◌+◌, ◌*◌, ◌-◌, List, length, Contains}
-use Rattle.gp_syntax.specs.Run.{Command}
-use Rattle.gp_certify.specs.declared.end.End.{End}
-use Rattle.gp_certify.specs.View.{View}
-use Rattle.gp_code.specs.Code.{at, IsCode}
+use Rattle.std.proofs.Common.{◌+◌, ◌*◌, ◌-◌, length, Contains}
 use Rattle.gp_certify.specs.inside.Ways.{above}
 use Rattle.gp_certify.specs.inside.Grows.{Grows, Has, OfOne}
-use Rattle.gp_certify.specs.inside.Found.{IsTrueOf, GoesOn, Leaves, IsFound}
+use Rattle.gp_certify.specs.inside.Found.{GoesOn, Leaves}
 use Rattle.gp_certify.specs.inside.Kept.{FirstsSoFar, TurnsSoFar}
 use Rattle.gp_certify.proofs.ends.+ends.Given as goal
 

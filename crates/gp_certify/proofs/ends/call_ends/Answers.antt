@@ -1,4 +1,4 @@
-use Rattle.std.proofs.Common.{rules, ◌≡◌, ℕ, List, true, false, subst, sym, refl, ◌∙◌}
+use Rattle.std.proofs.Common.{◌≡◌, List, true, false, subst, sym, refl, ◌∙◌}
 use Rattle.gp_syntax.specs.Run.{Call}
 use Rattle.gp_certify.specs.inside.Found.{AreEnds}
 use Rattle.gp_certify.specs.declared.end.End.{End}

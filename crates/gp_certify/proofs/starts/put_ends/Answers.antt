@@ -1,4 +1,4 @@
-use Rattle.std.proofs.Common.{rules, ◌≡◌, ℕ, length, Contains, refl, subst, arith}
+use Rattle.std.proofs.Common.{◌≡◌, ℕ, length, Contains, refl, subst, arith}
 use Rattle.gp_certify.specs.inside.Grows.{Grows, IsAmong}
 use Rattle.gp_certify.proofs.Grown.{grows_none, among_none, grows_among}
 use Rattle.gp_certify.proofs.starts.put_ends.Goals as goal
