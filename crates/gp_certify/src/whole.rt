@@ -1,8 +1,7 @@
 //! Whether a trace is that of a run.
 
-ghost use Rattle.std.specs.Prelude.{◌≡◌, ◌<◌, ◌↔◌, length, List, IsTrue, IfOk, Contains};
-ghost use Rattle.gp_syntax.specs.Run.{Command};
-ghost use Rattle.gp_code.specs.Code.{at, IsCode};
+ghost use Rattle.std.specs.Prelude.{◌≡◌, ◌↔◌, IsTrue, IfOk, Contains};
+ghost use Rattle.gp_code.specs.Code.{IsCodeOf};
 ghost use Rattle.gp_certify.specs.View.{IsTape};
 ghost use Rattle.gp_certify.specs.Whole.{HasRun};
 
@@ -27,8 +26,7 @@ fn has_end(ends: &[End], place: usize, outcome: Outcome) -> bool
     ends.contains(&End { place, outcome })
 }
 
-/// What the runs of Main with the trace of a tape do. `code` is a table of commands, of which the one of number `root` is
-/// Main.
+/// What the runs of Main with the trace of a tape do. In the table the node of number `root` stands for Main.
 pub fn runs_of<T: Tape>(
     alloc: Global,
     code: &[Node],
@@ -36,8 +34,7 @@ pub fn runs_of<T: Tape>(
     tape: &mut T,
 ) -> Result<Runs, NoMemory>
     requires tape { IsTape (T.view tape.old) }
-    requires code { (cs : List Command) × IsCode (T.view tape.old).program code.now cs × (at cs root ≡ (T.view tape.old).program.main) }
-    requires root { root < length code.now }
+    requires code { IsCodeOf (T.view tape.old).program code.now root }
     ensures same { T.view tape.new ≡ T.view tape.old }
     ensures gives { IfOk result (λ r. IsTrue r.gives ↔ HasRun (T.view tape.old) Outcome.Gives) }
     ensures fails { IfOk result (λ r. IsTrue r.fails ↔ HasRun (T.view tape.old) Outcome.Fails) }
