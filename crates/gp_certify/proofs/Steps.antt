@@ -20,7 +20,7 @@ use Rattle.gp_certify.specs.inside.Memory.{Kept, Learns}
 use Rattle.gp_certify.specs.inside.Found.{AreEnds, AreEndsAt, AreByWay, IsTrueOf, GoesOn, Leaves, HasTurned, IsFound}
 use Rattle.gp_certify.specs.inside.Kept.{FirstsSoFar, TurnsSoFar}
 use Rattle.gp_certify.proofs.Places.{item_within}
-use Rattle.gp_certify.proofs.Grown.{grows_as, grows_of}
+use Rattle.gp_certify.proofs.Grown.{grows_none, grows_as, grows_of}
 use Rattle.gp_certify.proofs.Parted.{contains_one, nothing, out, into, first_below}
 
 -- ---- an equal tape
@@ -166,6 +166,10 @@ module _ (v : View) (w : IsTape v) (body : Command) where
     starts = grows_as _ _ _ _ (λ m o. (t, o.0, a.sound o.0 o.1, o.2)) (λ m o. (o.1, a.whole o.1 o.2, o.3)) g;
     ends = grows_as _ _ _ _ (λ e o. (t, o.0, a.sound o.0 o.1, o.2)) (λ e o. (o.1, a.whole o.1 o.2, o.3)) h;
   }
+
+  -- no turn begins there
+  pub no_turn : (i : ℕ) (r : Reached) → (slice_get v.trace i ≡ Some Turned → ⊥) → HasTurned v body i r r
+  no_turn i r n = record { starts = grows_none _ _ (λ m o. n o.0); ends = grows_none _ _ (λ e o. n o.0) }
 
   -- one turn was looked at, the least
   module _ (i floor k : ℕ) (old mid new : Reached) (f : IsFound v L i floor old) (t : IsTaken old.starts mid.starts k) (ends : mid.ends.items ≡ old.ends.items) (h : HasTurned v body k mid new) where
