@@ -116,8 +116,7 @@ module _ (program : Program) (t : List Item) (graphs : ℕ → Graph) (w : AreGr
   call_out {c} (call_steps {set = set} {g = g} {h = h} {m = m} s k) i j outcome.Gives l n e f z =
       let f' = front t [] (Stepped m) i j l n (sym f) in
       let o : j ≡ i + 1 = one_item i j (Stepped m) l n f in
-      let q : h ≡ graphs j = cc in
-      (
+      let q : h ≡ graphs j = cc in (
         record {
           set = set;
           is_set = s;

@@ -42,17 +42,16 @@ all_between t = let e : length t - 0 ≡ length t = omega arith in ap (λ n. tak
 
 pub whole_runs : (program : Program) (host : Graph) (t : List Item) (graphs : ℕ → Graph) → AreGraphsOf program.rules t graphs → graphs 0 ≡ host → (p : Command) (x : Outcome) → WholeRuns program host t graphs p x
 whole_runs program host t graphs w e p x = record {
-  from_run = λ picks h r. (let k : h ≡ graphs (length t) = sym (at_ending x h) ∙ lands program t graphs w r 0 (length t) (omega arith) (omega arith) (sym e) (sym (all_between t)) in
-      (
-        record {
-          ordered = omega arith;
-          within = omega arith;
-          picks = picks;
-          run = subst (λ (z : Graph). Run program p (graphs 0) picks (between t 0 (length t)) (ending x z)) k
-              (subst (λ (z : List Item). Run program p (graphs 0) picks z (ending x h)) (sym (all_between t)) (subst (λ (z : Graph). Run program p z picks t (ending x h)) (sym e) r));
-        },
-        k,
-      ));
+  from_run = λ picks h r. (let k : h ≡ graphs (length t) = sym (at_ending x h) ∙ lands program t graphs w r 0 (length t) (omega arith) (omega arith) (sym e) (sym (all_between t)) in (
+    record {
+      ordered = omega arith;
+      within = omega arith;
+      picks = picks;
+      run = subst (λ (z : Graph). Run program p (graphs 0) picks (between t 0 (length t)) (ending x z)) k
+          (subst (λ (z : List Item). Run program p (graphs 0) picks z (ending x h)) (sym (all_between t)) (subst (λ (z : Graph). Run program p z picks t (ending x h)) (sym e) r));
+    },
+    k,
+  ));
   to_run = λ s. (s.picks, subst (λ (z : Graph). Run program p z s.picks t (ending x (graphs (length t)))) e (subst (λ (z : List Item). Run program p (graphs 0) s.picks z (ending x (graphs (length t)))) (all_between t) s.run));
 }
 

@@ -148,12 +148,12 @@ module _ (v : View) (w : IsTape v) (body : Command) where
   leaves k f e t s (o, inr (x, p)) =
       from_gives k e o (into v w L k e.place outcome.Gives (turn_within k t) (t, inr (inr (subst (λ (z : ℕ). S body (k + 1) z outcome.Breaks) (sym p) (body_as (k + 1) f outcome.Breaks x s)))))
 
-  pub found_first : (i : ℕ) (r : Reached) → i ≤ length v.trace → ((k : ℕ) → (Has r.starts k → k ≡ i) × (k ≡ i → Has r.starts k)) → ((e : End) → Contains r.ends.items e → ⊥) → IsFound v L i i r
+  pub found_first : (i : ℕ) (r : Reached) → i ≤ length v.trace → ((k : ℕ) → (Has r.starts k → k ≡ i) × (k ≡ i → Has r.starts k)) → r.ends.items ≡ [] → IsFound v L i i r
   found_first i r l s n = record {
     later = λ k h. (let e = (s k).0 h in omega arith);
     within = λ k h. (let e = (s k).0 h in omega arith);
     starts = λ k e h z. subst (λ (y : ℕ). EndsSo v L y e) ((s k).0 h) z;
-    ends = λ e c. absurd (n e c);
+    ends = λ e c. absurd (nothing e (subst (λ (z : List End). Contains z e) n c));
     whole = λ e z. inr (i, (s i).1 refl, z);
   }
 
@@ -219,7 +219,7 @@ pub loop_means : (v : View) (code : List Node) (cs : List Command) (n b : ℕ) �
 loop_means v code cs n b s h = h n (node.Loop b) s
 
 pub turns_first : (v : View) (code : List Node) (m : Kept) (n b i : ℕ) (r : Reached) → IsTape v → IsTrueOf v code m → slice_get code n ≡ Some (node.Loop b) → i ≤ length v.trace → ((k : ℕ) → (Has r.starts k → k ≡ i) × (k ≡ i → Has r.starts k))
-    → ((e : End) → Contains r.ends.items e → ⊥) → TurnsSoFar v v code m n i i r
+    → r.ends.items ≡ [] → TurnsSoFar v v code m n i i r
 turns_first v code m n b i r w t c l s e = record {
   same = refl;
   memory = t;

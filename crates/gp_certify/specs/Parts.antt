@@ -39,7 +39,7 @@ module _ (program : Program) (t : List Item) (graphs : ℕ → Graph) (Ends : Co
   OfParts (Loop p) i j outcome.Gives =
       (slice_get t i ≡ Some Turned)
       × (((m : ℕ) × Ends p (i + 1) m outcome.Gives × Ends (Loop p) m j outcome.Gives)
-        ⊎ (((m : ℕ) × Ends p (i + 1) m outcome.Fails × IsTakenBack t (i + 1) m × (j ≡ m + 1)) ⊎ Ends p (i + 1) j outcome.Breaks))
+      ⊎ (((m : ℕ) × Ends p (i + 1) m outcome.Fails × IsTakenBack t (i + 1) m × (j ≡ m + 1)) ⊎ Ends p (i + 1) j outcome.Breaks))
   OfParts (Loop p) i j outcome.Fails = ⊥
   OfParts (Loop p) i j outcome.Breaks = ⊥
   OfParts (Or p q) i j x = Ends p i j x ⊎ Ends q i j x

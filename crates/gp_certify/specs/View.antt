@@ -10,7 +10,7 @@ pub record View : Type 0 where
   pub trace : List Item
   pub graphs : ℕ → Graph
 
--- between two places of the trace its items lead to the graph of the second and to no other
+-- the items between two places lead nowhere but to the graph of the second, and places are numbers of the machine
 pub record IsTape (v : View) : Type 0 where
   pub graphs : AreGraphsOf v.program.rules v.trace v.graphs
   pub short : length v.trace < 2 ^ 63

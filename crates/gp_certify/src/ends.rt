@@ -18,6 +18,7 @@ use gp_code::Node;
 use gp_memory::NoMemory;
 use std::alloc::Global;
 
+// One end.
 fn one_end(alloc: Global, place: usize, outcome: Outcome) -> Result<Vec<End>, NoMemory>
     ensures { IfOk result (λ v. v.items ≡ record { place = place; outcome = outcome } ∷ []) }
 {
@@ -26,6 +27,7 @@ fn one_end(alloc: Global, place: usize, outcome: Outcome) -> Result<Vec<End>, No
     Ok(ends)
 }
 
+// Of a call. A set that steps is not blocked, so only of the others it is asked whether they are.
 fn call_ends<T: Tape>(
     alloc: Global,
     call: u32,
@@ -110,6 +112,7 @@ pub(crate) fn ends_of<T: Tape>(
     Ok(found)
 }
 
+// As `ends_of`, of what memory does not have.
 #[cycle(ends)]
 fn fresh_ends<T: Tape>(
     code: &[Node],

@@ -1,6 +1,6 @@
 //! What a loop has reached.
 
-ghost use Rattle.std.specs.Prelude.{◌≡◌, ◌⊎◌, ◌<◌, ℕ, IfOk, OnOk, IfSome, IfNone, Contains};
+ghost use Rattle.std.specs.Prelude.{◌≡◌, ◌↔◌, [], ℕ, IfOk, OnOk, IfSome, IfNone, Contains};
 ghost use Rattle.gp_certify.specs.inside.Grows.{Grows, Has, IsTaken};
 
 use crate::end::End;
@@ -17,8 +17,8 @@ pub(crate) struct Reached {
 
 /// One place at which a turn may begin.
 pub(crate) fn reached_first(alloc: Global, place: usize) -> Result<Reached, NoMemory>
-    ensures starts { IfOk result (λ r. (k : ℕ) → (Has r.starts k → k ≡ place) × (k ≡ place → Has r.starts k)) }
-    ensures ends { IfOk result (λ r. (e : End) → Contains r.ends.items e → ⊥) }
+    ensures starts { IfOk result (λ r. (k : ℕ) → Has r.starts k ↔ (k ≡ place)) }
+    ensures ends { IfOk result (λ r. r.ends.items ≡ []) }
 {
     let mut starts = BTreeSet::new(alloc);
     match starts.insert(place) {

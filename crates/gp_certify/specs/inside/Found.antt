@@ -40,7 +40,7 @@ abbrev pub Leaves : View → ℕ → End → End → Type 0
 Leaves v i f e =
     (e.outcome ≡ outcome.Gives)
     × (((f.outcome ≡ outcome.Fails) × IsTakenBack v.trace i f.place × (e.place ≡ f.place + 1))
-      ⊎ ((f.outcome ≡ outcome.Breaks) × (e.place ≡ f.place)))
+    ⊎ ((f.outcome ≡ outcome.Breaks) × (e.place ≡ f.place)))
 
 -- what the turn at place i, of the body p, adds
 pub record HasTurned (v : View) (p : Command) (i : ℕ) (old new : Reached) : Type 0 where

@@ -176,13 +176,13 @@ first_ends-firsts-preserved g t c = firsts_more (g.T.Tape.view c.args.tape.now) 
 pub first_ends-returns-clause-ends : goal.first_ends-returns-clause-ends
 first_ends-returns-clause-ends g t c =
     λ cs h. (let v = g.T.Tape.view c.args.tape.now in
-        let n : c.firsts.end-index ≡ length c.deref-end-items.result.now = omega arith in
-        let es = c.in_ok-firsts.firsts.items in
-        let k : c.firsts.end-index ≡ length es = n ∙ ap length c.deref-end-items.ensures.value in
-        let f = subst (λ (l : List End). Grows (Contains c.new-found.result.items) (Contains c.firsts.found.items) (OfOne (λ f e. ByWay v cs (way_of (slice_index_or c.args.code.now c.args.node (node.Call 0)) f.outcome) c.args.place f e) l c.firsts.end-index)) c.deref-end-items.ensures.value (c.firsts.invariant.found cs h) in
-        let q = subst (λ (m : ℕ). Grows (Contains c.new-found.result.items) (Contains c.firsts.found.items) (OfOne (λ f e. ByWay v cs (way_of (slice_index_or c.args.code.now c.args.node (node.Call 0)) f.outcome) c.args.place f e) es m)) k f in
-        first_ends v c.requires.tape cs c.args.node (slice_index_or c.args.code.now c.args.node (node.Call 0)) c.args.first c.args.place es c.firsts.found.items c.requires.place (h c.args.node (slice_index_or c.args.code.now c.args.node (node.Call 0)) (first_shape c.args.code.now c.args.node c.args.first (node.Call 0) c.requires.first)) (shape_first c.args.code.now c.args.node c.args.first (node.Call 0) c.requires.first) (c.in_ok-firsts.ensures.ends cs h)
-        (subst (λ (l : List End). Grows (Contains l) (Contains c.firsts.found.items) (OfOne (λ f e. ByWay v cs (way_of (slice_index_or c.args.code.now c.args.node (node.Call 0)) f.outcome) c.args.place f e) es (length es))) c.new-found.ensures.items q))
+    let n : c.firsts.end-index ≡ length c.deref-end-items.result.now = omega arith in
+    let es = c.in_ok-firsts.firsts.items in
+    let k : c.firsts.end-index ≡ length es = n ∙ ap length c.deref-end-items.ensures.value in
+    let f = subst (λ (l : List End). Grows (Contains c.new-found.result.items) (Contains c.firsts.found.items) (OfOne (λ f e. ByWay v cs (way_of (slice_index_or c.args.code.now c.args.node (node.Call 0)) f.outcome) c.args.place f e) l c.firsts.end-index)) c.deref-end-items.ensures.value (c.firsts.invariant.found cs h) in
+    let q = subst (λ (m : ℕ). Grows (Contains c.new-found.result.items) (Contains c.firsts.found.items) (OfOne (λ f e. ByWay v cs (way_of (slice_index_or c.args.code.now c.args.node (node.Call 0)) f.outcome) c.args.place f e) es m)) k f in
+    first_ends v c.requires.tape cs c.args.node (slice_index_or c.args.code.now c.args.node (node.Call 0)) c.args.first c.args.place es c.firsts.found.items c.requires.place (h c.args.node (slice_index_or c.args.code.now c.args.node (node.Call 0)) (first_shape c.args.code.now c.args.node c.args.first (node.Call 0) c.requires.first)) (shape_first c.args.code.now c.args.node c.args.first (node.Call 0) c.requires.first) (c.in_ok-firsts.ensures.ends cs h)
+    (subst (λ (l : List End). Grows (Contains l) (Contains c.firsts.found.items) (OfOne (λ f e. ByWay v cs (way_of (slice_index_or c.args.code.now c.args.node (node.Call 0)) f.outcome) c.args.place f e) es (length es))) c.new-found.ensures.items q))
 
 pub first_ends-bounds-code-node : goal.first_ends-bounds-code-node
 first_ends-bounds-code-node g t c = first_within c.args.code.now c.args.node c.args.first c.requires.first
@@ -298,21 +298,20 @@ turn_ends-after_body-requires-clause-part g t c =
     part_at c.ends_of.ensures.same (part_of (g.T.Tape.view c.args.tape.now) c.requires.tape (at c.requires.code.0 c.args.body) (c.args.start + 1) z ((c.in_ok-ends.ensures.ends c.requires.code.0 c.requires.code.1).sound z here))
 
 pub turn_ends-ends-preserved : goal.turn_ends-ends-preserved
-turn_ends-ends-preserved g t c =
-    (
-        grows_of GoesOn _ _ _ c.deref-end-items.result.now c.ends.end-index _ _ c.ends-test.true refl c.ends.invariant.0 c.in_ok-after_body.ensures.starts,
-        grows_of (Leaves (g.T.Tape.view c.ends_of.new.tape) (c.args.start + 1)) _ _ _ c.deref-end-items.result.now c.ends.end-index _ _ c.ends-test.true refl c.ends.invariant.1 c.in_ok-after_body.ensures.ends
-    )
+turn_ends-ends-preserved g t c = (
+  grows_of GoesOn _ _ _ c.deref-end-items.result.now c.ends.end-index _ _ c.ends-test.true refl c.ends.invariant.0 c.in_ok-after_body.ensures.starts,
+  grows_of (Leaves (g.T.Tape.view c.ends_of.new.tape) (c.args.start + 1)) _ _ _ c.deref-end-items.result.now c.ends.end-index _ _ c.ends-test.true refl c.ends.invariant.1 c.in_ok-after_body.ensures.ends,
+)
 
 pub turn_ends-returns-clause-turned : goal.turn_ends-returns-clause-turned
 turn_ends-returns-clause-turned g t c =
     λ cs h. (let v = g.T.Tape.view c.args.tape.now in
-        let n : c.ends.end-index ≡ length c.deref-end-items.result.now = omega arith in
-        let es = c.in_ok-ends.ends.items in
-        let k : c.ends.end-index ≡ length es = n ∙ ap length c.deref-end-items.ensures.value in
-        has_turned v c.requires.tape (at cs c.args.body) c.args.start es c.args.reached.now c.ends.reached (c.in_ok-ends.ensures.ends cs h) (c.if-not-is_turn.ensures.0 refl)
-        (subst (λ (m : ℕ). Grows (Has c.args.reached.now.starts) (Has c.ends.reached.starts) (OfOne GoesOn es m)) k (subst (λ (l : List End). Grows (Has c.args.reached.now.starts) (Has c.ends.reached.starts) (OfOne GoesOn l c.ends.end-index)) c.deref-end-items.ensures.value c.ends.invariant.0))
-        (subst (λ (m : ℕ). Grows (Contains c.args.reached.now.ends.items) (Contains c.ends.reached.ends.items) (OfOne (Leaves v (c.args.start + 1)) es m)) k (subst (λ (l : List End). Grows (Contains c.args.reached.now.ends.items) (Contains c.ends.reached.ends.items) (OfOne (Leaves v (c.args.start + 1)) l c.ends.end-index)) c.deref-end-items.ensures.value (subst (λ (u : View). Grows (Contains c.args.reached.now.ends.items) (Contains c.ends.reached.ends.items) (OfOne (Leaves u (c.args.start + 1)) c.deref-end-items.result.now c.ends.end-index)) c.ends_of.ensures.same c.ends.invariant.1))))
+    let n : c.ends.end-index ≡ length c.deref-end-items.result.now = omega arith in
+    let es = c.in_ok-ends.ends.items in
+    let k : c.ends.end-index ≡ length es = n ∙ ap length c.deref-end-items.ensures.value in
+    has_turned v c.requires.tape (at cs c.args.body) c.args.start es c.args.reached.now c.ends.reached (c.in_ok-ends.ensures.ends cs h) (c.if-not-is_turn.ensures.0 refl)
+    (subst (λ (m : ℕ). Grows (Has c.args.reached.now.starts) (Has c.ends.reached.starts) (OfOne GoesOn es m)) k (subst (λ (l : List End). Grows (Has c.args.reached.now.starts) (Has c.ends.reached.starts) (OfOne GoesOn l c.ends.end-index)) c.deref-end-items.ensures.value c.ends.invariant.0))
+    (subst (λ (m : ℕ). Grows (Contains c.args.reached.now.ends.items) (Contains c.ends.reached.ends.items) (OfOne (Leaves v (c.args.start + 1)) es m)) k (subst (λ (l : List End). Grows (Contains c.args.reached.now.ends.items) (Contains c.ends.reached.ends.items) (OfOne (Leaves v (c.args.start + 1)) l c.ends.end-index)) c.deref-end-items.ensures.value (subst (λ (u : View). Grows (Contains c.args.reached.now.ends.items) (Contains c.ends.reached.ends.items) (OfOne (Leaves u (c.args.start + 1)) c.deref-end-items.result.now c.ends.end-index)) c.ends_of.ensures.same c.ends.invariant.1))))
 
 pub turn_ends-returns-then-not-is_turn-clause-turned : goal.turn_ends-returns-then-not-is_turn-clause-turned
 turn_ends-returns-then-not-is_turn-clause-turned g t c = λ cs h. no_turn (g.T.Tape.view c.args.tape.now) c.requires.tape (at cs c.args.body) c.args.start c.args.reached.now (λ s. absurd (let n : false ≡ true = c.if-not-is_turn.ensures.1 s in cc))
