@@ -1,0 +1,42 @@
+-- Sizes of commands.
+use Rattle.std.proofs.Common.{◌≡◌, ℕ, zero, suc, ◌+◌, ◌-◌, ◌*◌, ◌<◌, ◌≤◌, List, [], ◌∷◌, length, map, slice_index_or, refl, sym, ap, ◌∙◌, arith}
+use Rattle.gp_syntax.specs.declared.command.Command.{Command}
+use Rattle.gp_syntax.specs.declared.command.Command.TheVariants as form
+use Rattle.gp_syntax.specs.declared.command.Command.TheOpen.{Command-F}
+use Rattle.gp_syntax.specs.declared.command.Command.TheFolds.{fold-roll-Command}
+use Rattle.gp_code.specs.inside.Kept.{size_step, size, sizes, room}
+
+pub size-Seq : (p : Command) (ps : List Command) → size (form.Seq p ps) ≡ 2 + size p + sizes ps
+unfolding size
+size-Seq p ps = ap size (sym (form.rolls-Seq p ps)) ∙ fold-roll-Command ℕ size_step (Command-F.Seq p ps)
+
+pub size-If : (k p q : Command) → size (form.If k p q) ≡ 2 + size k + size p + size q
+unfolding size
+size-If k p q = ap size (sym (form.rolls-If k p q)) ∙ fold-roll-Command ℕ size_step (Command-F.If k p q)
+
+pub size-Try : (k p q : Command) → size (form.Try k p q) ≡ 2 + size k + size p + size q
+unfolding size
+size-Try k p q = ap size (sym (form.rolls-Try k p q)) ∙ fold-roll-Command ℕ size_step (Command-F.Try k p q)
+
+pub size-Loop : (p : Command) → size (form.Loop p) ≡ 2 + size p
+unfolding size
+size-Loop p = ap size (sym (form.rolls-Loop p)) ∙ fold-roll-Command ℕ size_step (Command-F.Loop p)
+
+pub size-Or : (p : Command) (ps : List Command) → size (form.Or p ps) ≡ 2 + size p + sizes ps
+unfolding size
+size-Or p ps = ap size (sym (form.rolls-Or p ps)) ∙ fold-roll-Command ℕ size_step (Command-F.Or p ps)
+
+pub size-Proc : (k : ℕ) → size (form.Proc k) ≡ 2
+unfolding size
+size-Proc k = ap size (sym (form.rolls-Proc k)) ∙ fold-roll-Command ℕ size_step (Command-F.Proc k)
+
+-- one of a list
+pub size_at : (ps : List Command) (i : ℕ) (d : Command) → i < length ps → size (slice_index_or ps i d) ≤ sizes ps
+size_at [] i d l = absurd (omega arith)
+size_at (p ∷ ps) zero d l = omega arith
+size_at (p ∷ ps) (suc i) d l = omega (arith, size_at ps i d (omega arith))
+
+-- the body of a procedure takes less than what is left for it
+pub room_less : (ps : List Command) (depth i : ℕ) (d : Command) → 1 ≤ depth → i < length ps → room ps (depth - 1) + size (slice_index_or ps i d) < room ps depth
+room_less ps zero i d h l = absurd (omega arith)
+room_less ps (suc depth) i d h l = (let s = size_at ps i d l in omega arith)

@@ -1,0 +1,37 @@
+-- What a program keeps, as the recursion over a command and the procedures that it calls needs it; and how long that is.
+use Rattle.std.specs.Prelude.{ℕ, ◌+◌, ◌*◌, ◌<◌, ◌≤◌, List, ◌∷◌, length, map, sum, Contains}
+use Rattle.gp_syntax.specs.Run as meant
+use Rattle.gp_syntax.specs.Run.{Program}
+use Rattle.gp_syntax.specs.Scoped.{calls_in, procedures_in, IsChain}
+use Rattle.gp_syntax.specs.declared.command.Command.{Command}
+use Rattle.gp_syntax.specs.declared.command.Command.TheOpen.{Command-F}
+use Rattle.gp_syntax.specs.declared.command.Command.TheFolds.{fold-Command}
+
+-- its numbers are in range, and chains of calls that begin in it are no longer than this
+pub record Fits (program : Program) (depth : ℕ) (p : meant.Command) : Type 0 where
+  pub calls : (c : ℕ) → Contains (calls_in p) c → c < length program.sets
+  pub procedures : (k : ℕ) → Contains (procedures_in p) k → k < length program.procedures
+  pub chains : (k : ℕ) (ks : List ℕ) → Contains (procedures_in p) k → IsChain program (k ∷ ks) → length (k ∷ ks) ≤ depth
+
+-- more than the parts together
+abbrev pub size_step : Command-F ℕ → ℕ
+size_step (Command-F.Call c) = 1
+size_step (Command-F.Seq p qs) = 2 + p + sum qs
+size_step (Command-F.If k p q) = 2 + k + p + q
+size_step (Command-F.Try k p q) = 2 + k + p + q
+size_step (Command-F.Loop p) = 2 + p
+size_step (Command-F.Or p qs) = 2 + p + sum qs
+size_step Command-F.Skip = 1
+size_step Command-F.Fail = 1
+size_step Command-F.Break = 1
+size_step (Command-F.Proc k) = 2
+
+unfoldable pub size : Command → ℕ
+size = fold-Command ℕ size_step
+
+abbrev pub sizes : List Command → ℕ
+sizes ps = sum (map size ps)
+
+-- no less than the size of whatever may still be called, where so many procedures may nest
+abbrev pub room : List Command → ℕ → ℕ
+room procedures depth = depth * (1 + sizes procedures)
