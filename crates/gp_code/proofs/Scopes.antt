@@ -13,10 +13,10 @@ use Rattle.gp_code.specs.inside.Table.{joined, grouped}
 use Rattle.gp_code.specs.inside.Kept.{Fits}
 
 at_head : {X : Type 0} (x : X) (xs : List X) → Contains (x ∷ xs) x
-at_head x xs = (0, omega arith, refl)
+at_head x xs = (0, (let l : 0 < suc (length xs) = omega arith in l), refl)
 
 in_tail : {X : Type 0} (y x : X) (xs : List X) → Contains xs x → Contains (y ∷ xs) x
-in_tail y x xs h = ?
+in_tail y x xs = Contains-append_right (y ∷ []) xs x
 
 is_among : {X : Type 0} (xs : List X) (i : ℕ) (x : X) → slice_get xs i ≡ Some x → Contains xs x
 is_among xs i x e = (i, slice_get_within xs i x e, get_or_from_slice_get xs i x x e)
@@ -44,13 +44,13 @@ module _ (program : Program) (depth : ℕ) where
 
   -- a condition and its branches
   pub fits_condition : (k p q : Command) → Fits program depth (If k p q) → Fits program depth k
-  fits_condition k p q = fits_first k (Seq p q) (If k p q) refl refl
+  fits_condition k p q h = fits_first k p (Seq k p) refl refl (fits_first (Seq k p) q (If k p q) refl refl h)
 
   pub fits_then : (k p q : Command) → Fits program depth (If k p q) → Fits program depth p
-  fits_then k p q h = fits_first p q (Seq p q) refl refl (fits_second k (Seq p q) (If k p q) refl refl h)
+  fits_then k p q h = fits_second k p (Seq k p) refl refl (fits_first (Seq k p) q (If k p q) refl refl h)
 
   pub fits_else : (k p q : Command) → Fits program depth (If k p q) → Fits program depth q
-  fits_else k p q h = fits_second p q (Seq p q) refl refl (fits_second k (Seq p q) (If k p q) refl refl h)
+  fits_else k p q = fits_second (Seq k p) q (If k p q) refl refl
 
   -- the parts of a chain
   joined_first : (kind : Chain) (p q : Command) → Fits program depth (joined kind p q) → Fits program depth p
@@ -65,10 +65,13 @@ module _ (program : Program) (depth : ℕ) where
   grouped_first kind p [] h = h
   grouped_first kind p (q ∷ qs) h = joined_first kind p q (grouped_first kind (joined kind p q) qs h)
 
-  pub grouped_at : (kind : Chain) (p : Command) (qs : List code.Command) (i : ℕ) (d : code.Command) → i < length qs → Fits program depth (grouped kind p (map command_of qs)) → Fits program depth (command_of (slice_index_or qs i d))
+  grouped_at : (kind : Chain) (p : Command) (qs : List code.Command) (i : ℕ) (d : code.Command) → i < length qs → Fits program depth (grouped kind p (map command_of qs)) → Fits program depth (command_of (slice_index_or qs i d))
   grouped_at kind p [] i d l h = absurd (omega arith)
   grouped_at kind p (q ∷ qs) zero d l h = joined_second kind p (command_of q) (grouped_first kind (joined kind p (command_of q)) (map command_of qs) h)
   grouped_at kind p (q ∷ qs) (suc i) d l h = grouped_at kind (joined kind p (command_of q)) qs i d (omega arith) h
+
+  pub fits_one : (kind : Chain) (p : Command) (qs : List code.Command) (i : ℕ) (q : code.Command) → i < length qs → q ≡ slice_index_or qs i q → Fits program depth (grouped kind p (map command_of qs)) → Fits program depth (command_of q)
+  fits_one kind p qs i q l e h = subst (λ (c : code.Command). Fits program depth (command_of c)) (sym e) (grouped_at kind p qs i q l h)
 
 -- ---- procedures
 

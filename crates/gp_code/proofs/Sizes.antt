@@ -1,5 +1,6 @@
 -- Sizes of commands.
-use Rattle.std.proofs.Common.{◌≡◌, ℕ, zero, suc, ◌+◌, ◌-◌, ◌*◌, ◌<◌, ◌≤◌, List, [], ◌∷◌, length, map, slice_index_or, refl, sym, ap, ◌∙◌, arith}
+use Rattle.std.proofs.Common.{◌≡◌, ℕ, zero, suc, ◌+◌, ◌-◌, ◌*◌, ◌<◌, ◌≤◌, List, [], ◌∷◌, length, map, slice_index_or, sym, ap, subst, ◌∙◌, arith}
+use Rattle.std.proofs.Math.Nat.{suc-mul}
 use Rattle.gp_syntax.specs.declared.command.Command.{Command}
 use Rattle.gp_syntax.specs.declared.command.Command.TheVariants as form
 use Rattle.gp_syntax.specs.declared.command.Command.TheOpen.{Command-F}
@@ -31,12 +32,19 @@ unfolding size
 size-Proc k = ap size (sym (form.rolls-Proc k)) ∙ fold-roll-Command ℕ size_step (Command-F.Proc k)
 
 -- one of a list
-pub size_at : (ps : List Command) (i : ℕ) (d : Command) → i < length ps → size (slice_index_or ps i d) ≤ sizes ps
+size_at : (ps : List Command) (i : ℕ) (d : Command) → i < length ps → size (slice_index_or ps i d) ≤ sizes ps
 size_at [] i d l = absurd (omega arith)
 size_at (p ∷ ps) zero d l = omega arith
 size_at (p ∷ ps) (suc i) d l = omega (arith, size_at ps i d (omega arith))
 
--- the body of a procedure takes less than what is left for it
-pub room_less : (ps : List Command) (depth i : ℕ) (d : Command) → 1 ≤ depth → i < length ps → room ps (depth - 1) + size (slice_index_or ps i d) < room ps depth
-room_less ps zero i d h l = absurd (omega arith)
-room_less ps (suc depth) i d h l = (let s = size_at ps i d l in omega arith)
+pub size_of_one : (ps : List Command) (i : ℕ) (p : Command) → i < length ps → p ≡ slice_index_or ps i p → size p ≤ sizes ps
+size_of_one ps i p l e = subst (λ (q : Command). size q ≤ sizes ps) (sym e) (size_at ps i p l)
+
+-- the body of a procedure takes no more than what is left for it
+pub room_less : (ps : List Command) (depth i : ℕ) (p : Command) → 1 ≤ depth → i < length ps → p ≡ slice_index_or ps i p → room ps (depth - 1) + size p < room ps depth + 1
+room_less ps zero i p h l e = absurd (omega arith)
+room_less ps (suc depth) i p h l e =
+    let s = size_of_one ps i p l e in
+    let d : suc depth - 1 ≡ depth = omega arith in
+    let m = suc-mul depth (1 + sizes ps) in
+    rw (d, m) (omega arith)

@@ -1,15 +1,22 @@
 -- What is put into a table, one after another.
-use Rattle.std.proofs.Common.{◌≡◌, ◌⊎◌, inl, inr, ℕ, zero, suc, ◌+◌, ◌<◌, ◌≤◌, List, [], ◌∷◌, ◌++◌, length, Some, slice_get, refl, sym, ap, subst, ◌∙◌, arith, length-append}
-use Rattle.std.proofs.Math.ListN.{get_or-append}
+use Rattle.std.proofs.Common.{◌≡◌, ◌⊎◌, Result, IfOk, inl, inr, ℕ, zero, suc, ◌+◌, ◌<◌, ◌≤◌, List, [], ◌∷◌, ◌++◌, length, map, take, replicate, get_or, Option, Some, None, slice_get, slice_index_or, refl, sym, ap, subst, ◌∙◌, arith, length-append}
+use Rattle.std.proofs.lemmas.Result.{IfOk-weaker}
+use Rattle.std.proofs.lemmas.Option.{slice_get-get_or, slice_get_within, get_or_from_slice_get}
+use Rattle.std.proofs.lemmas.List.{take_more, map-append, length-replicate, get_or-replicate}
+use Rattle.std.proofs.lemmas.List.Sums.{fold-append}
+use Rattle.std.proofs.Math.ListN.{get_or-append, set}
 use Rattle.std.proofs.Math.Seq.{get_or-append_seam}
+use Rattle.std.specs.Vec.{with_item}
 use Rattle.gp_syntax.specs.Run.{Command, Call, If, Try, Loop, Skip, Fail, Break, Procedure, Program}
+use Rattle.gp_syntax.specs.Tree.{command_of}
+use Rattle.gp_syntax.specs.declared.command.Command as code
 use Rattle.gp_code.specs.declared.node.Node.{Node}
 use Rattle.gp_code.specs.declared.node.Node.TheVariants as node
 use Rattle.gp_code.specs.declared.lower.Table.{Table}
 use Rattle.gp_code.specs.declared.lower.Chain.{Chain}
 use Rattle.gp_code.specs.declared.lower.Chain.TheVariants as chain
-use Rattle.gp_code.specs.Code.{at, Means, IsCode}
-use Rattle.gp_code.specs.inside.Table.{joined_node, joined, HasPut, AreAt, IsTable, Later, Lowers}
+use Rattle.gp_code.specs.Code.{at, Means, IsCode, IsCodeOf}
+use Rattle.gp_code.specs.inside.Table.{joined_node, joined, grouped, HasPut, AreAt, IsTable, Later, Lowers}
 
 -- ---- numbers that stay
 
@@ -117,3 +124,95 @@ lowers_put program old mid new ns ps n x p means a h cs t =
       stays = λ m k. (let g = f.grows in same m (omega arith) ∙ f.stays m k);
       lowered = (omega arith, is, tt);
     }
+
+-- the same of what `put` answers
+pub put_behind : {E : Type 0} (program : Program) (old mid new : Table) (ns : List ℕ) (ps : List Command) (r : Result ℕ E) (x : Node) (p : Command) → ((es : List Command) (m : ℕ) → at es m ≡ p → AreAt m es ns ps → Means program es m x) → Lowers program old mid ns ps → IfOk r (λ n. HasPut mid new x n) → IfOk r (λ n. Lowers program old new (n ∷ []) (p ∷ []))
+put_behind program old mid new ns ps r x p means a = IfOk-weaker r _ _ (λ n h. lowers_put program old mid new ns ps n x p means a h)
+
+pub put_leaf : {E : Type 0} (program : Program) (old new : Table) (r : Result ℕ E) (x : Node) (p : Command) → ((es : List Command) (m : ℕ) → at es m ≡ p → Means program es m x) → IfOk r (λ n. HasPut old new x n) → IfOk r (λ n. Lowers program old new (n ∷ []) (p ∷ []))
+put_leaf program old new r x p means = put_behind program old old new [] [] r x p (λ es m e h. means es m e) (lowers_nothing program old)
+
+-- ---- what nodes mean
+
+pub means_if : (program : Program) (a b c : ℕ) (k p q : Command) (es : List Command) (m : ℕ) → at es m ≡ If k p q → AreAt m es (a ∷ b ∷ c ∷ []) (k ∷ p ∷ q ∷ []) → Means program es m (node.If a b c)
+means_if program a b c k p q es m e h = (cc, h.0, h.2.0, h.2.2.0)
+
+pub means_try : (program : Program) (a b c : ℕ) (k p q : Command) (es : List Command) (m : ℕ) → at es m ≡ Try k p q → AreAt m es (a ∷ b ∷ c ∷ []) (k ∷ p ∷ q ∷ []) → Means program es m (node.Try a b c)
+means_try program a b c k p q es m e h = (cc, h.0, h.2.0, h.2.2.0)
+
+pub means_loop : (program : Program) (a : ℕ) (p : Command) (es : List Command) (m : ℕ) → at es m ≡ Loop p → AreAt m es (a ∷ []) (p ∷ []) → Means program es m (node.Loop a)
+means_loop program a p es m e h = (cc, h.0)
+
+pub means_joined : (program : Program) (kind : Chain) (a b : ℕ) (p q : Command) (es : List Command) (m : ℕ) → at es m ≡ joined kind p q → AreAt m es (a ∷ b ∷ []) (p ∷ q ∷ []) → Means program es m (joined_node kind a b)
+means_joined program chain.Sequence a b p q es m e h = (cc, h.0, h.2.0)
+means_joined program chain.Choice a b p q es m e h = (cc, h.0, h.2.0)
+
+pub means_procedure : (program : Program) (k a : ℕ) (es : List Command) (m : ℕ) → k < length program.procedures → at es m ≡ Procedure k → AreAt m es (a ∷ []) (at program.procedures k ∷ []) → Means program es m (node.Proc k a)
+means_procedure program k a es m l e h = (e, slice_get-get_or program.procedures k Skip l ∙ ap Some (sym h.1), h.0)
+
+-- one more part of a chain
+grouped_more : (kind : Chain) (p : Command) (qs : List code.Command) (i : ℕ) (q : code.Command) → i < length qs → q ≡ slice_index_or qs i q → grouped kind p (map command_of (take (i + 1) qs)) ≡ joined kind (grouped kind p (map command_of (take i qs))) (command_of q)
+grouped_more kind p qs i q l e =
+    let more : take (i + 1) qs ≡ take i qs ++ q ∷ [] = take_more qs i q l ∙ ap (λ (c : code.Command). take i qs ++ c ∷ []) (sym e) in
+    ap (λ (cs : List code.Command). grouped kind p (map command_of cs)) more ∙ ap (λ (cs : List Command). grouped kind p cs) (map-append command_of (take i qs) (q ∷ [])) ∙ fold-append (joined kind) p (map command_of (take i qs)) (command_of q ∷ [])
+
+pub lowers_more : (program : Program) (old mid last new : Table) (kind : Chain) (p : Command) (qs : List code.Command) (i : ℕ) (q : code.Command) (a b n : ℕ) → i < length qs → q ≡ slice_index_or qs i q → Lowers program old mid (a ∷ []) (grouped kind p (map command_of (take i qs)) ∷ []) → Lowers program mid last (b ∷ []) (command_of q ∷ []) → HasPut last new (joined_node kind a b) n → Lowers program old new (n ∷ []) (grouped kind p (map command_of (take (i + 1) qs)) ∷ [])
+lowers_more program old mid last new kind p qs i q a b n l e f g h =
+    let before = grouped kind p (map command_of (take i qs)) in
+    subst
+      (λ (c : Command). Lowers program old new (n ∷ []) (c ∷ []))
+      (sym (grouped_more kind p qs i q l e))
+      (lowers_put program old last new (a ∷ b ∷ []) (before ∷ command_of q ∷ []) n (joined_node kind a b) (joined kind before (command_of q)) (means_joined program kind a b before (command_of q)) (lowers_then program old mid last (a ∷ []) (b ∷ []) (before ∷ []) (command_of q ∷ []) f g) h)
+
+-- ---- the nodes of bodies
+
+-- one that is there
+pub lowers_known : (program : Program) (table : Table) (k n : ℕ) → slice_get table.roots.items k ≡ Some (Some n) → Lowers program table table (n ∷ []) (at program.procedures k ∷ [])
+lowers_known program table k n e cs t = record { commands = cs; table = t; grows = omega arith; stays = λ m l. refl; lowered = (let b = t.bodies k n e in (b.0, b.1, tt)) }
+
+-- what stands at a place of a list with one item set
+set_or_before : {X : Type 0} (xs : List X) (i j : ℕ) (y x : X) → slice_get (set xs i y) j ≡ Some x → ((j ≡ i) × (y ≡ x)) ⊎ (slice_get xs j ≡ Some x)
+set_or_before [] i j y x e = inr e
+set_or_before (z ∷ xs) zero zero y x e = inl (refl, cc)
+set_or_before (z ∷ xs) zero (suc j) y x e = inr e
+set_or_before (z ∷ xs) (suc i) zero y x e = inr e
+set_or_before (z ∷ xs) (suc i) (suc j) y x e = elim (set_or_before xs i j y x e) [ inl h ↦ (let l = h.0 in inl (omega arith, h.1)) | inr h ↦ inr h ]
+
+-- one that was put in is kept
+pub lowers_kept : (program : Program) (old mid : Table) (k n : ℕ) → Lowers program old mid (n ∷ []) (at program.procedures k ∷ []) → Lowers program old (record { nodes = mid.nodes; roots = with_item mid.roots k (Some n) }) (n ∷ []) (at program.procedures k ∷ [])
+lowers_kept program old mid k n l cs t =
+    let f = l cs t in
+    record {
+      commands = f.commands;
+      table = record {
+        count = f.table.count;
+        code = f.table.code;
+        bodies = λ j i e. elim (set_or_before mid.roots.items k j (Some n) (Some i) e) [
+          | inl h ↦ (let same : i ≡ n = cc (h.1) in rw (h.0, same) (f.lowered.0, f.lowered.1))
+          | inr h ↦ f.table.bodies j i h
+        ];
+      };
+      grows = f.grows;
+      stays = f.stays;
+      lowered = f.lowered;
+    }
+
+-- ---- the whole table
+
+table_empty : (program : Program) (table : Table) (count : ℕ) → table.nodes.items ≡ [] → table.roots.items ≡ replicate count None → IsTable program table []
+table_empty program table count e f = record {
+  count = rw e refl;
+  code = λ n x i. absurd (let l = slice_get_within table.nodes.items n x i in let m : length table.nodes.items ≡ 0 = ap length e in omega arith);
+  bodies = λ k n i. absurd (
+      let l = slice_get_within table.roots.items k (Some n) i in
+      let m : length table.roots.items ≡ count = ap length f ∙ length-replicate count None in
+      let a : get_or (replicate count None) k (Some n) ≡ None = get_or-replicate count k None (Some n) (omega arith) in
+      let b : get_or table.roots.items k (Some n) ≡ Some n = get_or_from_slice_get table.roots.items k (Some n) (Some n) i in
+      cc
+    );
+}
+
+pub whole : (program : Program) (old new : Table) (count root : ℕ) (main : Command) → old.nodes.items ≡ [] → old.roots.items ≡ replicate count None → main ≡ program.main → Lowers program old new (root ∷ []) (main ∷ []) → IsCodeOf program new.nodes.items root
+whole program old new count root main e f is l =
+    let h = l [] (table_empty program old count e f) in
+    record { within = h.lowered.0; commands = h.commands; code = h.table.code; main = h.lowered.1 ∙ is }

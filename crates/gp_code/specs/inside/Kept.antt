@@ -1,5 +1,5 @@
 -- What a program keeps, as the recursion over a command and the procedures that it calls needs it; and how long that is.
-use Rattle.std.specs.Prelude.{ℕ, ◌+◌, ◌*◌, ◌<◌, ◌≤◌, List, ◌∷◌, length, map, sum, Contains}
+use Rattle.std.specs.Prelude.{ℕ, ◌+◌, ◌*◌, ◌<◌, ◌≤◌, List, [], ◌∷◌, length, map, Contains}
 use Rattle.gp_syntax.specs.Run as meant
 use Rattle.gp_syntax.specs.Run.{Program}
 use Rattle.gp_syntax.specs.Scoped.{calls_in, procedures_in, IsChain}
@@ -13,14 +13,18 @@ pub record Fits (program : Program) (depth : ℕ) (p : meant.Command) : Type 0 w
   pub procedures : (k : ℕ) → Contains (procedures_in p) k → k < length program.procedures
   pub chains : (k : ℕ) (ks : List ℕ) → Contains (procedures_in p) k → IsChain program (k ∷ ks) → length (k ∷ ks) ≤ depth
 
--- more than the parts together
+abbrev pub total : List ℕ → ℕ
+total [] = 0
+total (n ∷ ns) = n + total ns
+
+-- more than the sizes of the parts together
 abbrev pub size_step : Command-F ℕ → ℕ
 size_step (Command-F.Call c) = 1
-size_step (Command-F.Seq p qs) = 2 + p + sum qs
+size_step (Command-F.Seq p qs) = 2 + p + total qs
 size_step (Command-F.If k p q) = 2 + k + p + q
 size_step (Command-F.Try k p q) = 2 + k + p + q
 size_step (Command-F.Loop p) = 2 + p
-size_step (Command-F.Or p qs) = 2 + p + sum qs
+size_step (Command-F.Or p qs) = 2 + p + total qs
 size_step Command-F.Skip = 1
 size_step Command-F.Fail = 1
 size_step Command-F.Break = 1
@@ -30,7 +34,7 @@ unfoldable pub size : Command → ℕ
 size = fold-Command ℕ size_step
 
 abbrev pub sizes : List Command → ℕ
-sizes ps = sum (map size ps)
+sizes ps = total (map size ps)
 
 -- no less than the size of whatever may still be called, where so many procedures may nest
 abbrev pub room : List Command → ℕ → ℕ
