@@ -7,8 +7,8 @@ use Rattle.gp_syntax.specs.Run.{Command, If, Procedure, Program}
 use Rattle.gp_syntax.specs.Scoped.{IsScoped}
 use Rattle.gp_syntax.specs.Tree.{command_of}
 use Rattle.gp_syntax.proofs.Trees.{command_of-Seq, command_of-If, command_of-Try, command_of-Loop, command_of-Or, command_of-Proc}
-use Rattle.gp_code.specs.declared.lower.Chain.{Chain}
-use Rattle.gp_code.specs.declared.lower.Chain.TheVariants as chain
+use Rattle.gp_code.specs.declared.table.Chain.{Chain}
+use Rattle.gp_code.specs.declared.table.Chain.TheVariants as chain
 use Rattle.gp_code.specs.Code.{at}
 use Rattle.gp_code.specs.inside.Table.{grouped}
 use Rattle.gp_code.specs.inside.Kept.{Fits, size, sizes, room}

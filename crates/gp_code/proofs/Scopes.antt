@@ -1,13 +1,13 @@
 -- What a command needs of its program, its parts need too.
-use Rattle.std.proofs.Common.{◌≡◌, ℕ, zero, suc, ◌+◌, ◌-◌, ◌<◌, ◌≤◌, List, [], ◌∷◌, ◌++◌, length, map, slice_get, slice_index_or, Some, Contains, refl, sym, ap, subst, ◌∙◌, arith}
+use Rattle.std.proofs.Common.{◌≡◌, ℕ, zero, suc, ◌-◌, ◌<◌, ◌≤◌, List, [], ◌∷◌, ◌++◌, length, map, slice_get, slice_index_or, Some, Contains, refl, sym, subst, arith}
 use Rattle.std.proofs.lemmas.List.Elements.{Contains-append_left, Contains-append_right}
 use Rattle.std.proofs.lemmas.Option.{slice_get-get_or, slice_get_within, get_or_from_slice_get}
 use Rattle.gp_syntax.specs.declared.command.Command as code
 use Rattle.gp_syntax.specs.Run.{Command, Call, Seq, If, Try, Loop, Or, Skip, Procedure, Program}
-use Rattle.gp_syntax.specs.Scoped.{calls_in, procedures_in, bodies, IsChain, IsScoped}
+use Rattle.gp_syntax.specs.Scoped.{calls_in, procedures_in, bodies, IsScoped}
 use Rattle.gp_syntax.specs.Tree.{command_of}
-use Rattle.gp_code.specs.declared.lower.Chain.{Chain}
-use Rattle.gp_code.specs.declared.lower.Chain.TheVariants as chain
+use Rattle.gp_code.specs.declared.table.Chain.{Chain}
+use Rattle.gp_code.specs.declared.table.Chain.TheVariants as chain
 use Rattle.gp_code.specs.Code.{at}
 use Rattle.gp_code.specs.inside.Table.{joined, grouped}
 use Rattle.gp_code.specs.inside.Kept.{Fits}

@@ -1,5 +1,5 @@
 -- What is put into a table, one after another.
-use Rattle.std.proofs.Common.{◌≡◌, ◌⊎◌, Result, IfOk, inl, inr, ℕ, zero, suc, ◌+◌, ◌<◌, ◌≤◌, List, [], ◌∷◌, ◌++◌, length, map, take, replicate, get_or, Option, Some, None, slice_get, slice_index_or, refl, sym, ap, subst, ◌∙◌, arith, length-append}
+use Rattle.std.proofs.Common.{◌≡◌, ◌⊎◌, Result, IfOk, inl, inr, ℕ, zero, suc, ◌+◌, ◌<◌, ◌≤◌, List, [], ◌∷◌, ◌++◌, length, map, take, replicate, get_or, Some, None, slice_get, slice_index_or, refl, sym, ap, subst, ◌∙◌, arith, length-append}
 use Rattle.std.proofs.lemmas.Result.{IfOk-weaker}
 use Rattle.std.proofs.lemmas.Option.{slice_get-get_or, slice_get_within, get_or_from_slice_get}
 use Rattle.std.proofs.lemmas.List.{take_more, map-append, length-replicate, get_or-replicate}
@@ -7,16 +7,16 @@ use Rattle.std.proofs.lemmas.List.Sums.{fold-append}
 use Rattle.std.proofs.Math.ListN.{get_or-append, set}
 use Rattle.std.proofs.Math.Seq.{get_or-append_seam}
 use Rattle.std.specs.Vec.{with_item}
-use Rattle.gp_syntax.specs.Run.{Command, Call, If, Try, Loop, Skip, Fail, Break, Procedure, Program}
+use Rattle.gp_syntax.specs.Run.{Command, If, Try, Loop, Skip, Procedure, Program}
 use Rattle.gp_syntax.specs.Tree.{command_of}
 use Rattle.gp_syntax.specs.declared.command.Command as code
 use Rattle.gp_code.specs.declared.node.Node.{Node}
 use Rattle.gp_code.specs.declared.node.Node.TheVariants as node
-use Rattle.gp_code.specs.declared.lower.Table.{Table}
-use Rattle.gp_code.specs.declared.lower.Chain.{Chain}
-use Rattle.gp_code.specs.declared.lower.Chain.TheVariants as chain
+use Rattle.gp_code.specs.declared.table.Table.{Table}
+use Rattle.gp_code.specs.declared.table.Chain.{Chain}
+use Rattle.gp_code.specs.declared.table.Chain.TheVariants as chain
 use Rattle.gp_code.specs.Code.{at, Means, IsCode, IsCodeOf}
-use Rattle.gp_code.specs.inside.Table.{joined_node, joined, grouped, HasPut, AreAt, IsTable, Later, Lowers}
+use Rattle.gp_code.specs.inside.Table.{joined_node, joined, grouped, HasPut, AreAt, IsTable, Lowers}
 
 -- ---- numbers that stay
 
@@ -160,9 +160,9 @@ pub lowers_more : (program : Program) (old mid last new : Table) (kind : Chain) 
 lowers_more program old mid last new kind p qs i q a b n l e f g h =
     let before = grouped kind p (map command_of (take i qs)) in
     subst
-      (λ (c : Command). Lowers program old new (n ∷ []) (c ∷ []))
-      (sym (grouped_more kind p qs i q l e))
-      (lowers_put program old last new (a ∷ b ∷ []) (before ∷ command_of q ∷ []) n (joined_node kind a b) (joined kind before (command_of q)) (means_joined program kind a b before (command_of q)) (lowers_then program old mid last (a ∷ []) (b ∷ []) (before ∷ []) (command_of q ∷ []) f g) h)
+    (λ (c : Command). Lowers program old new (n ∷ []) (c ∷ []))
+    (sym (grouped_more kind p qs i q l e))
+    (lowers_put program old last new (a ∷ b ∷ []) (before ∷ command_of q ∷ []) n (joined_node kind a b) (joined kind before (command_of q)) (means_joined program kind a b before (command_of q)) (lowers_then program old mid last (a ∷ []) (b ∷ []) (before ∷ []) (command_of q ∷ []) f g) h)
 
 -- ---- the nodes of bodies
 
@@ -209,7 +209,7 @@ table_empty program table count e f = record {
       let a : get_or (replicate count None) k (Some n) ≡ None = get_or-replicate count k None (Some n) (omega arith) in
       let b : get_or table.roots.items k (Some n) ≡ Some n = get_or_from_slice_get table.roots.items k (Some n) (Some n) i in
       cc
-    );
+      );
 }
 
 pub whole : (program : Program) (old new : Table) (count root : ℕ) (main : Command) → old.nodes.items ≡ [] → old.roots.items ≡ replicate count None → main ≡ program.main → Lowers program old new (root ∷ []) (main ∷ []) → IsCodeOf program new.nodes.items root

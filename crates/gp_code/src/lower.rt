@@ -1,65 +1,20 @@
-//! The table of a program's commands.
+//! Commands are put into a table, each behind its parts.
 
-ghost use Rattle.std.specs.Prelude.{◌≡◌, [], ◌∷◌, length, map, IfOk, replicate, None};
+ghost use Rattle.std.specs.Prelude.{◌≡◌, [], ◌∷◌, length, map, IfOk};
 ghost use Rattle.gp_syntax.specs.Run.{If, Procedure};
 ghost use Rattle.gp_syntax.specs.Tree.{command_of, program_of_tree};
-ghost use Rattle.gp_code.specs.Code.{at, IsCodeOf};
-ghost use Rattle.gp_code.specs.inside.Table.{HasPut, Lowers, grouped, joined_node};
+ghost use Rattle.gp_code.specs.Code.{at};
+ghost use Rattle.gp_code.specs.inside.Table.{Lowers, grouped};
 ghost use Rattle.gp_code.specs.inside.Kept.{Fits};
 
 use crate::node::Node;
+use crate::table::{Chain, Table, joined, put};
 use gp_memory::NoMemory;
 use gp_syntax::{Command, Program};
-use std::alloc::Global;
 
-/// A chain of calls has at most so many procedures.
-const MOST_CALLS: u32 = 64;
-
-/// A table of commands, and the node of Main.
-#[derive(Drop)]
-pub struct Code {
-    pub nodes: Vec<Node>,
-    pub root: u32,
-}
-
-// A table so far, and for each procedure the node of its body, where that is in the table.
-#[derive(Drop)]
-struct Table {
-    nodes: Vec<Node>,
-    roots: Vec<Option<u32>>,
-}
-
-// Which operator a chain has.
-#[derive(Clone, Copy)]
-enum Chain {
-    Sequence,
-    Choice,
-}
-
-fn joined(chain: Chain, first: u32, second: u32) -> Node
-    ensures { result ≡ joined_node chain first second }
-{
-    match chain {
-        Chain::Sequence => Node::Seq(first, second),
-        Chain::Choice => Node::Or(first, second),
-    }
-}
-
-// Puts a node at the end. A table with more nodes than there are numbers counts as want of memory.
-fn put(table: &mut Table, node: Node) -> Result<u32, NoMemory>
-    ensures roots { table.new.roots ≡ table.old.roots }
-    ensures put { IfOk result (λ n. HasPut table.old table.new node n) }
-{
-    let Ok(number) = u32::try_from(table.nodes.len()) else {
-        return Err(NoMemory);
-    };
-    table.nodes.push(node)?;
-    Ok(number)
-}
-
-// Puts a command behind its parts, from which at most `depth` procedures nest.
+/// Puts a command into the table, and tells its number. A chain of calls that begins in it has at most `depth` procedures.
 #[cycle(lower)]
-fn lower(
+pub(crate) fn lower(
     program: &Program,
     depth: u32,
     command: &Command,
@@ -83,7 +38,7 @@ fn lower(
             )
         }
         Command::If(condition, then, otherwise) => {
-            let (a, b, c) = lower_three(
+            let (condition, then, otherwise) = lower_branches(
                 program,
                 depth,
                 condition.get(),
@@ -91,10 +46,10 @@ fn lower(
                 otherwise.get(),
                 table,
             )?;
-            put(table, Node::If(a, b, c))
+            put(table, Node::If(condition, then, otherwise))
         }
         Command::Try(condition, then, otherwise) => {
-            let (a, b, c) = lower_three(
+            let (condition, then, otherwise) = lower_branches(
                 program,
                 depth,
                 condition.get(),
@@ -102,11 +57,11 @@ fn lower(
                 otherwise.get(),
                 table,
             )?;
-            put(table, Node::Try(a, b, c))
+            put(table, Node::Try(condition, then, otherwise))
         }
         Command::Loop(body) => {
-            let a = lower(program, depth, body.get(), table)?;
-            put(table, Node::Loop(a))
+            let body = lower(program, depth, body.get(), table)?;
+            put(table, Node::Loop(body))
         }
         Command::Or(first, rest) => {
             lower_chain(
@@ -122,8 +77,8 @@ fn lower(
         Command::Fail => put(table, Node::Fail),
         Command::Break => put(table, Node::Break),
         Command::Proc(procedure) => {
-            let a = body_of(program, depth, *procedure, table)?;
-            put(table, Node::Proc(*procedure, a))
+            let body = lower_body(program, depth, *procedure, table)?;
+            put(table, Node::Proc(*procedure, body))
         }
     }
 }
@@ -151,9 +106,9 @@ fn lower_chain(
     Ok(so_far)
 }
 
-// A condition and its branches.
+// The parts of an `if` or a `try`.
 #[cycle(lower)]
-fn lower_three(
+fn lower_branches(
     program: &Program,
     depth: u32,
     condition: &Command,
@@ -166,15 +121,15 @@ fn lower_three(
     ensures roots { length table.new.roots.items ≡ length table.old.roots.items }
     ensures lowers { IfOk result (λ n. Lowers (program_of_tree program.now) table.old table.new (n.0 ∷ n.1 ∷ n.2 ∷ []) (command_of condition.now ∷ command_of then.now ∷ command_of otherwise.now ∷ [])) }
 {
-    let a = lower(program, depth, condition, table)?;
-    let b = lower(program, depth, then, table)?;
-    let c = lower(program, depth, otherwise, table)?;
-    Ok((a, b, c))
+    let condition = lower(program, depth, condition, table)?;
+    let then = lower(program, depth, then, table)?;
+    let otherwise = lower(program, depth, otherwise, table)?;
+    Ok((condition, then, otherwise))
 }
 
 // The body of a procedure, which is put into the table at the first call.
 #[cycle(lower)]
-fn body_of(
+fn lower_body(
     program: &Program,
     depth: u32,
     procedure: u32,
@@ -197,27 +152,4 @@ fn body_of(
     )?;
     table.roots[procedure as usize] = Some(body);
     Ok(body)
-}
-
-// So many procedures that are not in the table.
-fn no_roots(alloc: Global, count: usize) -> Result<Vec<Option<u32>>, NoMemory>
-    ensures { IfOk result (λ v. v.items ≡ replicate count None) }
-{
-    Ok(vec![in alloc; None; count]?)
-}
-
-/// The table of a program.
-pub fn code_of(alloc: Global, program: &Program) -> Result<Code, NoMemory>
-    ensures { IfOk result (λ c. IsCodeOf (program_of_tree program.now) c.nodes.items c.root) }
-{
-    let parts = program.parts();
-    let mut table = Table {
-        nodes: Vec::new(alloc),
-        roots: no_roots(alloc, parts.procedures.as_slice().len())?,
-    };
-    let root = lower(program, MOST_CALLS, &parts.main, &mut table)?;
-    Ok(Code {
-        nodes: table.nodes,
-        root,
-    })
 }

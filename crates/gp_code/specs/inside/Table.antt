@@ -3,9 +3,9 @@ use Rattle.std.specs.Prelude.{◌≡◌, ◌<◌, ◌≤◌, ℕ, List, [], ◌�
 use Rattle.gp_syntax.specs.Run.{Command, Seq, Or, Program}
 use Rattle.gp_code.specs.declared.node.Node.{Node}
 use Rattle.gp_code.specs.declared.node.Node.TheVariants as node
-use Rattle.gp_code.specs.declared.lower.Table.{Table}
-use Rattle.gp_code.specs.declared.lower.Chain.{Chain}
-use Rattle.gp_code.specs.declared.lower.Chain.TheVariants as chain
+use Rattle.gp_code.specs.declared.table.Table.{Table}
+use Rattle.gp_code.specs.declared.table.Chain.{Chain}
+use Rattle.gp_code.specs.declared.table.Chain.TheVariants as chain
 use Rattle.gp_code.specs.Code.{at, IsCode}
 
 -- ---- chains

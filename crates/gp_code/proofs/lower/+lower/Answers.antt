@@ -1,13 +1,11 @@
-use Rattle.std.proofs.Common.{rules, ◌≡◌, [], ◌∷◌, length, map, ℕ, ◌+◌, ◌-◌, ◌<◌, ◌≤◌, slice_get, slice_index_or, Some, refl, ap, ◌∙◌, arith, subst}
+use Rattle.std.proofs.Common.{rules, ◌≡◌, length, map, slice_index_or, Some, refl, ap, ◌∙◌, arith, subst}
 use Rattle.std.proofs.lemmas.List.{length-map}
 use Rattle.std.proofs.lemmas.Option.{slice_get_read}
-use Rattle.gp_syntax.specs.Run.{Command, Call, If, Try, Loop, Skip, Fail, Break, Procedure}
+use Rattle.gp_syntax.specs.Run.{Command, Call, Skip, Fail, Break, Procedure}
 use Rattle.gp_syntax.specs.Tree.{command_of, program_of_tree}
 use Rattle.gp_syntax.specs.declared.command.Command.TheVariants as form
 use Rattle.gp_syntax.proofs.Trees.{command_of-Call, command_of-Seq, command_of-If, command_of-Try, command_of-Loop, command_of-Or, command_of-Skip, command_of-Fail, command_of-Break, command_of-Proc}
 use Rattle.gp_code.specs.declared.node.Node.TheVariants as node
-use Rattle.gp_code.specs.Code.{at}
-use Rattle.gp_code.specs.inside.Table.{Lowers}
 use Rattle.gp_code.specs.inside.Kept.{Fits, room}
 use Rattle.gp_code.proofs.Parts.{seq_parts, or_parts, if_parts, try_parts, loop_part, call_part, body_part}
 use Rattle.gp_code.proofs.Sizes.{size_of_one}
@@ -27,14 +25,14 @@ lower-lower_chain-requires-in-Or t c =
     let h = or_parts (program_of_tree c.args.program.now) c.args.depth (room c.args.program.now.procedures c.args.depth) c.args.command.now _ _ e c.requires.fits in
     search rules
 
-pub lower-lower_three-requires : goal.lower-lower_three-requires
-lower-lower_three-requires t c =
+pub lower-lower_branches-requires : goal.lower-lower_branches-requires
+lower-lower_branches-requires t c =
     let e : c.args.command.now ≡ form.If c.get-in-If.result.now c.get-in-If-2.result.now c.get-in-If-3.result.now = rw (c.get-in-If.ensures, c.get-in-If-2.ensures, c.get-in-If-3.ensures) c.in-If.is in
     let h = if_parts (program_of_tree c.args.program.now) c.args.depth (room c.args.program.now.procedures c.args.depth) c.args.command.now _ _ _ e c.requires.fits in
     search rules
 
-pub lower-lower_three-requires-in-Try : goal.lower-lower_three-requires-in-Try
-lower-lower_three-requires-in-Try t c =
+pub lower-lower_branches-requires-in-Try : goal.lower-lower_branches-requires-in-Try
+lower-lower_branches-requires-in-Try t c =
     let e : c.args.command.now ≡ form.Try c.get-in-Try.result.now c.get-in-Try-2.result.now c.get-in-Try-3.result.now = rw (c.get-in-Try.ensures, c.get-in-Try-2.ensures, c.get-in-Try-3.ensures) c.in-Try.is in
     let h = try_parts (program_of_tree c.args.program.now) c.args.depth (room c.args.program.now.procedures c.args.depth) c.args.command.now _ _ _ e c.requires.fits in
     search rules
@@ -45,8 +43,8 @@ lower-lower-requires t c =
     let h = loop_part (program_of_tree c.args.program.now) c.args.depth (room c.args.program.now.procedures c.args.depth) c.args.command.now _ e c.requires.fits in
     search rules
 
-pub lower-body_of-requires : goal.lower-body_of-requires
-lower-body_of-requires t c =
+pub lower-lower_body-requires : goal.lower-lower_body-requires
+lower-lower_body-requires t c =
     let h = call_part (program_of_tree c.args.program.now) c.args.depth (room c.args.program.now.procedures c.args.depth) c.args.command.now c.in-Proc.procedure c.in-Proc.is c.requires.fits in
     search rules
 
@@ -79,63 +77,63 @@ lower-returns-in-Or-clause-lowers t c =
     let e : c.args.command.now ≡ form.Or c.get-in-Or.result.now c.as_slice-in-Or.result.now = rw (c.get-in-Or.ensures, c.as_slice-in-Or.ensures) c.in-Or.is in
     rw (e, command_of-Or) c.lower_chain-in-Or.ensures.lowers
 
-pub lower-returns-in_ok-a-in-If-clause-lowers : goal.lower-returns-in_ok-a-in-If-clause-lowers
-lower-returns-in_ok-a-in-If-clause-lowers t c =
+pub lower-returns-in_ok-condition-in-If-clause-lowers : goal.lower-returns-in_ok-condition-in-If-clause-lowers
+lower-returns-in_ok-condition-in-If-clause-lowers t c =
     let e : c.args.command.now ≡ form.If c.get-in-If.result.now c.get-in-If-2.result.now c.get-in-If-3.result.now = rw (c.get-in-If.ensures, c.get-in-If-2.ensures, c.get-in-If-3.ensures) c.in-If.is in
-    rw (e, command_of-If) (put_behind (program_of_tree c.args.program.now) _ _ _ _ _ _ (node.If c.in_ok-a-in-If.a c.in_ok-a-in-If.b c.in_ok-a-in-If.c) _ (means_if (program_of_tree c.args.program.now) _ _ _ _ _ _) c.in_ok-a-in-If.ensures.lowers c.put-in-If.ensures.put)
+    rw (e, command_of-If) (put_behind (program_of_tree c.args.program.now) _ _ _ _ _ _ (node.If c.in_ok-condition-in-If.condition c.in_ok-condition-in-If.then c.in_ok-condition-in-If.otherwise) _ (means_if (program_of_tree c.args.program.now) _ _ _ _ _ _) c.in_ok-condition-in-If.ensures.lowers c.put-in-If.ensures.put)
 
-pub lower-returns-in_ok-a-in-Try-clause-lowers : goal.lower-returns-in_ok-a-in-Try-clause-lowers
-lower-returns-in_ok-a-in-Try-clause-lowers t c =
+pub lower-returns-in_ok-condition-in-Try-clause-lowers : goal.lower-returns-in_ok-condition-in-Try-clause-lowers
+lower-returns-in_ok-condition-in-Try-clause-lowers t c =
     let e : c.args.command.now ≡ form.Try c.get-in-Try.result.now c.get-in-Try-2.result.now c.get-in-Try-3.result.now = rw (c.get-in-Try.ensures, c.get-in-Try-2.ensures, c.get-in-Try-3.ensures) c.in-Try.is in
-    rw (e, command_of-Try) (put_behind (program_of_tree c.args.program.now) _ _ _ _ _ _ (node.Try c.in_ok-a-in-Try.a c.in_ok-a-in-Try.b c.in_ok-a-in-Try.c) _ (means_try (program_of_tree c.args.program.now) _ _ _ _ _ _) c.in_ok-a-in-Try.ensures.lowers c.put-in-Try.ensures.put)
+    rw (e, command_of-Try) (put_behind (program_of_tree c.args.program.now) _ _ _ _ _ _ (node.Try c.in_ok-condition-in-Try.condition c.in_ok-condition-in-Try.then c.in_ok-condition-in-Try.otherwise) _ (means_try (program_of_tree c.args.program.now) _ _ _ _ _ _) c.in_ok-condition-in-Try.ensures.lowers c.put-in-Try.ensures.put)
 
-pub lower-returns-in_ok-a-in-Loop-clause-lowers : goal.lower-returns-in_ok-a-in-Loop-clause-lowers
-lower-returns-in_ok-a-in-Loop-clause-lowers t c =
+pub lower-returns-in_ok-body-in-Loop-clause-lowers : goal.lower-returns-in_ok-body-in-Loop-clause-lowers
+lower-returns-in_ok-body-in-Loop-clause-lowers t c =
     let e : c.args.command.now ≡ form.Loop c.get-in-Loop.result.now = rw (c.get-in-Loop.ensures) c.in-Loop.is in
-    rw (e, command_of-Loop) (put_behind (program_of_tree c.args.program.now) _ _ _ _ _ _ (node.Loop c.in_ok-a-in-Loop.a) _ (means_loop (program_of_tree c.args.program.now) _ _) c.in_ok-a-in-Loop.ensures.lowers c.put-in-Loop.ensures.put)
+    rw (e, command_of-Loop) (put_behind (program_of_tree c.args.program.now) _ _ _ _ _ _ (node.Loop c.in_ok-body-in-Loop.body) _ (means_loop (program_of_tree c.args.program.now) _ _) c.in_ok-body-in-Loop.ensures.lowers c.put-in-Loop.ensures.put)
 
-pub lower-returns-in_ok-a-in-Proc-clause-lowers : goal.lower-returns-in_ok-a-in-Proc-clause-lowers
-lower-returns-in_ok-a-in-Proc-clause-lowers t c =
+pub lower-returns-in_ok-body-in-Proc-clause-lowers : goal.lower-returns-in_ok-body-in-Proc-clause-lowers
+lower-returns-in_ok-body-in-Proc-clause-lowers t c =
     let program = program_of_tree c.args.program.now in
     let e : command_of c.args.command.now ≡ Procedure c.in-Proc.procedure = ap command_of c.in-Proc.is ∙ command_of-Proc c.in-Proc.procedure in
     let l = fits_procedure program c.args.depth c.in-Proc.procedure (subst (λ (p : Command). Fits program c.args.depth p) e c.requires.fits) in
-    rw e (put_behind program _ _ _ _ _ _ (node.Proc c.in-Proc.procedure c.in_ok-a-in-Proc.a) _ (λ es m. means_procedure program _ _ es m l) c.in_ok-a-in-Proc.ensures.lowers c.put-in-Proc.ensures.put)
+    rw e (put_behind program _ _ _ _ _ _ (node.Proc c.in-Proc.procedure c.in_ok-body-in-Proc.body) _ (λ es m. means_procedure program _ _ es m l) c.in_ok-body-in-Proc.ensures.lowers c.put-in-Proc.ensures.put)
 
-pub body_of-index-requires : goal.body_of-index-requires
-body_of-index-requires t c =
+pub lower_body-index-requires : goal.lower_body-index-requires
+lower_body-index-requires t c =
     let l = fits_procedure (program_of_tree c.args.program.now) c.args.depth c.args.procedure c.requires.fits in
     omega (arith, length-map c.args.program.now.procedures command_of)
 
-pub body_of-returns-in-Some-clause-lowers : goal.body_of-returns-in-Some-clause-lowers
-body_of-returns-in-Some-clause-lowers t c =
+pub lower_body-returns-in-Some-clause-lowers : goal.lower_body-returns-in-Some-clause-lowers
+lower_body-returns-in-Some-clause-lowers t c =
     let l = fits_procedure (program_of_tree c.args.program.now) c.args.depth c.args.procedure c.requires.fits in
     let e = slice_get_read c.args.table.now.roots.items _ c.args.procedure c.index.result.now refl (omega (arith, length-map c.args.program.now.procedures command_of)) c.index.ensures in
     lowers_known (program_of_tree c.args.program.now) c.args.table.now c.args.procedure c.in-Some.body (e ∙ ap Some c.in-Some.is)
 
-pub body_of-overflow_sub-depth : goal.body_of-overflow_sub-depth
-body_of-overflow_sub-depth t c = fits_positive (program_of_tree c.args.program.now) c.args.depth c.args.procedure c.requires.fits
+pub lower_body-overflow_sub-depth : goal.lower_body-overflow_sub-depth
+lower_body-overflow_sub-depth t c = fits_positive (program_of_tree c.args.program.now) c.args.depth c.args.procedure c.requires.fits
 
-pub body_of-bounds-as_slice-procedure : goal.body_of-bounds-as_slice-procedure
-body_of-bounds-as_slice-procedure t c =
+pub lower_body-bounds-as_slice-procedure : goal.lower_body-bounds-as_slice-procedure
+lower_body-bounds-as_slice-procedure t c =
     let l = fits_procedure (program_of_tree c.args.program.now) c.args.depth c.args.procedure c.requires.fits in
     rw (c.as_slice.ensures, c.parts-parts.ensures.value) (omega (arith, length-map c.args.program.now.procedures command_of))
 
-pub body_of-lower-requires : goal.body_of-lower-requires
-body_of-lower-requires t c =
+pub lower_body-lower-requires : goal.lower_body-lower-requires
+lower_body-lower-requires t c =
     let e : c.as_slice.result.now ≡ c.args.program.now.procedures = rw (c.as_slice.ensures, c.parts-parts.ensures.value) refl in
     let body = c.index-as_slice-procedure.result in
     let is : body ≡ slice_index_or c.args.program.now.procedures c.args.procedure body = rw (← e) c.index-as_slice-procedure.is in
     let h = body_part (program_of_tree c.args.program.now) c.args.program.now.procedures c.args.depth c.args.procedure body refl c.parts-parts.ensures.scoped c.requires.fits is in
     search rules
 
-pub body_of-index_mut-requires : goal.body_of-index_mut-requires
-body_of-index_mut-requires t c =
+pub lower_body-index_mut-requires : goal.lower_body-index_mut-requires
+lower_body-index_mut-requires t c =
     let l = fits_procedure (program_of_tree c.args.program.now) c.args.depth c.args.procedure c.requires.fits in
     let r = c.lower.ensures.roots in
     omega (arith, length-map c.args.program.now.procedures command_of)
 
-pub body_of-returns-clause-lowers : goal.body_of-returns-clause-lowers
-body_of-returns-clause-lowers t c =
+pub lower_body-returns-clause-lowers : goal.lower_body-returns-clause-lowers
+lower_body-returns-clause-lowers t c =
     let e : c.as_slice.result.now ≡ c.args.program.now.procedures = rw (c.as_slice.ensures, c.parts-parts.ensures.value) refl in
     let body = c.index-as_slice-procedure.result in
     let is : body ≡ slice_index_or c.args.program.now.procedures c.args.procedure body = rw (← e) c.index-as_slice-procedure.is in
@@ -159,17 +157,17 @@ lower_chain-parts-preserved t c = record {
   lowered = lowers_more (program_of_tree c.args.program.now) _ _ _ _ c.args.chain (command_of c.args.first.now) c.args.rest.now c.parts.part-index c.part-item.result _ _ _ c.parts-test.true c.part-item.is c.parts.invariant.lowered c.in_ok-next.ensures.lowers (rw c.joined.ensures at c.in_ok-so_far-2.ensures.put);
 }
 
-pub lower_three-lower-requires : goal.lower_three-lower-requires
-lower_three-lower-requires t c =
+pub lower_branches-lower-requires : goal.lower_branches-lower-requires
+lower_branches-lower-requires t c =
     let fits = fits_condition (program_of_tree c.args.program.now) c.args.depth (command_of c.args.condition.now) (command_of c.args.then.now) (command_of c.args.otherwise.now) c.requires.fits in
     search rules
 
-pub lower_three-lower-requires-2 : goal.lower_three-lower-requires-2
-lower_three-lower-requires-2 t c =
+pub lower_branches-lower-requires-2 : goal.lower_branches-lower-requires-2
+lower_branches-lower-requires-2 t c =
     let fits = fits_then (program_of_tree c.args.program.now) c.args.depth (command_of c.args.condition.now) (command_of c.args.then.now) (command_of c.args.otherwise.now) c.requires.fits in
     search rules
 
-pub lower_three-lower-requires-3 : goal.lower_three-lower-requires-3
-lower_three-lower-requires-3 t c =
+pub lower_branches-lower-requires-3 : goal.lower_branches-lower-requires-3
+lower_branches-lower-requires-3 t c =
     let fits = fits_else (program_of_tree c.args.program.now) c.args.depth (command_of c.args.condition.now) (command_of c.args.then.now) (command_of c.args.otherwise.now) c.requires.fits in
     search rules

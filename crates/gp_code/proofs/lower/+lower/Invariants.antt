@@ -10,11 +10,11 @@ decreases-lower l = room l.program.now.procedures l.depth + size l.command.now
 abbrev pub decreases-lower_chain : goal.decreases-lower_chain
 decreases-lower_chain l = room l.program.now.procedures l.depth + (1 + size l.first.now + sizes l.rest.now)
 
-abbrev pub decreases-lower_three : goal.decreases-lower_three
-decreases-lower_three l = room l.program.now.procedures l.depth + (1 + size l.condition.now + size l.then.now + size l.otherwise.now)
+abbrev pub decreases-lower_branches : goal.decreases-lower_branches
+decreases-lower_branches l = room l.program.now.procedures l.depth + (1 + size l.condition.now + size l.then.now + size l.otherwise.now)
 
-abbrev pub decreases-body_of : goal.decreases-body_of
-decreases-body_of l = room l.program.now.procedures l.depth + 1
+abbrev pub decreases-lower_body : goal.decreases-lower_body
+decreases-lower_body l = room l.program.now.procedures l.depth + 1
 
 abbrev pub invariant-lower_chain-parts : goal.invariant-lower_chain-parts
 invariant-lower_chain-parts l = record {

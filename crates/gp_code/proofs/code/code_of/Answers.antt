@@ -1,8 +1,8 @@
-use Rattle.std.proofs.Common.{◌≡◌, ap, length, refl}
+use Rattle.std.proofs.Common.{refl}
 use Rattle.gp_syntax.specs.Tree.{command_of, program_of_tree}
 use Rattle.gp_code.proofs.Scopes.{fits_main}
 use Rattle.gp_code.proofs.Tables.{whole}
-use Rattle.gp_code.proofs.lower.code_of.Goals as goal
+use Rattle.gp_code.proofs.code.code_of.Goals as goal
 
 pub lower-requires-clause-fits : goal.lower-requires-clause-fits
 lower-requires-clause-fits c = rw c.parts-parts.ensures.value (fits_main (program_of_tree c.args.program.now) c.parts-parts.ensures.scoped)
