@@ -24,6 +24,7 @@ use Rattle.gp_code.specs.inside.Table.{joined_node, joined, grouped, HasPut, Are
 Same : ℕ → List Command → List Command → Type 0
 Same bound cs es = (m : ℕ) → m < bound → at es m ≡ at cs m
 
+-- so are numbers in a longer table
 are_on : (bound more : ℕ) (cs es : List Command) (ns : List ℕ) (ps : List Command) → bound ≤ more → Same bound cs es → AreAt bound cs ns ps → AreAt more es ns ps
 unfolding Same
 are_on bound more cs es [] [] l s h = tt
@@ -31,6 +32,7 @@ are_on bound more cs es [] (p ∷ ps) l s h = absurd h
 are_on bound more cs es (n ∷ ns) [] l s h = absurd h
 are_on bound more cs es (n ∷ ns) (p ∷ ps) l s h = ((let i = h.0 in omega arith), s n h.0 ∙ h.1, are_on bound more cs es ns ps l s h.2)
 
+-- these and those
 are_both : (bound : ℕ) (cs : List Command) (ns ms : List ℕ) (ps qs : List Command) → AreAt bound cs ns ps → AreAt bound cs ms qs → AreAt bound cs (ns ++ ms) (ps ++ qs)
 are_both bound cs [] ms [] qs h k = k
 are_both bound cs [] ms (p ∷ ps) qs h k = absurd h
@@ -85,7 +87,7 @@ table_put program old new n cs x p h t m =
     record {
       count = rw h.nodes (omega (arith, length-append cs (p ∷ [])));
       code = rw h.nodes (code_put program old.nodes.items cs x p c t.code (subst (λ (k : ℕ). Means program (cs ++ p ∷ []) k x) h.number m));
-      bodies = λ k i e. (let b = t.bodies k i (rw (sym (ap (λ (r : _). r) h.roots)) e) in let i = b.0 in (rw h.nodes (omega arith), same_put cs p _ (sym c) _ b.0 ∙ b.1));
+      bodies = λ k i e. (let b = t.bodies k i (rw (← h.roots) e) in let i = b.0 in (rw h.nodes (omega arith), same_put cs p _ (sym c) _ b.0 ∙ b.1));
     }
 
 -- ---- what is put in one after another

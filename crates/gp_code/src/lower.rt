@@ -11,6 +11,7 @@ use crate::node::Node;
 use crate::table::{Chain, Table, joined, put};
 use gp_memory::NoMemory;
 use gp_syntax::{Command, Program};
+use sqlite_items::{Boxed, Items};
 
 /// Puts a command into the table, and tells its number. A chain of calls that begins in it has at most `depth` procedures.
 #[cycle(lower)]
@@ -28,34 +29,17 @@ pub(crate) fn lower(
     match command {
         Command::Call(call) => put(table, Node::Call(*call)),
         Command::Seq(first, rest) => {
-            lower_chain(
-                program,
-                depth,
-                Chain::Sequence,
-                first.get(),
-                rest.as_slice(),
-                table,
-            )
+            lower_chain(program, depth, Chain::Sequence, first, rest, table)
         }
         Command::If(condition, then, otherwise) => {
             let (condition, then, otherwise) = lower_branches(
-                program,
-                depth,
-                condition.get(),
-                then.get(),
-                otherwise.get(),
-                table,
+                program, depth, condition, then, otherwise, table,
             )?;
             put(table, Node::If(condition, then, otherwise))
         }
         Command::Try(condition, then, otherwise) => {
             let (condition, then, otherwise) = lower_branches(
-                program,
-                depth,
-                condition.get(),
-                then.get(),
-                otherwise.get(),
-                table,
+                program, depth, condition, then, otherwise, table,
             )?;
             put(table, Node::Try(condition, then, otherwise))
         }
@@ -64,14 +48,7 @@ pub(crate) fn lower(
             put(table, Node::Loop(body))
         }
         Command::Or(first, rest) => {
-            lower_chain(
-                program,
-                depth,
-                Chain::Choice,
-                first.get(),
-                rest.as_slice(),
-                table,
-            )
+            lower_chain(program, depth, Chain::Choice, first, rest, table)
         }
         Command::Skip => put(table, Node::Skip),
         Command::Fail => put(table, Node::Fail),
@@ -89,8 +66,8 @@ fn lower_chain(
     program: &Program,
     depth: u32,
     chain: Chain,
-    first: &Command,
-    rest: &[Command],
+    first: &Boxed<Command>,
+    rest: &Items<Command>,
     table: &mut Table,
 ) -> Result<u32, NoMemory>
     requires fits { Fits (program_of_tree program.now) depth (grouped chain (command_of first.now) (map command_of rest.now)) }
@@ -98,8 +75,8 @@ fn lower_chain(
     ensures roots { length table.new.roots.items ≡ length table.old.roots.items }
     ensures lowers { IfOk result (λ n. Lowers (program_of_tree program.now) table.old table.new (n ∷ []) (grouped chain (command_of first.now) (map command_of rest.now) ∷ [])) }
 {
-    let mut so_far = lower(program, depth, first, table)?;
-    'parts: for part in rest {
+    let mut so_far = lower(program, depth, first.get(), table)?;
+    'parts: for part in rest.as_slice() {
         let next = lower(program, depth, part, table)?;
         so_far = put(table, joined(chain, so_far, next))?;
     }
@@ -111,9 +88,9 @@ fn lower_chain(
 fn lower_branches(
     program: &Program,
     depth: u32,
-    condition: &Command,
-    then: &Command,
-    otherwise: &Command,
+    condition: &Boxed<Command>,
+    then: &Boxed<Command>,
+    otherwise: &Boxed<Command>,
     table: &mut Table,
 ) -> Result<(u32, u32, u32), NoMemory>
     requires fits { Fits (program_of_tree program.now) depth (If (command_of condition.now) (command_of then.now) (command_of otherwise.now)) }
@@ -121,9 +98,9 @@ fn lower_branches(
     ensures roots { length table.new.roots.items ≡ length table.old.roots.items }
     ensures lowers { IfOk result (λ n. Lowers (program_of_tree program.now) table.old table.new (n.0 ∷ n.1 ∷ n.2 ∷ []) (command_of condition.now ∷ command_of then.now ∷ command_of otherwise.now ∷ [])) }
 {
-    let condition = lower(program, depth, condition, table)?;
-    let then = lower(program, depth, then, table)?;
-    let otherwise = lower(program, depth, otherwise, table)?;
+    let condition = lower(program, depth, condition.get(), table)?;
+    let then = lower(program, depth, then.get(), table)?;
+    let otherwise = lower(program, depth, otherwise.get(), table)?;
     Ok((condition, then, otherwise))
 }
 

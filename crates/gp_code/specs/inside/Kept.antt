@@ -13,11 +13,12 @@ pub record Fits (program : Program) (depth : ℕ) (p : meant.Command) : Type 0 w
   pub procedures : (k : ℕ) → Contains (procedures_in p) k → k < length program.procedures
   pub chains : (k : ℕ) (ks : List ℕ) → Contains (procedures_in p) k → IsChain program (k ∷ ks) → length (k ∷ ks) ≤ depth
 
+-- all together
 abbrev pub total : List ℕ → ℕ
 total [] = 0
 total (n ∷ ns) = n + total ns
 
--- more than the sizes of the parts together
+-- by the sizes of the parts
 abbrev pub size_step : Command-F ℕ → ℕ
 size_step (Command-F.Call c) = 1
 size_step (Command-F.Seq p qs) = 2 + p + total qs
@@ -30,9 +31,11 @@ size_step Command-F.Fail = 1
 size_step Command-F.Break = 1
 size_step (Command-F.Proc k) = 2
 
+-- the size of a command: 1, or 2 more than its parts have; a call does not count the body
 unfoldable pub size : Command → ℕ
 size = fold-Command ℕ size_step
 
+-- the sizes of some commands together
 abbrev pub sizes : List Command → ℕ
 sizes ps = total (map size ps)
 

@@ -10,10 +10,12 @@ use Rattle.gp_code.specs.Code.{at, IsCode}
 
 -- ---- chains
 
+-- the node of two parts of a chain
 abbrev pub joined_node : Chain → ℕ → ℕ → Node
 joined_node chain.Sequence a b = node.Seq a b
 joined_node chain.Choice a b = node.Or a b
 
+-- the command of two parts of a chain
 abbrev pub joined : Chain → Command → Command → Command
 joined chain.Sequence p q = Seq p q
 joined chain.Choice p q = Or p q

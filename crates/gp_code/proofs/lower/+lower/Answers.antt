@@ -15,31 +15,31 @@ use Rattle.gp_code.proofs.lower.+lower.Goals as goal
 
 pub lower-lower_chain-requires : goal.lower-lower_chain-requires
 lower-lower_chain-requires t c =
-    let e : c.args.command.now ≡ form.Seq c.get.result.now c.as_slice.result.now = rw (c.get.ensures, c.as_slice.ensures) c.in-Seq.is in
+    let e = c.in-Seq.is in
     let h = seq_parts (program_of_tree c.args.program.now) c.args.depth (room c.args.program.now.procedures c.args.depth) c.args.command.now _ _ e c.requires.fits in
     search rules
 
 pub lower-lower_chain-requires-in-Or : goal.lower-lower_chain-requires-in-Or
 lower-lower_chain-requires-in-Or t c =
-    let e : c.args.command.now ≡ form.Or c.get-in-Or.result.now c.as_slice-in-Or.result.now = rw (c.get-in-Or.ensures, c.as_slice-in-Or.ensures) c.in-Or.is in
+    let e = c.in-Or.is in
     let h = or_parts (program_of_tree c.args.program.now) c.args.depth (room c.args.program.now.procedures c.args.depth) c.args.command.now _ _ e c.requires.fits in
     search rules
 
 pub lower-lower_branches-requires : goal.lower-lower_branches-requires
 lower-lower_branches-requires t c =
-    let e : c.args.command.now ≡ form.If c.get-in-If.result.now c.get-in-If-2.result.now c.get-in-If-3.result.now = rw (c.get-in-If.ensures, c.get-in-If-2.ensures, c.get-in-If-3.ensures) c.in-If.is in
+    let e = c.in-If.is in
     let h = if_parts (program_of_tree c.args.program.now) c.args.depth (room c.args.program.now.procedures c.args.depth) c.args.command.now _ _ _ e c.requires.fits in
     search rules
 
 pub lower-lower_branches-requires-in-Try : goal.lower-lower_branches-requires-in-Try
 lower-lower_branches-requires-in-Try t c =
-    let e : c.args.command.now ≡ form.Try c.get-in-Try.result.now c.get-in-Try-2.result.now c.get-in-Try-3.result.now = rw (c.get-in-Try.ensures, c.get-in-Try-2.ensures, c.get-in-Try-3.ensures) c.in-Try.is in
+    let e = c.in-Try.is in
     let h = try_parts (program_of_tree c.args.program.now) c.args.depth (room c.args.program.now.procedures c.args.depth) c.args.command.now _ _ _ e c.requires.fits in
     search rules
 
 pub lower-lower-requires : goal.lower-lower-requires
 lower-lower-requires t c =
-    let e : c.args.command.now ≡ form.Loop c.get-in-Loop.result.now = rw (c.get-in-Loop.ensures) c.in-Loop.is in
+    let e = c.in-Loop.is in
     let h = loop_part (program_of_tree c.args.program.now) c.args.depth (room c.args.program.now.procedures c.args.depth) c.args.command.now _ e c.requires.fits in
     search rules
 
@@ -69,27 +69,27 @@ lower-returns-in-Break-clause-lowers t c =
 
 pub lower-returns-in-Seq-clause-lowers : goal.lower-returns-in-Seq-clause-lowers
 lower-returns-in-Seq-clause-lowers t c =
-    let e : c.args.command.now ≡ form.Seq c.get.result.now c.as_slice.result.now = rw (c.get.ensures, c.as_slice.ensures) c.in-Seq.is in
+    let e = c.in-Seq.is in
     rw (e, command_of-Seq) c.lower_chain.ensures.lowers
 
 pub lower-returns-in-Or-clause-lowers : goal.lower-returns-in-Or-clause-lowers
 lower-returns-in-Or-clause-lowers t c =
-    let e : c.args.command.now ≡ form.Or c.get-in-Or.result.now c.as_slice-in-Or.result.now = rw (c.get-in-Or.ensures, c.as_slice-in-Or.ensures) c.in-Or.is in
+    let e = c.in-Or.is in
     rw (e, command_of-Or) c.lower_chain-in-Or.ensures.lowers
 
 pub lower-returns-in_ok-condition-in-If-clause-lowers : goal.lower-returns-in_ok-condition-in-If-clause-lowers
 lower-returns-in_ok-condition-in-If-clause-lowers t c =
-    let e : c.args.command.now ≡ form.If c.get-in-If.result.now c.get-in-If-2.result.now c.get-in-If-3.result.now = rw (c.get-in-If.ensures, c.get-in-If-2.ensures, c.get-in-If-3.ensures) c.in-If.is in
+    let e = c.in-If.is in
     rw (e, command_of-If) (put_behind (program_of_tree c.args.program.now) _ _ _ _ _ _ (node.If c.in_ok-condition-in-If.condition c.in_ok-condition-in-If.then c.in_ok-condition-in-If.otherwise) _ (means_if (program_of_tree c.args.program.now) _ _ _ _ _ _) c.in_ok-condition-in-If.ensures.lowers c.put-in-If.ensures.put)
 
 pub lower-returns-in_ok-condition-in-Try-clause-lowers : goal.lower-returns-in_ok-condition-in-Try-clause-lowers
 lower-returns-in_ok-condition-in-Try-clause-lowers t c =
-    let e : c.args.command.now ≡ form.Try c.get-in-Try.result.now c.get-in-Try-2.result.now c.get-in-Try-3.result.now = rw (c.get-in-Try.ensures, c.get-in-Try-2.ensures, c.get-in-Try-3.ensures) c.in-Try.is in
+    let e = c.in-Try.is in
     rw (e, command_of-Try) (put_behind (program_of_tree c.args.program.now) _ _ _ _ _ _ (node.Try c.in_ok-condition-in-Try.condition c.in_ok-condition-in-Try.then c.in_ok-condition-in-Try.otherwise) _ (means_try (program_of_tree c.args.program.now) _ _ _ _ _ _) c.in_ok-condition-in-Try.ensures.lowers c.put-in-Try.ensures.put)
 
 pub lower-returns-in_ok-body-in-Loop-clause-lowers : goal.lower-returns-in_ok-body-in-Loop-clause-lowers
 lower-returns-in_ok-body-in-Loop-clause-lowers t c =
-    let e : c.args.command.now ≡ form.Loop c.get-in-Loop.result.now = rw (c.get-in-Loop.ensures) c.in-Loop.is in
+    let e : c.args.command.now ≡ form.Loop c.get.result.now = rw c.get.ensures c.in-Loop.is in
     rw (e, command_of-Loop) (put_behind (program_of_tree c.args.program.now) _ _ _ _ _ _ (node.Loop c.in_ok-body-in-Loop.body) _ (means_loop (program_of_tree c.args.program.now) _ _) c.in_ok-body-in-Loop.ensures.lowers c.put-in-Loop.ensures.put)
 
 pub lower-returns-in_ok-body-in-Proc-clause-lowers : goal.lower-returns-in_ok-body-in-Proc-clause-lowers
@@ -147,15 +147,20 @@ lower_chain-lower-requires t c =
 
 pub lower_chain-lower-requires-in-parts : goal.lower_chain-lower-requires-in-parts
 lower_chain-lower-requires-in-parts t c =
-    let fits = fits_one (program_of_tree c.args.program.now) c.args.depth c.args.chain (command_of c.args.first.now) c.args.rest.now c.parts.part-index c.part-item.result c.parts-test.true c.part-item.is c.requires.fits in
-    let size = size_of_one c.args.rest.now c.parts.part-index c.part-item.result c.parts-test.true c.part-item.is in
+    let within = rw c.as_slice-part-items.ensures at c.parts-test.true in
+    let is = rw c.as_slice-part-items.ensures at c.part-item.is in
+    let fits = fits_one (program_of_tree c.args.program.now) c.args.depth c.args.chain (command_of c.args.first.now) c.args.rest.now c.parts.part-index c.part-item.result within is c.requires.fits in
+    let size = size_of_one c.args.rest.now c.parts.part-index c.part-item.result within is in
     search rules
 
 pub lower_chain-parts-preserved : goal.lower_chain-parts-preserved
-lower_chain-parts-preserved t c = record {
-  roots = ap (λ (r : _). length r.items) c.put.ensures.roots ∙ c.in_ok-next.ensures.roots ∙ c.parts.invariant.roots;
-  lowered = lowers_more (program_of_tree c.args.program.now) _ _ _ _ c.args.chain (command_of c.args.first.now) c.args.rest.now c.parts.part-index c.part-item.result _ _ _ c.parts-test.true c.part-item.is c.parts.invariant.lowered c.in_ok-next.ensures.lowers (rw c.joined.ensures at c.in_ok-so_far-2.ensures.put);
-}
+lower_chain-parts-preserved t c =
+    let within = rw c.as_slice-part-items.ensures at c.parts-test.true in
+    let is = rw c.as_slice-part-items.ensures at c.part-item.is in
+    record {
+      roots = ap (λ (r : _). length r.items) c.put.ensures.roots ∙ c.in_ok-next.ensures.roots ∙ c.parts.invariant.roots;
+      lowered = lowers_more (program_of_tree c.args.program.now) _ _ _ _ c.args.chain (command_of c.args.first.now) c.args.rest.now c.parts.part-index c.part-item.result _ _ _ within is c.parts.invariant.lowered c.in_ok-next.ensures.lowers (rw c.joined.ensures at c.in_ok-so_far-2.ensures.put);
+    }
 
 pub lower_branches-lower-requires : goal.lower_branches-lower-requires
 lower_branches-lower-requires t c =
