@@ -20,8 +20,9 @@ module _ (program : Program) (depth : ℕ) where
   stands : (whole : code.Command) (p : Command) → command_of whole ≡ p → Fits program depth (command_of whole) → Fits program depth p
   stands whole p e = subst (λ (c : Command). Fits program depth c) e
 
-  -- whatever else is left
+  -- r: what is left beside
   module _ (r : ℕ) (whole : code.Command) where
+    -- the parts of a chain
     pub record ChainParts (kind : Chain) (first : code.Command) (rest : List code.Command) : Type 0 where
       pub fits : Fits program depth (grouped kind (command_of first) (map command_of rest))
       pub less : r + (1 + size first + sizes rest) < r + size whole
@@ -32,6 +33,7 @@ module _ (program : Program) (depth : ℕ) where
     pub or_parts : (first : code.Command) (rest : List code.Command) → whole ≡ form.Or first rest → Fits program depth (command_of whole) → ChainParts chain.Choice first rest
     or_parts first rest e h = record { fits = stands whole _ (ap command_of e ∙ command_of-Or first rest) h; less = (let s : size whole ≡ 2 + size first + sizes rest = ap size e ∙ size-Or first rest in omega arith) }
 
+    -- the parts of an `if` or a `try`
     pub record ThreeParts (k p q : code.Command) : Type 0 where
       pub fits : Fits program depth (If (command_of k) (command_of p) (command_of q))
       pub less : r + (1 + size k + size p + size q) < r + size whole
@@ -42,6 +44,7 @@ module _ (program : Program) (depth : ℕ) where
     pub try_parts : (k p q : code.Command) → whole ≡ form.Try k p q → Fits program depth (command_of whole) → ThreeParts k p q
     try_parts k p q e h = record { fits = fits_try program depth _ _ _ (stands whole _ (ap command_of e ∙ command_of-Try k p q) h); less = (let s : size whole ≡ 2 + size k + size p + size q = ap size e ∙ size-Try k p q in omega arith) }
 
+    -- the body of a loop
     pub record LoopPart (body : code.Command) : Type 0 where
       pub fits : Fits program depth (command_of body)
       pub less : r + size body < r + size whole
@@ -49,6 +52,7 @@ module _ (program : Program) (depth : ℕ) where
     pub loop_part : (body : code.Command) → whole ≡ form.Loop body → Fits program depth (command_of whole) → LoopPart body
     loop_part body e h = record { fits = fits_loop program depth _ (stands whole _ (ap command_of e ∙ command_of-Loop body) h); less = (let s : size whole ≡ 2 + size body = ap size e ∙ size-Loop body in omega arith) }
 
+    -- the call of a procedure
     pub record CallPart (k : ℕ) : Type 0 where
       pub fits : Fits program depth (Procedure k)
       pub less : r + 1 < r + size whole

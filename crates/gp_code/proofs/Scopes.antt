@@ -12,12 +12,14 @@ use Rattle.gp_code.specs.Code.{at}
 use Rattle.gp_code.specs.inside.Table.{joined, grouped}
 use Rattle.gp_code.specs.inside.Kept.{Fits}
 
+-- the first of a list, and the others
 at_head : {X : Type 0} (x : X) (xs : List X) → Contains (x ∷ xs) x
 at_head x xs = (0, (let l : 0 < suc (length xs) = omega arith in l), refl)
 
 in_tail : {X : Type 0} (y x : X) (xs : List X) → Contains xs x → Contains (y ∷ xs) x
 in_tail y x xs = Contains-append_right (y ∷ []) xs x
 
+-- what stands at a place is an element
 is_among : {X : Type 0} (xs : List X) (i : ℕ) (x : X) → slice_get xs i ≡ Some x → Contains xs x
 is_among xs i x e = (i, slice_get_within xs i x e, get_or_from_slice_get xs i x x e)
 
@@ -33,12 +35,14 @@ module _ (program : Program) (depth : ℕ) where
   fits_second : (p q r : Command) → calls_in r ≡ calls_in p ++ calls_in q → procedures_in r ≡ procedures_in p ++ procedures_in q → Fits program depth r → Fits program depth q
   fits_second p q r e f = fits_part r q (λ c i. rw e (Contains-append_right _ _ c i)) (λ k i. rw f (Contains-append_right _ _ k i))
 
+  -- forms with the same calls
   pub fits_try : (k p q : Command) → Fits program depth (Try k p q) → Fits program depth (If k p q)
   fits_try k p q h = record { calls = h.calls; procedures = h.procedures; chains = h.chains }
 
   pub fits_loop : (p : Command) → Fits program depth (Loop p) → Fits program depth p
   fits_loop p h = record { calls = h.calls; procedures = h.procedures; chains = h.chains }
 
+  -- a call is of one of the sets
   pub fits_call : (c : ℕ) → Fits program depth (Call c) → c < length program.sets
   fits_call c h = h.calls c (at_head c [])
 
@@ -70,11 +74,13 @@ module _ (program : Program) (depth : ℕ) where
   grouped_at kind p (q ∷ qs) zero d l h = joined_second kind p (command_of q) (grouped_first kind (joined kind p (command_of q)) (map command_of qs) h)
   grouped_at kind p (q ∷ qs) (suc i) d l h = grouped_at kind (joined kind p (command_of q)) qs i d (omega arith) h
 
+  -- one of the further parts
   pub fits_one : (kind : Chain) (p : Command) (qs : List code.Command) (i : ℕ) (q : code.Command) → i < length qs → q ≡ slice_index_or qs i q → Fits program depth (grouped kind p (map command_of qs)) → Fits program depth (command_of q)
   fits_one kind p qs i q l e h = subst (λ (c : code.Command). Fits program depth (command_of c)) (sym e) (grouped_at kind p qs i q l h)
 
 -- ---- procedures
 
+-- it is one of the program
 pub fits_procedure : (program : Program) (depth k : ℕ) → Fits program depth (Procedure k) → k < length program.procedures
 fits_procedure program depth k h = h.procedures k (at_head k [])
 
@@ -82,6 +88,7 @@ fits_procedure program depth k h = h.procedures k (at_head k [])
 pub fits_positive : (program : Program) (depth k : ℕ) → Fits program depth (Procedure k) → 1 ≤ depth
 fits_positive program depth k h = h.chains k [] (at_head k []) tt
 
+-- a chain that begins in the body is one procedure shorter than with this one before it
 pub fits_body : (program : Program) (depth k : ℕ) → IsScoped program → Fits program depth (Procedure k) → Fits program (depth - 1) (at program.procedures k)
 fits_body program depth k s h =
     let body = at program.procedures k in
@@ -93,6 +100,7 @@ fits_body program depth k s h =
       chains = λ j ks i c. (let l : length (k ∷ j ∷ ks) ≤ depth = h.chains k (j ∷ ks) (at_head k []) (record { body = body; is_body = is; calls = i }, c) in omega arith);
     }
 
+-- Main, since no chain of a program has more than 64 procedures
 pub fits_main : (program : Program) → IsScoped program → Fits program 64 program.main
 fits_main program s =
     let among : Contains (bodies program) program.main = at_head program.main program.procedures in

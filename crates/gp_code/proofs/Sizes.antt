@@ -7,6 +7,8 @@ use Rattle.gp_syntax.specs.declared.command.Command.TheOpen.{Command-F}
 use Rattle.gp_syntax.specs.declared.command.Command.TheFolds.{fold-roll-Command}
 use Rattle.gp_code.specs.inside.Kept.{size_step, size, sizes, room}
 
+-- ---- by the form of the command
+
 pub size-Seq : (p : Command) (ps : List Command) → size (form.Seq p ps) ≡ 2 + size p + sizes ps
 unfolding size
 size-Seq p ps = ap size (sym (form.rolls-Seq p ps)) ∙ fold-roll-Command ℕ size_step (Command-F.Seq p ps)
@@ -31,7 +33,8 @@ pub size-Proc : (k : ℕ) → size (form.Proc k) ≡ 2
 unfolding size
 size-Proc k = ap size (sym (form.rolls-Proc k)) ∙ fold-roll-Command ℕ size_step (Command-F.Proc k)
 
--- one of a list
+-- ---- of one of a list
+
 size_at : (ps : List Command) (i : ℕ) (d : Command) → i < length ps → size (slice_index_or ps i d) ≤ sizes ps
 size_at [] i d l = absurd (omega arith)
 size_at (p ∷ ps) zero d l = omega arith

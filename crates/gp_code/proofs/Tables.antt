@@ -39,6 +39,7 @@ are_both bound cs [] ms (p ∷ ps) qs h k = absurd h
 are_both bound cs (n ∷ ns) ms [] qs h k = absurd h
 are_both bound cs (n ∷ ns) ms (p ∷ ps) qs h k = (h.0, h.1, are_both bound cs ns ms ps qs h.2 k)
 
+-- so are the commands of a node and of its parts
 module _ (program : Program) (bound : ℕ) (cs es : List Command) (s : Same bound cs es) where
   below : (n m : ℕ) → n < bound → m < n → at es m ≡ at cs m
   unfolding Same
@@ -59,6 +60,7 @@ module _ (program : Program) (bound : ℕ) (cs es : List Command) (s : Same boun
 
 -- ---- one node more
 
+-- what was put in, and what was there before
 at_end : (cs : List Command) (p : Command) → at (cs ++ p ∷ []) (length cs) ≡ p
 at_end cs p = get_or-append_seam cs p [] Skip
 
@@ -73,12 +75,14 @@ last_or_before [] y x (suc n) e = absurd cc
 last_or_before (z ∷ xs) y x zero e = inl (omega arith, e)
 last_or_before (z ∷ xs) y x (suc n) e = elim (last_or_before xs y x n e) [ inl h ↦ (let l = h.0 in inl (omega arith, h.1)) | inr h ↦ (let l = h.0 in inr (omega arith, h.1)) ]
 
+-- the nodes stand for the commands, and so do they with one more
 code_put : (program : Program) (nodes : List Node) (cs : List Command) (x : Node) (p : Command) → length cs ≡ length nodes → IsCode program nodes cs → Means program (cs ++ p ∷ []) (length nodes) x → IsCode program (nodes ++ x ∷ []) (cs ++ p ∷ [])
 code_put program nodes cs x p c h m n y e = elim (last_or_before nodes x y n e) [
   | inl b ↦ means_on program (length nodes) cs (cs ++ p ∷ []) (same_put cs p (length nodes) (sym c)) n y b.0 (h n y b.1)
   | inr b ↦ subst (λ (z : Node). Means program (cs ++ p ∷ []) n z) b.1 (subst (λ (k : ℕ). Means program (cs ++ p ∷ []) k x) (sym b.0) m)
 ]
 
+-- the same of a table
 table_put : (program : Program) (old new : Table) (n : ℕ) (cs : List Command) (x : Node) (p : Command) → HasPut old new x n → IsTable program old cs → Means program (cs ++ p ∷ []) n x → IsTable program new (cs ++ p ∷ [])
 unfolding Same
 table_put program old new n cs x p h t m =
@@ -92,9 +96,11 @@ table_put program old new n cs x p h t m =
 
 -- ---- what is put in one after another
 
+-- nothing
 pub lowers_nothing : (program : Program) (table : Table) → Lowers program table table [] []
 lowers_nothing program table cs t = record { commands = cs; table = t; grows = omega arith; stays = λ m l. refl; lowered = tt }
 
+-- some commands, and then others
 pub lowers_then : (program : Program) (old mid new : Table) (ns ms : List ℕ) (ps qs : List Command) → Lowers program old mid ns ps → Lowers program mid new ms qs → Lowers program old new (ns ++ ms) (ps ++ qs)
 unfolding Same
 lowers_then program old mid new ns ms ps qs a b cs t =
@@ -131,6 +137,7 @@ lowers_put program old mid new ns ps n x p means a h cs t =
 pub put_behind : {E : Type 0} (program : Program) (old mid new : Table) (ns : List ℕ) (ps : List Command) (r : Result ℕ E) (x : Node) (p : Command) → ((es : List Command) (m : ℕ) → at es m ≡ p → AreAt m es ns ps → Means program es m x) → Lowers program old mid ns ps → IfOk r (λ n. HasPut mid new x n) → IfOk r (λ n. Lowers program old new (n ∷ []) (p ∷ []))
 put_behind program old mid new ns ps r x p means a = IfOk-weaker r _ _ (λ n h. lowers_put program old mid new ns ps n x p means a h)
 
+-- of a node without parts
 pub put_leaf : {E : Type 0} (program : Program) (old new : Table) (r : Result ℕ E) (x : Node) (p : Command) → ((es : List Command) (m : ℕ) → at es m ≡ p → Means program es m x) → IfOk r (λ n. HasPut old new x n) → IfOk r (λ n. Lowers program old new (n ∷ []) (p ∷ []))
 put_leaf program old new r x p means = put_behind program old old new [] [] r x p (λ es m e h. means es m e) (lowers_nothing program old)
 
@@ -158,6 +165,7 @@ grouped_more kind p qs i q l e =
     let more : take (i + 1) qs ≡ take i qs ++ q ∷ [] = take_more qs i q l ∙ ap (λ (c : code.Command). take i qs ++ c ∷ []) (sym e) in
     ap (λ (cs : List code.Command). grouped kind p (map command_of cs)) more ∙ ap (λ (cs : List Command). grouped kind p cs) (map-append command_of (take i qs) (q ∷ [])) ∙ fold-append (joined kind) p (map command_of (take i qs)) (command_of q ∷ [])
 
+-- and its node
 pub lowers_more : (program : Program) (old mid last new : Table) (kind : Chain) (p : Command) (qs : List code.Command) (i : ℕ) (q : code.Command) (a b n : ℕ) → i < length qs → q ≡ slice_index_or qs i q → Lowers program old mid (a ∷ []) (grouped kind p (map command_of (take i qs)) ∷ []) → Lowers program mid last (b ∷ []) (command_of q ∷ []) → HasPut last new (joined_node kind a b) n → Lowers program old new (n ∷ []) (grouped kind p (map command_of (take (i + 1) qs)) ∷ [])
 lowers_more program old mid last new kind p qs i q a b n l e f g h =
     let before = grouped kind p (map command_of (take i qs)) in
@@ -201,6 +209,7 @@ lowers_kept program old mid k n l cs t =
 
 -- ---- the whole table
 
+-- an empty table
 table_empty : (program : Program) (table : Table) (count : ℕ) → table.nodes.items ≡ [] → table.roots.items ≡ replicate count None → IsTable program table []
 table_empty program table count e f = record {
   count = rw e refl;
@@ -214,6 +223,7 @@ table_empty program table count e f = record {
       );
 }
 
+-- what Main is put into is the table of the program
 pub whole : (program : Program) (old new : Table) (count root : ℕ) (main : Command) → old.nodes.items ≡ [] → old.roots.items ≡ replicate count None → main ≡ program.main → Lowers program old new (root ∷ []) (main ∷ []) → IsCodeOf program new.nodes.items root
 whole program old new count root main e f is l =
     let h = l [] (table_empty program old count e f) in

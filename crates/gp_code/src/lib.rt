@@ -1,11 +1,13 @@
 //! The commands of a program as a table of nodes, in which each part of a command has a lower number than the command.
 //!
-//! Call `code_of` first: it answers the table of a checked program and the number of Main's node. What a node means stands
-//! in `specs/Code`: the nodes stand for commands (`IsCode`), each by those of its parts, and the root's is Main itself
-//! (`IsCodeOf`). Chains are grouped from the left in pairs, as gp_syntax says of trees, and the body of a procedure is in
-//! the table once, however often it is called; a procedure that Main does not lead to is not in it. So whoever goes
-//! through the parts of a command needs no bound but the number of its node, since that falls from a command to its
-//! parts and from a call to the body.
+//! Call `code_of` first: it answers the table of a program and the number of Main's node. What nodes mean stands in
+//! `specs/Code`: they stand for commands, each for that of its number (`IsCode`), and the root's is Main (`IsCodeOf`). A
+//! chain is a node for each two parts, grouped from the left, and the call of a procedure names the node of its body. So
+//! numbers fall from a command to its parts and from a call to the body, and whoever goes down from a node needs no other
+//! measure than its number.
+//!
+//! A body is put in at the first call of its procedure alone, so that a table has no more nodes than the program has
+//! commands. No contract says that.
 #![tactic(auto)]
 
 mod code;

@@ -1,4 +1,4 @@
--- What a program keeps, as the recursion over a command and the procedures that it calls needs it; and how long that is.
+-- What the recursion over a command and the bodies that it calls needs of the program, and how much it still has to do.
 use Rattle.std.specs.Prelude.{ℕ, ◌+◌, ◌*◌, ◌<◌, ◌≤◌, List, [], ◌∷◌, length, map, Contains}
 use Rattle.gp_syntax.specs.Run as meant
 use Rattle.gp_syntax.specs.Run.{Program}
@@ -39,6 +39,6 @@ size = fold-Command ℕ size_step
 abbrev pub sizes : List Command → ℕ
 sizes ps = total (map size ps)
 
--- no less than the size of whatever may still be called, where so many procedures may nest
+-- No less than what bodies take of which so many may nest. Each counts as all of them together, and 1.
 abbrev pub room : List Command → ℕ → ℕ
 room procedures depth = depth * (1 + sizes procedures)
