@@ -1,4 +1,4 @@
-//! What runs a trace is that of.
+//! Whether a trace is that of a run of a program.
 //!
 //! A place of a trace stands before its item of that number, or behind the last one. `runs_of` goes through a table of
 //! commands (`Node` of gp_code) and finds, of each command and each place from which it is reached, the places at which
