@@ -1,0 +1,6 @@
+-- What only bodies and proofs need.
+pub mod Grows
+pub mod Memory
+pub mod Ways
+pub mod Found
+pub mod Kept

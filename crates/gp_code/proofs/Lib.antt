@@ -1,0 +1,4 @@
+pub mod Parts
+pub mod Scopes
+pub mod Sizes
+pub mod Tables
