@@ -1,7 +1,7 @@
 //! A command as a node of a table.
 
 /// A command whose parts are nodes of the same table. They are named by their numbers, which are below the command's own.
-#[derive(Clone, Copy, Debug)]
+#[derive(Clone, Copy)]
 pub enum Node {
     /// The call of the rule set of this number.
     Call(u32),
