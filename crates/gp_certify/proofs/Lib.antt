@@ -6,3 +6,4 @@ pub mod Learned
 pub mod Steps
 pub mod Replayed
 pub mod Decided
+pub mod Walks

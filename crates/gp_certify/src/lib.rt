@@ -8,15 +8,19 @@
 //! agree, and what both say of runs.
 #![tactic(auto)]
 
+mod along;
+mod certified;
 mod end;
 mod ends;
 pub mod laws;
 mod memory;
+mod replay;
 mod starts;
 mod tape;
 mod ways;
 mod whole;
 
+pub use certified::{Checked, certify};
 pub use end::Outcome;
 pub use tape::Tape;
 pub use whole::{Runs, runs_of};
