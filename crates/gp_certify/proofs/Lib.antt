@@ -7,3 +7,4 @@ pub mod Steps
 pub mod Replayed
 pub mod Decided
 pub mod Walks
+pub mod Told

@@ -1,10 +1,11 @@
 //! What is told of a trace.
 
-ghost use Rattle.std.specs.Prelude.{◌≡◌, ◌↔◌, IsTrue, IfOk, IsSomeAnd, map};
+ghost use Rattle.std.specs.Prelude.{◌≡◌, ◌↔◌, true, false, IsTrue, IfOk, IsSomeAnd, MatchOption, length, map};
 ghost use Rattle.gp_values.specs.Graph.{Graph as AnyGraph};
 ghost use Rattle.gp_syntax.specs.Run.{Gives, Fails};
 ghost use Rattle.gp_syntax.specs.Tree.{program_of_tree, item_of};
 ghost use Rattle.gp_certify.specs.Certified.{HasRunTo};
+ghost use Rattle.gp_certify.specs.inside.Replay.{view_of};
 
 use crate::replay::Replay;
 use crate::whole::runs_of;
@@ -19,6 +20,17 @@ use std::alloc::Global;
 pub struct Checked {
     pub graph: Option<Graph>,
     pub fail: bool,
+}
+
+// The graph behind the last item, where runs give it.
+fn last_where(gives: bool, tape: &mut Replay<'_>) -> Result<Option<Graph>, NoMemory>
+    ensures { IfOk result (λ o. MatchOption o (gives ≡ false) (λ g. (gives ≡ true) × (g.graph ≡ (view_of tape.old).graphs (length tape.old.items)))) }
+{
+    if gives {
+        Ok(Some(tape.last_graph()?))
+    } else {
+        Ok(None)
+    }
 }
 
 /// Whether there are runs of Main on the host that make these items, and what they end with.
@@ -39,11 +51,7 @@ pub fn certify(
     };
     let code = code_of(alloc, program)?;
     let runs = runs_of(alloc, &code.nodes, code.root, &mut tape)?;
-    let graph = if runs.gives {
-        Some(tape.last_graph()?)
-    } else {
-        None
-    };
+    let graph = last_where(runs.gives, &mut tape)?;
     Ok(Checked {
         graph,
         fail: runs.fails,

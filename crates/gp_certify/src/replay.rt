@@ -1,6 +1,8 @@
 //! A trace of which each item goes, as a tape.
 
-ghost use Rattle.std.specs.Prelude.{◌≡◌, ◌<◌, All, IfOk, IfSome, IfNone, IsTrue, ◌↔◌, Contains, Some, length, map, slice_get};
+ghost use Rattle.std.specs.Prelude.{◌≡◌, ◌<◌, ◌↔◌, ℕ, All, IfOk, IfSome, IfNone, IsTrue, Contains, Some, length, map, slice_get};
+ghost use Rattle.gp_syntax.specs.Rule.{Found as AnyFound};
+ghost use Rattle.gp_syntax.specs.Run.{Stepped, Back};
 ghost use Rattle.gp_syntax.specs.Tree.{program_of_tree, item_of};
 ghost use Rattle.gp_certify.specs.View.{IsTape};
 ghost use Rattle.gp_certify.specs.inside.Along.{BreaksOff};
@@ -11,7 +13,7 @@ use crate::tape::Tape;
 use gp_blocked::is_set_blocked;
 use gp_graph::Graph;
 use gp_memory::NoMemory;
-use gp_syntax::{Item, Program};
+use gp_syntax::{Found, Item, Program};
 use std::alloc::Global;
 use std::marker::Model;
 
@@ -37,6 +39,36 @@ impl<'a> Model for Replay<'a> {
     ghost view = { λ a. record { program = a.program.now; host = a.host.now.graph; items = a.items.now } };
 
     ghost invariant = { λ a. IsSound a.program.now a.host.now.graph a.items.now a.depths.items a.standing };
+}
+
+// The match of a place, where the item there is a step.
+fn step_at(items: &[Item], place: usize) -> Option<&Found>
+    ensures some { IfSome result (λ m. slice_get (map item_of items.now) place ≡ Some (Stepped m.now)) }
+    ensures none { IfNone result ((m : AnyFound) → slice_get (map item_of items.now) place ≡ Some (Stepped m) → ⊥) }
+{
+    match items.get(place) {
+        None => None,
+        Some(item) => match item {
+            Item::Step(found) => Some(found),
+            Item::Turn => None,
+            Item::Back(_) => None,
+        },
+    }
+}
+
+// How many steps the item of a place takes back, where it takes back.
+fn back_at(items: &[Item], place: usize) -> Option<u64>
+    ensures some { IfSome result (λ k. slice_get (map item_of items.now) place ≡ Some (Back k)) }
+    ensures none { IfNone result ((k : ℕ) → slice_get (map item_of items.now) place ≡ Some (Back k) → ⊥) }
+{
+    match items.get(place) {
+        None => None,
+        Some(item) => match item {
+            Item::Step(_) => None,
+            Item::Turn => None,
+            Item::Back(count) => Some(*count),
+        },
+    }
 }
 
 // The set of a call, by the numbers of its rules.
@@ -103,9 +135,9 @@ impl<'a> Tape for Replay<'a> {
     }
 
     fn steps(&self, call: u32, place: usize) -> bool {
-        match self.items.get(place) {
-            Some(Item::Step(found)) => has_rule(set_of(self.program, call), found.rule()),
-            _ => false,
+        match step_at(self.items, place) {
+            Some(found) => has_rule(set_of(self.program, call), found.rule()),
+            None => false,
         }
     }
 
@@ -121,9 +153,13 @@ impl<'a> Tape for Replay<'a> {
     }
 
     fn takes_back(&self, from: usize, place: usize) -> bool {
-        match self.items.get(place) {
-            Some(Item::Back(count)) => *count == self.depths[place] - self.depths[from],
-            _ => false,
+        match back_at(self.items, place) {
+            Some(count) => {
+                let depth = self.depths[place];
+                let depth_before = self.depths[from];
+                count == depth - depth_before
+            }
+            None => false,
         }
     }
 }
