@@ -1,6 +1,6 @@
 -- What a replayed trace answers.
-use Rattle.std.proofs.Common.{nat_eq, ◌≡◌, ℕ, zero, suc, ◌+◌, ◌-◌, ◌*◌, ◌^◌, ◌≤◌, ◌<◌, List, [], ◌∷◌, map, length, take, All, sym, subst, ap, refl, ◌∙◌, arith}
-use Rattle.std.specs.Prelude.{Bool, true, false, IsTrue, Option, Some, None, IsSomeAnd, MatchOption, IfSome, slice_get, slice_index_or, Contains}
+use Rattle.std.proofs.Common.{nat_eq, ◌≡◌, ℕ, ◌+◌, ◌-◌, ◌^◌, ◌≤◌, ◌<◌, List, map, length, All, sym, subst, ap, refl, ◌∙◌, arith}
+use Rattle.std.specs.Prelude.{Bool, true, false, IsTrue, Option, Some, None, IsSomeAnd, MatchOption, slice_get, slice_index_or, Contains}
 use Rattle.std.proofs.lemmas.List.{length-map}
 use Rattle.std.proofs.lemmas.Bool.Decides.{Decides-eqb}
 use Rattle.std.proofs.lemmas.Option.{slice_get-get_or, get_or_from_slice_get, slice_get_within}
@@ -23,7 +23,7 @@ use Rattle.gp_certify.specs.Parts.{StepsAt}
 use Rattle.gp_certify.specs.Laws.{WholeRuns}
 use Rattle.gp_certify.specs.View.{View, IsTape}
 use Rattle.gp_certify.specs.Whole.{HasRun}
-use Rattle.gp_certify.specs.inside.Along.{trail_at, depth_at, AllGo, AreDepths, IsWalked, BreaksOff}
+use Rattle.gp_certify.specs.inside.Along.{depth_at, AllGo, AreDepths, IsWalked, BreaksOff}
 use Rattle.gp_certify.specs.inside.Replay.{Shown, view_of}
 use Rattle.gp_certify.proofs.Replayed.{graphs_of, whole_runs, none_runs}
 use Rattle.gp_certify.proofs.Walks.{no_both, some_same, well_formed_at, replays_at, depth_between}

@@ -1,5 +1,5 @@
 -- What a replayed trace tells of itself.
-use Rattle.std.specs.Prelude.{◌≡◌, ℕ, List, All, length, map, refl}
+use Rattle.std.specs.Prelude.{ℕ, List, length, map, refl}
 use Rattle.std.specs.Coded.{Coded, code_by, coded×, coded_list}
 use Rattle.gp_values.specs.Graph.{Graph, graph_code}
 use Rattle.gp_syntax.specs.declared.command.ProgramParts.{ProgramParts}
@@ -7,7 +7,6 @@ use Rattle.gp_syntax.specs.contracts.command.ProgramParts.{the_row as program_ro
 use Rattle.gp_syntax.specs.declared.found.Item.{Item}
 use Rattle.gp_syntax.specs.contracts.found.Item.{the_row as item_row}
 use Rattle.gp_syntax.specs.Tree.{rule_of_tree, program_of_tree, item_of}
-use Rattle.gp_syntax.specs.WellFormed.{IsWellFormed}
 use Rattle.gp_certify.specs.declared.along.Standing.{Standing}
 use Rattle.gp_certify.specs.View.{View}
 use Rattle.gp_certify.specs.inside.Along.{trail_at, AllGo, AreDepths, Stands}

@@ -1,4 +1,4 @@
-use Rattle.std.proofs.Common.{◌∙◌, List, ℕ, [], ◌∷◌, ◌++◌, map, ap, arith}
+use Rattle.std.proofs.Common.{◌∙◌, ℕ, [], ◌∷◌, ◌++◌, map, ap, arith}
 use Rattle.gp_syntax.specs.Tree.{rule_of_tree, item_of}
 use Rattle.gp_step.proofs.Afters.{numbered}
 use Rattle.gp_certify.proofs.Walks.{no_both, item_there, walked_more, breaks_off}

@@ -1,5 +1,4 @@
-use Rattle.std.proofs.Common.{◌≤◌, length, map, subst, sym, arith}
-use Rattle.std.proofs.lemmas.List.{length-map}
+use Rattle.std.proofs.Common.{length, map}
 use Rattle.gp_syntax.specs.Tree.{rule_of_tree, item_of}
 use Rattle.gp_certify.specs.inside.Replay.{Shown}
 use Rattle.gp_certify.proofs.Told.{depth_read, back_below, back_told, ordered_within}
