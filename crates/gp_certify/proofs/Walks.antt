@@ -200,11 +200,10 @@ pub breaks_off : (rules : List Rule) (host : Graph) (t : List Item) (n : ℕ) (i
 breaks_off rules host t n i depths at w o e k never =
     let l : n < length t = slice_get_within t n i e in
     let r = replays_at rules host t n k.all_go (omega arith) n (omega arith) in
-    let next : take (n + 1) t ≡ take n t ++ i ∷ [] = rw add-one (take-suc t n i l ∙ ap (λ z. take n t ++ z ∷ []) (get_or_from_slice_get t n i i e)) in
-    (
+    let next : take (n + 1) t ≡ take n t ++ i ∷ [] = rw add-one (take-suc t n i l ∙ ap (λ z. take n t ++ z ∷ []) (get_or_from_slice_get t n i i e)) in (
       n + 1,
       λ h v. one_item_breaks rules host (take n t) i at w o (subst (λ (z : Trail). Replays rules host (take n t) z.graph) (sym k.trail) r) (ap (λ (z : Trail). length z.before) k.trail ∙ depth_live rules host t n r.backs) never h
-      (subst (λ (z : List Item). Replays rules host z h) next v),
+          (subst (λ (z : List Item). Replays rules host z h) next v),
     )
 
 -- ---- what may go, goes

@@ -39,12 +39,7 @@ fn read_rules(rules: &[Rule])
 }
 
 // Whether a match applies, by the rule of its number.
-fn applies(
-    alloc: Global,
-    rules: &[Rule],
-    found: &Found,
-    graph: &Graph,
-) -> Result<bool, NoMemory>
+fn applies(alloc: Global, rules: &[Rule], found: &Found, graph: &Graph) -> Result<bool, NoMemory>
     ensures { IfOk result (λ b. Decides b (AppliesBy (map rule_of_tree rules.now) graph.now.graph found.now)) }
 {
     let number = found.rule() as usize;
@@ -62,12 +57,7 @@ fn applies(
 }
 
 // Whether an item goes from the trail.
-fn may_go(
-    alloc: Global,
-    rules: &[Rule],
-    item: &Item,
-    trail: &Trail,
-) -> Result<bool, NoMemory>
+fn may_go(alloc: Global, rules: &[Rule], item: &Item, trail: &Trail) -> Result<bool, NoMemory>
     ensures { IfOk result (λ b. Decides b (MayGo (map rule_of_tree rules.now) (item_of item.now) trail.now)) }
 {
     match item {

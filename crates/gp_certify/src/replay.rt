@@ -122,7 +122,14 @@ impl<'a> Replay<'a> {
     {
         let place = self.items.len();
         let rules = self.program.parts().rules.as_slice();
-        stand_at(self.alloc, rules, self.host, self.items, &mut self.standing, place)?;
+        stand_at(
+            self.alloc,
+            rules,
+            self.host,
+            self.items,
+            &mut self.standing,
+            place,
+        )?;
         self.standing.trail.graph().copy(self.alloc)
     }
 }
@@ -144,7 +151,14 @@ impl<'a> Tape for Replay<'a> {
     fn is_blocked(&mut self, call: u32, place: usize) -> Result<bool, NoMemory> {
         let set = set_of(self.program, call);
         let rules = self.program.parts().rules.as_slice();
-        stand_at(self.alloc, rules, self.host, self.items, &mut self.standing, place)?;
+        stand_at(
+            self.alloc,
+            rules,
+            self.host,
+            self.items,
+            &mut self.standing,
+            place,
+        )?;
         is_set_blocked(self.alloc, rules, set, self.standing.trail.graph())
     }
 

@@ -11,8 +11,7 @@ make-requires c =
 
 pub items-preserved : goal.items-preserved
 items-preserved c =
-    let e = item_there c.args.items.now c.items.standing.place c.index-items-standing.result (omega (arith, c.items-test.true, c.requires.place)) c.index-items-standing.is in
-    (
+    let e = item_there c.args.items.now c.items.standing.place c.index-items-standing.result (omega (arith, c.items-test.true, c.requires.place)) c.index-items-standing.is in (
       omega (arith, c.items-test.true),
       stands_more (map rule_of_tree c.args.rules.now) c.args.host.now.graph (map item_of c.args.items.now) c.items.standing.place (item_of c.index-items-standing.result) c.items.standing.trail c.make.new.trail e c.items.invariant.1.trail c.in_ok-make.ensures.made,
     )
