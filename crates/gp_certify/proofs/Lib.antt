@@ -6,3 +6,5 @@ pub mod Learned
 pub mod Steps
 pub mod Replayed
 pub mod Decided
+pub mod Walks
+pub mod Told

@@ -20,7 +20,7 @@ use Rattle.gp_certify.specs.Laws.{WholeRuns}
 use Rattle.gp_certify.proofs.Compose.{lands, at_ending}
 
 module _ (rules : List Rule) (ok : (i : ℕ) (r : Rule) → slice_get rules i ≡ Some r → IsWellFormed r) where
-  one_way : (ms : List Found) (g h k : Graph) → IsNumbered g → StepsTo rules g ms h → StepsTo rules g ms k → h ≡ k
+  pub one_way : (ms : List Found) (g h k : Graph) → IsNumbered g → StepsTo rules g ms h → StepsTo rules g ms k → h ≡ k
   one_way [] g h k n a b = a ∙ sym b
   one_way (m ∷ ms) g h k n (c, r, e, s, a) (d, q, f, z, b) =
       let w = ok m.rule r e in

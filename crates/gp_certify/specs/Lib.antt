@@ -1,3 +1,4 @@
+pub mod Certified
 pub mod Places
 pub mod Parts
 pub mod Laws

@@ -4,3 +4,5 @@ pub mod Memory
 pub mod Ways
 pub mod Found
 pub mod Kept
+pub mod Along
+pub mod Replay

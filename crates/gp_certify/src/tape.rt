@@ -9,7 +9,7 @@ ghost use Rattle.gp_certify.specs.View.{View};
 use gp_memory::NoMemory;
 
 /// A trace whose items lead along graphs, by the rules of a program.
-pub trait Tape {
+pub(crate) trait Tape {
     ghost view: { Self → View };
 
     /// How many items there are.

@@ -15,9 +15,9 @@ use std::alloc::Global;
 
 /// Whether some run of Main has the trace and gives the last graph, and whether some run has it and fails there.
 #[derive(Clone, Copy)]
-pub struct Runs {
-    pub gives: bool,
-    pub fails: bool,
+pub(crate) struct Runs {
+    pub(crate) gives: bool,
+    pub(crate) fails: bool,
 }
 
 fn has_end(ends: &[End], place: usize, outcome: Outcome) -> bool
@@ -27,7 +27,7 @@ fn has_end(ends: &[End], place: usize, outcome: Outcome) -> bool
 }
 
 /// What the runs of Main with the trace of a tape do. In the table the node of number `root` stands for Main.
-pub fn runs_of<T: Tape>(
+pub(crate) fn runs_of<T: Tape>(
     alloc: Global,
     code: &[Node],
     root: u32,
