@@ -4,10 +4,10 @@ use Rattle.gp_syntax.specs.Run.{Command}
 use Rattle.gp_code.specs.declared.node.Node.{Node}
 use Rattle.gp_certify.specs.declared.end.Outcome.{Outcome}
 use Rattle.gp_certify.specs.declared.end.End.{End}
-use Rattle.gp_certify.specs.View.{View, IsTape}
+use Rattle.gp_certify.specs.inside.View.{View, IsTape}
 use Rattle.gp_code.specs.Code.{IsCodeOf}
 use Rattle.gp_certify.specs.inside.Found.{AreEnds, AreEndsAt}
-use Rattle.gp_certify.specs.Whole.{HasRun}
+use Rattle.gp_certify.specs.inside.Whole.{HasRun}
 use Rattle.gp_certify.proofs.Replayed.{whole_runs}
 
 pub decided : (v : View) (code : List Node) (root place : ℕ) (es ds : List End) (x : Outcome) (b : Bool) → IsTape v → IsCodeOf v.program code root → AreEndsAt v code root 0 es → place ≡ length v.trace → ds ≡ es

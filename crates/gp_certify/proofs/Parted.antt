@@ -8,7 +8,7 @@ use Rattle.gp_certify.specs.declared.end.Outcome.TheVariants as outcome
 use Rattle.gp_certify.specs.declared.end.End.{End}
 use Rattle.gp_certify.specs.Places.{Spans, IsPart, IsTakenBack}
 use Rattle.gp_certify.specs.Parts.{StepsAt, BlockedAt, OfParts}
-use Rattle.gp_certify.specs.View.{View, IsTape}
+use Rattle.gp_certify.specs.inside.View.{View, IsTape}
 use Rattle.gp_code.specs.Code.{at, Means}
 use Rattle.gp_certify.specs.inside.Ways.{EndsSo, IsFirst, way_of, above, ByWay}
 use Rattle.gp_certify.specs.inside.Grows.{Grows, OfOne}

@@ -12,7 +12,7 @@ use Rattle.gp_certify.specs.declared.end.End.{End}
 use Rattle.gp_certify.specs.declared.starts.Reached.{Reached}
 use Rattle.gp_certify.specs.Places.{Spans, IsPart, IsTakenBack}
 use Rattle.gp_certify.specs.Parts.{OfParts}
-use Rattle.gp_certify.specs.View.{View, IsTape}
+use Rattle.gp_certify.specs.inside.View.{View, IsTape}
 use Rattle.gp_code.specs.Code.{at, IsCode}
 use Rattle.gp_certify.specs.inside.Ways.{EndsSo, IsFirst, HasFirst, way_of, ByWay}
 use Rattle.gp_certify.specs.inside.Grows.{Grows, Has, IsTaken, OfOne}

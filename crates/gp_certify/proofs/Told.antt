@@ -21,8 +21,8 @@ use Rattle.gp_certify.specs.Certified.{HasRunTo}
 use Rattle.gp_certify.specs.Places.{between, IsPart, IsTakenBack}
 use Rattle.gp_certify.specs.Parts.{StepsAt}
 use Rattle.gp_certify.specs.Laws.{WholeRuns}
-use Rattle.gp_certify.specs.View.{View, IsTape}
-use Rattle.gp_certify.specs.Whole.{HasRun}
+use Rattle.gp_certify.specs.inside.View.{View, IsTape}
+use Rattle.gp_certify.specs.inside.Whole.{HasRun}
 use Rattle.gp_certify.specs.inside.Along.{depth_at, AllGo, AreDepths, IsWalked, BreaksOff}
 use Rattle.gp_certify.specs.inside.Replay.{Shown, view_of}
 use Rattle.gp_certify.proofs.Replayed.{graphs_of, whole_runs, none_runs}

@@ -6,3 +6,5 @@ pub mod Found
 pub mod Kept
 pub mod Along
 pub mod Replay
+pub mod View
+pub mod Whole

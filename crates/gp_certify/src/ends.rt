@@ -4,7 +4,7 @@ ghost use Rattle.std.specs.Prelude.{◌≡◌, ◌<◌, ◌≤◌, ◌∷◌, []
 ghost use Rattle.gp_syntax.specs.Run.{Command, Call};
 ghost use Rattle.gp_code.specs.Code.{at, IsCode};
 ghost use Rattle.gp_certify.specs.Places.{IsPart};
-ghost use Rattle.gp_certify.specs.View.{IsTape};
+ghost use Rattle.gp_certify.specs.inside.View.{IsTape};
 ghost use Rattle.gp_certify.specs.inside.Grows.{Grows, Has};
 ghost use Rattle.gp_certify.specs.inside.Ways.{HasFirst, above};
 ghost use Rattle.gp_certify.specs.inside.Found.{AreEnds, AreEndsAt, AreByWay, IsTrueOf, GoesOn, Leaves, HasTurned};

@@ -4,7 +4,7 @@ ghost use Rattle.std.specs.Prelude.{◌≡◌, ◌<◌, ◌↔◌, ℕ, All, IfO
 ghost use Rattle.gp_syntax.specs.Rule.{Found as AnyFound};
 ghost use Rattle.gp_syntax.specs.Run.{Stepped, Back};
 ghost use Rattle.gp_syntax.specs.Tree.{program_of_tree, item_of};
-ghost use Rattle.gp_certify.specs.View.{IsTape};
+ghost use Rattle.gp_certify.specs.inside.View.{IsTape};
 ghost use Rattle.gp_certify.specs.inside.Along.{BreaksOff};
 ghost use Rattle.gp_certify.specs.inside.Replay.{view_of};
 

@@ -4,7 +4,7 @@ ghost use Rattle.std.specs.Prelude.{◌≡◌, ◌<◌, ◌≤◌, ◌↔◌, le
 ghost use Rattle.gp_syntax.specs.Run.{Turned};
 ghost use Rattle.gp_certify.specs.Places.{IsPart, IsTakenBack};
 ghost use Rattle.gp_certify.specs.Parts.{StepsAt, BlockedAt};
-ghost use Rattle.gp_certify.specs.View.{View};
+ghost use Rattle.gp_certify.specs.inside.View.{View};
 
 use gp_memory::NoMemory;
 

@@ -2,8 +2,8 @@
 
 ghost use Rattle.std.specs.Prelude.{◌≡◌, ◌↔◌, IsTrue, IfOk, Contains};
 ghost use Rattle.gp_code.specs.Code.{IsCodeOf};
-ghost use Rattle.gp_certify.specs.View.{IsTape};
-ghost use Rattle.gp_certify.specs.Whole.{HasRun};
+ghost use Rattle.gp_certify.specs.inside.View.{IsTape};
+ghost use Rattle.gp_certify.specs.inside.Whole.{HasRun};
 
 use crate::end::{End, Outcome};
 use crate::ends::ends_of;

@@ -8,7 +8,7 @@ use Rattle.gp_certify.specs.declared.end.Outcome.TheVariants as outcome
 use Rattle.gp_certify.specs.declared.starts.Reached.{Reached}
 use Rattle.gp_certify.specs.declared.ways.Way.{Way}
 use Rattle.gp_certify.specs.Places.{IsTakenBack}
-use Rattle.gp_certify.specs.View.{View}
+use Rattle.gp_certify.specs.inside.View.{View}
 use Rattle.gp_certify.specs.inside.Grows.{HasJust, Grows, Has}
 use Rattle.gp_certify.specs.inside.Memory.{Kept, Knows}
 use Rattle.gp_certify.specs.inside.Ways.{EndsSo, ByWay}

@@ -8,7 +8,7 @@ use Rattle.gp_syntax.specs.declared.found.Item.{Item}
 use Rattle.gp_syntax.specs.contracts.found.Item.{the_row as item_row}
 use Rattle.gp_syntax.specs.Tree.{rule_of_tree, program_of_tree, item_of}
 use Rattle.gp_certify.specs.declared.along.Standing.{Standing}
-use Rattle.gp_certify.specs.View.{View}
+use Rattle.gp_certify.specs.inside.View.{View}
 use Rattle.gp_certify.specs.inside.Along.{trail_at, AllGo, AreDepths, Stands}
 
 pub record Shown : Type 0 where

@@ -10,7 +10,7 @@ use Rattle.gp_certify.specs.declared.end.Outcome.{Outcome}
 use Rattle.gp_certify.specs.declared.end.Outcome.TheVariants as outcome
 use Rattle.gp_certify.specs.declared.end.End.{End}
 use Rattle.gp_certify.specs.Places.{Spans, IsTakenBack}
-use Rattle.gp_certify.specs.View.{View}
+use Rattle.gp_certify.specs.inside.View.{View}
 
 -- the command that begins at place i may end so
 abbrev pub EndsSo : View → Command → ℕ → End → Type 0

@@ -1,7 +1,7 @@
 use Rattle.std.proofs.Common.{◌≡◌, IfSome, IfNone, map, subst}
 use Rattle.gp_graph.specs.Held.{Held}
 use Rattle.gp_syntax.specs.Tree.{rule_of_tree, item_of}
-use Rattle.gp_certify.specs.View.{IsTape}
+use Rattle.gp_certify.specs.inside.View.{IsTape}
 use Rattle.gp_certify.specs.inside.Along.{BreaksOff}
 use Rattle.gp_certify.specs.inside.Replay.{view_of}
 use Rattle.gp_certify.proofs.Told.{graph_told, fail_told, no_graph, no_fail}
