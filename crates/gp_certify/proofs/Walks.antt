@@ -75,6 +75,19 @@ get_last [] x (suc k) e = absurd (omega arith)
 get_last (y ∷ xs) x zero e = absurd (omega arith)
 get_last (y ∷ xs) x (suc k) e = get_last xs x k (omega arith)
 
+pub walked_none : (rules : List Rule) (host : Graph) (t : List Item) (depths : List ℕ) (at : Trail) → depths ≡ 0 ∷ [] → at ≡ fresh host → IsWalked rules host t 0 depths at
+walked_none rules host t depths at e f = record {
+  all_go = λ k i l g. absurd (omega arith);
+  are_depths = record {
+    count = ap length e;
+    each = λ k l. (let z : k ≡ 0 = omega arith in ap (λ (ds : List ℕ). slice_get ds k) e ∙ subst (λ (n : ℕ). slice_get (0 ∷ []) n ≡ Some (depth_at rules host t n)) (sym z) refl);
+  };
+  trail = f;
+}
+
+pub walked_whole : (rules : List Rule) (host : Graph) (t : List Item) (n m : ℕ) (depths : List ℕ) (at : Trail) → n ≡ m → IsWalked rules host t n depths at → IsWalked rules host t m depths at
+walked_whole rules host t n m depths at e w = subst (λ (k : ℕ). IsWalked rules host t k depths at) e w
+
 pub walked_more : (rules : List Rule) (host : Graph) (t : List Item) (n : ℕ) (i : Item) (depths more : List ℕ) (at on : Trail) → slice_get t n ≡ Some i → IsWalked rules host t n depths at
     → Goes rules i at on → on ≡ after_item rules i at → more ≡ depths ++ length on.before ∷ [] → IsWalked rules host t (n + 1) more on
 walked_more rules host t n i depths more at on e w g a d = record {

@@ -29,8 +29,8 @@ pub(crate) struct Walked {
     pub(crate) trail: Trail,
 }
 
-// Reads the rules, so that what their type says is known of each.
-fn read_rules(rules: &[Rule])
+/// Reads the rules, so that what their type says is known of each.
+pub(crate) fn read_rules(rules: &[Rule])
     ensures { All IsWellFormed (map rule_of_tree rules.now) }
 {
     for rule in rules {
@@ -91,13 +91,11 @@ pub(crate) fn walk(
     host: &Graph,
     items: &[Item],
 ) -> Result<Option<Walked>, NoMemory>
-    ensures well_formed { All IsWellFormed (map rule_of_tree rules.now) }
-    ensures numbered { IsNumbered host.now.graph }
+    requires well_formed { All IsWellFormed (map rule_of_tree rules.now) }
+    requires host { IsNumbered host.now.graph }
     ensures walked { IfOk result (λ o. IfSome o (λ w. IsWalked (map rule_of_tree rules.now) host.now.graph (map item_of items.now) (length items.now) w.depths.items w.trail)) }
     ensures none { IfOk result (λ o. IfNone o (BreaksOff (map rule_of_tree rules.now) host.now.graph (map item_of items.now))) }
 {
-    read_rules(rules);
-    let _sound = host.next_numbers();
     let mut trail = Trail::new(alloc, host.copy(alloc)?);
     let mut depths = Vec::new(alloc);
     depths.push(0)?;
