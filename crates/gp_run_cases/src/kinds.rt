@@ -1,7 +1,7 @@
 //! The kinds of rows.
 
 use crate::graphs::{beside, edits, hub};
-use crate::runs::{commands, crews, journals, random, upgrades};
+use crate::runs::{certified, commands, crews, journals, random, upgrades};
 use gp_rows::Answer;
 use std::alloc::Global;
 use std::sync::Wait;
@@ -18,6 +18,7 @@ pub(crate) enum Kind {
     Journals,
     Upgrades,
     Upgraded,
+    Certified,
     Replays,
     Parts,
     Commands,
@@ -25,7 +26,7 @@ pub(crate) enum Kind {
 }
 
 /// The files of rows, `NAME.rows`, and the kind of each.
-pub(crate) const FILES: [(&'static str, Kind); 12] = [
+pub(crate) const FILES: [(&'static str, Kind); 13] = [
     ("edits", Kind::Edits),
     ("leads", Kind::Leads),
     ("walks", Kind::Walks),
@@ -34,6 +35,7 @@ pub(crate) const FILES: [(&'static str, Kind); 12] = [
     ("journals", Kind::Journals),
     ("upgrades", Kind::Upgrades),
     ("upgraded", Kind::Upgraded),
+    ("certified", Kind::Certified),
     ("replays", Kind::Replays),
     ("parts", Kind::Parts),
     ("commands", Kind::Commands),
@@ -57,6 +59,7 @@ pub(crate) fn answer<R: Threads + Wait + Sync>(
         Kind::Journals => journals::answer(alloc, fields, out),
         Kind::Upgrades => upgrades::answer(alloc, fields, out),
         Kind::Upgraded => upgrades::graph(alloc, fields, out),
+        Kind::Certified => certified::answer(alloc, fields, out),
         Kind::Replays => random::replays(alloc, fields, out),
         Kind::Parts => random::parts(alloc, fields, out),
         Kind::Commands => commands::answer(rt, alloc, fields, out),

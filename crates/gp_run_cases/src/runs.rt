@@ -1,6 +1,7 @@
 //! Kinds of rows that are about journals, commands and crews.
 
 mod bits;
+pub(crate) mod certified;
 pub(crate) mod commands;
 pub(crate) mod crews;
 pub(crate) mod journals;
