@@ -1,5 +1,5 @@
 -- What the top call may answer, and why.
-use Rattle.std.specs.Prelude.{◌≡◌, ◌⊎◌, ℕ, ◌^◌, ◌≤◌, ◌<◌, Bool, false, List, [], ◌∷◌, length, map, slice_get, Option, Some, None}
+use Rattle.std.specs.Prelude.{◌≡◌, ℕ, ◌^◌, ◌≤◌, ◌<◌, Bool, false, List, [], length, map, slice_get, Option, Some, None}
 use Rattle.std.specs.Option.{option_map_or}
 use Rattle.gp_io.specs.Outside.{Content, KnownFiles, KnownSink, Rose, HasFile, LacksFile, piece_of}
 use Rattle.gp_values.specs.Names.{Name}
@@ -11,10 +11,13 @@ use Rattle.gp_reader.specs.declared.fault.ProgramFault.{ProgramFault}
 use Rattle.gp_reader.specs.Program.{IsProgramText, IsFaultyText, declared_rules}
 use Rattle.gp_hostfile.specs.declared.fault.HostFault.{HostFault}
 use Rattle.gp_hostfile.specs.Host.{IsHostText, IsHostFault}
+use Rattle.gp_trace.specs.declared.version.Version.{Version}
+use Rattle.gp_trace.specs.Reading.{IsTraceOf, BreaksAt}
+use Rattle.gp_derivation.specs.Derivation.{IsDerivation}
 use Rattle.gp_gen.specs.Texts.{program_text, host_text}
-use Rattle.gp_words.specs.CommandLine.{RunCommand, DemoCommand, Command, run, demo, command_of}
+use Rattle.gp_words.specs.CommandLine.{RunCommand, DemoCommand, CheckCommand, Command, run, demo, check, command_of}
 use Rattle.gp_cli.specs.Choices.{AreSeeded}
-use Rattle.gp_cli.specs.Texts.{Said, graph, failed, demo_done, usage, long_program, bad_program, long_host, bad_host, bound_spent, number_fault, unread, Shows}
+use Rattle.gp_cli.specs.Texts.{Said, graph, failed, demo_done, derivation, no_derivation, usage, long_program, bad_program, long_host, bad_host, long_trace, bad_trace, long_result, bound_spent, number_fault, unread, Shows}
 use Rattle.gp_cli.specs.Written.{out_pieces, TakesAll, IsCutShort}
 
 -- the greatest number of bytes of a file
@@ -58,6 +61,12 @@ pub record HasHost (content : Option Content) (name : Name) (g : Graph) : Type 0
   pub has : HasBytes content name bytes
   pub text : IsHostText bytes g
 
+-- its bytes are the trace of these items, in this version
+pub record HasTrace (content : Option Content) (name : Name) (version : Version) (items : List Item) : Type 0 where
+  pub bytes : List ℕ
+  pub has : HasBytes content name bytes
+  pub text : IsTraceOf bytes version items
+
 -- it is longer than the limit, or its bytes have a fault of a program's text
 pub data HasFaultyProgram (content : Option Content) (name : Name) : Type 0 where
   has_long_program : HasLongFile content name → HasFaultyProgram content name
@@ -67,6 +76,11 @@ pub data HasFaultyProgram (content : Option Content) (name : Name) : Type 0 wher
 pub data HasFaultyHost (content : Option Content) (name : Name) : Type 0 where
   has_long_host : HasLongFile content name → HasFaultyHost content name
   has_bad_host : {bytes : List ℕ} {f : HostFault} → HasBytes content name bytes → IsHostFault bytes f → HasFaultyHost content name
+
+-- it is longer than the limit, or a line of it is not of the form of its place
+pub data HasFaultyTrace (content : Option Content) (name : Name) : Type 0 where
+  has_long_trace : HasLongFile content name → HasFaultyTrace content name
+  has_bad_trace : {bytes : List ℕ} {line : ℕ} → HasBytes content name bytes → BreaksAt bytes line → HasFaultyTrace content name
 
 -- ---- what a program comes to on a host
 
@@ -90,9 +104,9 @@ pub data Comes (bound seed : ℕ) (p : Program) (rule_names : List Name) (g : Gr
   is_faulty : {h : Graph} {t : List Item} {call rule : ℕ} {name : Name} {kind : NumberKind} → RunsTo bound seed p g t (At call h) → HasFaultyCall p call rule kind h →
       slice_get rule_names rule ≡ Some name → Comes bound seed p rule_names g (number_fault name kind)
 
--- ---- `run`
+-- ---- what is answered in place of a file
 
--- what is answered in place of a program
+-- in place of a program
 pub data StopsAtProgram (old new : KnownFiles) (name : Name) : Said → Type 0 where
   program_is_long : HasLongFile old.content name → StopsAtProgram old new name long_program
   program_is_bad : {bytes : List ℕ} {f : ProgramFault} → HasBytes old.content name bytes → IsFaultyText bytes f → StopsAtProgram old new name (bad_program f)
@@ -104,13 +118,47 @@ pub data StopsAtHost (old new : KnownFiles) (name : Name) : Said → Type 0 wher
   host_is_bad : {bytes : List ℕ} {f : HostFault} → HasBytes old.content name bytes → IsHostFault bytes f → StopsAtHost old new name (bad_host f)
   host_is_unread : CannotRead old new name → StopsAtHost old new name (unread name)
 
--- The order is: program read, program, host read, host, run.
-pub data RunAnswers (old new : KnownFiles) (k : RunCommand) : Said → Type 0 where
-  at_program : {said : Said} → StopsAtProgram old new k.program said → RunAnswers old new k said
-  at_host : {p : Program} {rule_names : List Name} {said : Said} → HasProgram old.content k.program p rule_names → StopsAtHost old new k.host said →
-      RunAnswers old new k said
-  at_run : {p : Program} {rule_names : List Name} {g : Graph} {said : Said} → HasProgram old.content k.program p rule_names → HasHost old.content k.host g →
-      Comes k.bound k.seed p rule_names g said → RunAnswers old new k said
+-- of a trace
+pub data StopsAtTrace (old new : KnownFiles) (name : Name) : Said → Type 0 where
+  trace_is_long : HasLongFile old.content name → StopsAtTrace old new name long_trace
+  trace_is_bad : {bytes : List ℕ} {line : ℕ} → HasBytes old.content name bytes → BreaksAt bytes line → StopsAtTrace old new name (bad_trace line)
+  trace_is_unread : CannotRead old new name → StopsAtTrace old new name (unread name)
+
+-- and of a result, which may be any text
+pub data StopsAtResult (old new : KnownFiles) (name : Name) : Said → Type 0 where
+  result_is_long : HasLongFile old.content name → StopsAtResult old new name long_result
+  result_is_unread : CannotRead old new name → StopsAtResult old new name (unread name)
+
+-- A program and a host are read, and then comes what is done with both. The order is: program read, program, host read,
+-- host, the rest.
+pub data OfBoth (old new : KnownFiles) (program host : Name) (Rest : Program → List Name → Graph → Said → Type 0) : Said → Type 0 where
+  at_program : {said : Said} → StopsAtProgram old new program said → OfBoth old new program host Rest said
+  at_host : {p : Program} {rule_names : List Name} {said : Said} → HasProgram old.content program p rule_names → StopsAtHost old new host said →
+      OfBoth old new program host Rest said
+  behind_both : {p : Program} {rule_names : List Name} {g : Graph} {said : Said} → HasProgram old.content program p rule_names → HasHost old.content host g →
+      Rest p rule_names g said → OfBoth old new program host Rest said
+
+-- ---- `run`
+
+-- the program is run on the host
+abbrev pub RunAnswers : KnownFiles → KnownFiles → RunCommand → Said → Type 0
+RunAnswers old new k = OfBoth old new k.program k.host (Comes k.bound k.seed)
+
+-- ---- `check`
+
+-- The order is: trace read, trace, result read, check.
+pub data Checks (old new : KnownFiles) (k : CheckCommand) (p : Program) (g : Graph) : Said → Type 0 where
+  at_trace : {said : Said} → StopsAtTrace old new k.trace said → Checks old new k p g said
+  at_result : {version : Version} {items : List Item} {said : Said} → HasTrace old.content k.trace version items → StopsAtResult old new k.result said →
+      Checks old new k p g said
+  is_derivation : {version : Version} {items : List Item} {text : List ℕ} → HasTrace old.content k.trace version items → HasBytes old.content k.result text →
+      IsDerivation p g version items text → Checks old new k p g derivation
+  is_none : {version : Version} {items : List Item} {text : List ℕ} → HasTrace old.content k.trace version items → HasBytes old.content k.result text →
+      (IsDerivation p g version items text → ⊥) → Checks old new k p g no_derivation
+
+-- the trace and the result are checked against the program and the host
+abbrev pub CheckAnswers : KnownFiles → KnownFiles → CheckCommand → Said → Type 0
+CheckAnswers old new k = OfBoth old new k.program k.host (λ p rule_names g. Checks old new k p g)
 
 -- ---- `demo`
 
@@ -147,6 +195,7 @@ pub data IsTrue (words : List Name) (old new : KnownFiles) : Said → Type 0 whe
   of_words : command_of words ≡ None → IsTrue words old new usage
   of_run : {k : RunCommand} {said : Said} → command_of words ≡ Some (run k) → RunAnswers old new k said → IsTrue words old new said
   of_demo : {k : DemoCommand} {said : Said} → command_of words ≡ Some (demo k) → DemoAnswers k said → IsTrue words old new said
+  of_check : {k : CheckCommand} {said : Said} → command_of words ≡ Some (check k) → CheckAnswers old new k said → IsTrue words old new said
 
 -- ---- what is written
 
@@ -154,6 +203,7 @@ pub data IsTrue (words : List Name) (old new : KnownFiles) : Said → Type 0 whe
 abbrev pub wants_journal : Command → Bool
 wants_journal (run k) = k.journal
 wants_journal (demo k) = false
+wants_journal (check k) = false
 
 -- the words ask for it
 abbrev pub asks_journal : List Name → Bool
@@ -189,84 +239,4 @@ abbrev pub ReadsNone : Option Command → Type 0
 ReadsNone None = Unit {0}
 ReadsNone (Some (run k)) = ⊥
 ReadsNone (Some (demo k)) = Unit {0}
-
--- ---- from the cause to the status
-
-abbrev pub IsOneOf : List ℕ → ℕ → Type 0
-IsOneOf [] status = ⊥
-IsOneOf (s ∷ ss) status = (status ≡ s) ⊎ IsOneOf ss status
-
--- a count of faults did not rise
-abbrev pub Stays : ℕ → ℕ → Type 0
-Stays before now = Rose before now → ⊥
-
--- Where the files' content is known and no device fails, `run` of a program and a host gives a graph, fail, the spent
--- bound or a number fault, or want of memory.
-abbrev pub RunCompletes : List Name → KnownFiles → KnownFiles → KnownSink → KnownSink → KnownSink → KnownSink → ℕ → Type 0
-RunCompletes words old new out_old out_new err_old err_new status =
-    (held : Content) (k : RunCommand) (p : Program) (rule_names : List Name) (g : Graph) → old.content ≡ Some held → command_of words ≡ Some (run k) →
-    HasProgram old.content k.program p rule_names → HasHost old.content k.host g →
-    Stays old.faults new.faults → Stays out_old.faults out_new.faults → Stays err_old.faults err_new.faults → IsOneOf (0 ∷ 1 ∷ 5 ∷ 6 ∷ 7 ∷ []) status
-
--- Where no sink fails, `demo` gives its summary, or what its texts come to: the fault of one, fail, the spent bound or a
--- number fault; or want of memory.
-abbrev pub DemoCompletes : List Name → KnownSink → KnownSink → KnownSink → KnownSink → ℕ → Type 0
-DemoCompletes words out_old out_new err_old err_new status =
-    (k : DemoCommand) → command_of words ≡ Some (demo k) →
-    Stays out_old.faults out_new.faults → Stays err_old.faults err_new.faults → IsOneOf (0 ∷ 1 ∷ 3 ∷ 4 ∷ 5 ∷ 6 ∷ 7 ∷ []) status
-
--- no count of faults rose
-pub record NoSinkFails (out_old out_new err_old err_new : KnownSink) : Type 0 where
-  pub out : Stays out_old.faults out_new.faults
-  pub err : Stays err_old.faults err_new.faults
-
-pub record NothingFails (old new : KnownFiles) (out_old out_new err_old err_new : KnownSink) : Type 0 where
-  pub files : Stays old.faults new.faults
-  pub sinks : NoSinkFails out_old out_new err_old err_new
-
--- this status, unless memory is refused; or, where a device fails, one of these
-abbrev pub Refuses : ℕ → List ℕ → Type 0 → ℕ → Type 0
-Refuses code of_devices NoneFails status = IsOneOf (code ∷ 7 ∷ of_devices) status × (NoneFails → IsOneOf (code ∷ 7 ∷ []) status)
-
--- Words that are no command are refused.
-abbrev pub RefusesWords : List Name → KnownSink → KnownSink → KnownSink → KnownSink → ℕ → Type 0
-RefusesWords words out_old out_new err_old err_new status = command_of words ≡ None → Refuses 2 (9 ∷ []) (NoSinkFails out_old out_new err_old err_new) status
-
--- Where the files' content is known, a faulty program of `run` is refused.
-abbrev pub RefusesProgram : List Name → KnownFiles → KnownFiles → KnownSink → KnownSink → KnownSink → KnownSink → ℕ → Type 0
-RefusesProgram words old new out_old out_new err_old err_new status =
-    (held : Content) (k : RunCommand) → old.content ≡ Some held → command_of words ≡ Some (run k) → HasFaultyProgram old.content k.program →
-    Refuses 3 (8 ∷ 9 ∷ []) (NothingFails old new out_old out_new err_old err_new) status
-
--- A faulty host of `run` likewise, where its program is one.
-abbrev pub RefusesHost : List Name → KnownFiles → KnownFiles → KnownSink → KnownSink → KnownSink → KnownSink → ℕ → Type 0
-RefusesHost words old new out_old out_new err_old err_new status =
-    (held : Content) (k : RunCommand) (p : Program) (rule_names : List Name) → old.content ≡ Some held → command_of words ≡ Some (run k) →
-    HasProgram old.content k.program p rule_names → HasFaultyHost old.content k.host →
-    Refuses 4 (8 ∷ 9 ∷ []) (NothingFails old new out_old out_new err_old err_new) status
-
--- A faulty text of `demo` is refused.
-abbrev pub RefusesDemoProgram : List Name → KnownSink → KnownSink → KnownSink → KnownSink → ℕ → Type 0
-RefusesDemoProgram words out_old out_new err_old err_new status =
-    (k : DemoCommand) (f : ProgramFault) → command_of words ≡ Some (demo k) → IsFaultyText (demo_program k) f →
-    Refuses 3 (9 ∷ []) (NoSinkFails out_old out_new err_old err_new) status
-
-abbrev pub RefusesDemoHost : List Name → KnownSink → KnownSink → KnownSink → KnownSink → ℕ → Type 0
-RefusesDemoHost words out_old out_new err_old err_new status =
-    (k : DemoCommand) (p : Program) (f : HostFault) → command_of words ≡ Some (demo k) → IsProgramText (demo_program k) p → IsHostFault (demo_host k) f →
-    Refuses 4 (9 ∷ []) (NoSinkFails out_old out_new err_old err_new) status
-
--- A sink whose count of faults rose is told of.
-abbrev pub TellsFaults : KnownSink → KnownSink → ℕ → Type 0
-TellsFaults old new status = old.faults < new.faults → status ≡ 9
-
-pub record Completes (words : List Name) (old new : KnownFiles) (out_old out_new err_old err_new : KnownSink) (status : ℕ) : Type 0 where
-  pub runs : RunCompletes words old new out_old out_new err_old err_new status
-  pub demos : DemoCompletes words out_old out_new err_old err_new status
-  pub words_refused : RefusesWords words out_old out_new err_old err_new status
-  pub program_refused : RefusesProgram words old new out_old out_new err_old err_new status
-  pub host_refused : RefusesHost words old new out_old out_new err_old err_new status
-  pub demo_program_refused : RefusesDemoProgram words out_old out_new err_old err_new status
-  pub demo_host_refused : RefusesDemoHost words out_old out_new err_old err_new status
-  pub out_faults : TellsFaults out_old out_new status
-  pub err_faults : TellsFaults err_old err_new status
+ReadsNone (Some (check k)) = ⊥

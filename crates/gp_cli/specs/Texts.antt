@@ -1,17 +1,19 @@
 -- What is answered, and the status and the texts that tell it.
-use Rattle.std.specs.Prelude.{ℕ, Bool, if◌then◌else◌, List, [], ◌++◌, codes}
+use Rattle.std.specs.Prelude.{ℕ, Bool, true, false, List, [], ◌++◌, codes}
 use Rattle.std.specs.Fmt.{decimal}
 use Rattle.gp_values.specs.Names.{Name}
 use Rattle.gp_values.specs.Graph.{Graph}
 use Rattle.gp_syntax.specs.declared.kinds.NumberKind.{NumberKind}
 use Rattle.gp_syntax.specs.declared.kinds.NumberKind.TheVariants as kinds
 use Rattle.gp_syntax.specs.Run.{Item}
-use Rattle.gp_trace.specs.TraceText.{trace_text}
+use Rattle.gp_trace.specs.declared.version.Version.TheVariants.{Two}
+use Rattle.gp_trace.specs.Reading.{IsTraceOf}
 use Rattle.gp_reader.specs.declared.fault.ProgramFault.{ProgramFault}
 use Rattle.gp_reader.specs.FaultLines.{line_of}
 use Rattle.gp_hostfile.specs.declared.fault.HostFault.{HostFault}
 use Rattle.gp_hostfile.specs.FaultLines as host
 use Rattle.gp_hostfile.specs.GraphText.{IsGraphText}
+use Rattle.gp_derivation.specs.Derivation.{fail_text}
 use Rattle.gp_gen.specs.declared.kind.Kind.{Kind}
 use Rattle.gp_cli.specs.Summary.{summary_text}
 
@@ -22,11 +24,18 @@ pub data Said : Type 0 where
   failed : List Item → Said
   -- the kind and the size of a demo, the trace of its run, and the graph that it gives
   demo_done : Kind → ℕ → List Item → Graph → Said
+  -- the trace and the result that are checked are a derivation, or are none
+  derivation : Said
+  no_derivation : Said
   usage : Said
   long_program : Said
   bad_program : ProgramFault → Said
   long_host : Said
   bad_host : HostFault → Said
+  long_trace : Said
+  -- the first line that is not of the form of its place
+  bad_trace : ℕ → Said
+  long_result : Said
   bound_spent : ℕ → Said
   -- the name of the rule
   number_fault : Name → NumberKind → Said
@@ -36,16 +45,29 @@ pub data Said : Type 0 where
 abbrev pub usage_text : List ℕ
 usage_text =
     codes "usage: gp2 run PROGRAM HOST [--workers N] [--bound N] [--fan N] [--seed N] [--journal]\n"
-    ++ codes "       gp2 demo KIND SIZE SEED [--workers N] [--fan N]\n"
+    ++ (codes "       gp2 demo KIND SIZE SEED [--workers N] [--fan N]\n"
+    ++ codes "       gp2 check PROGRAM HOST TRACE RESULT\n")
 
-abbrev pub fail_text : List ℕ
-fail_text = codes "fail\n"
+abbrev pub derivation_text : List ℕ
+derivation_text = codes "derivation\n"
+
+abbrev pub no_derivation_text : List ℕ
+no_derivation_text = codes "no derivation\n"
 
 abbrev pub program_too_long : List ℕ
 program_too_long = codes "program: TooLong\n"
 
 abbrev pub host_too_long : List ℕ
 host_too_long = codes "host: TooLong\n"
+
+abbrev pub trace_too_long : List ℕ
+trace_too_long = codes "trace: TooLong\n"
+
+abbrev pub trace_line : ℕ → List ℕ
+trace_line line = codes "trace: Line " ++ decimal line ++ codes "\n"
+
+abbrev pub result_too_long : List ℕ
+result_too_long = codes "result: TooLong\n"
 
 abbrev pub bound_text : ℕ → List ℕ
 bound_text bound = codes "bound " ++ decimal bound ++ codes "\n"
@@ -60,20 +82,26 @@ number_text rule kind = codes "number " ++ rule ++ codes " " ++ kind_text kind +
 abbrev pub read_text : Name → List ℕ
 read_text name = codes "read: " ++ name ++ codes "\n"
 
--- the trace, where the journal is asked for
-abbrev pub journal_text : Bool → List Item → List ℕ
-journal_text asked t = if asked then trace_text t else []
+-- the journal of these items, where it is asked for: their trace, which can be read back
+pub data IsJournal (t : List Item) : Bool → List ℕ → Type 0 where
+  asked_for : {text : List ℕ} → IsTraceOf text Two t → IsJournal t true text
+  not_asked_for : IsJournal t false []
 
 -- The status of an answer, its journal and its result, which go to out, and its text for err.
 pub data Shows (asked : Bool) : Said → ℕ → List ℕ → List ℕ → List ℕ → Type 0 where
-  graph_shown : {t : List Item} {h : Graph} {text : List ℕ} → IsGraphText h text → Shows asked (graph t h) 0 (journal_text asked t) text []
-  fail_shown : {t : List Item} → Shows asked (failed t) 1 (journal_text asked t) fail_text []
+  graph_shown : {t : List Item} {h : Graph} {journal text : List ℕ} → IsJournal t asked journal → IsGraphText h text → Shows asked (graph t h) 0 journal text []
+  fail_shown : {t : List Item} {journal : List ℕ} → IsJournal t asked journal → Shows asked (failed t) 1 journal fail_text []
   demo_shown : {kind : Kind} {size : ℕ} {t : List Item} {h : Graph} → Shows asked (demo_done kind size t h) 0 [] (summary_text kind size h t) []
+  derivation_shown : Shows asked derivation 0 [] derivation_text []
+  no_derivation_shown : Shows asked no_derivation 1 [] no_derivation_text []
   usage_shown : Shows asked usage 2 [] [] usage_text
   long_program_shown : Shows asked long_program 3 [] [] program_too_long
   bad_program_shown : {f : ProgramFault} → Shows asked (bad_program f) 3 [] [] (line_of f)
   long_host_shown : Shows asked long_host 4 [] [] host_too_long
   bad_host_shown : {f : HostFault} → Shows asked (bad_host f) 4 [] [] (host.line_of f)
+  long_trace_shown : Shows asked long_trace 10 [] [] trace_too_long
+  bad_trace_shown : {line : ℕ} → Shows asked (bad_trace line) 10 [] [] (trace_line line)
+  long_result_shown : Shows asked long_result 10 [] [] result_too_long
   bound_shown : {bound : ℕ} → Shows asked (bound_spent bound) 5 [] [] (bound_text bound)
   number_shown : {rule : Name} {kind : NumberKind} → Shows asked (number_fault rule kind) 6 [] [] (number_text rule kind)
   unread_shown : {name : Name} → Shows asked (unread name) 8 [] [] (read_text name)

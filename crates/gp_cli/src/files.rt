@@ -1,14 +1,16 @@
-//! The two files, read and understood, or the answer that says why not.
+//! The files of a command, read and understood, or the answer that says why not.
 
 ghost use Rattle.std.specs.Prelude.{◌≡◌, ◌≤◌};
-ghost use Rattle.gp_cli.specs.inside.Parts.{ReadsFile, LoadsProgram, LoadsHost};
+ghost use Rattle.gp_cli.specs.inside.Parts.{ReadsFile, LoadsProgram, LoadsHost, LoadsTrace};
+ghost use Rattle.gp_cli.specs.Texts.{long_result};
 ghost use Rattle.gp_cli.specs.inside.Told.{said_of};
 
-use crate::parsed::{host_of, program_of};
+use crate::parsed::{host_of, program_of, trace_of};
 use crate::said::{Said, Stop};
 use gp_graph::Graph;
 use gp_io::{Files, ReadRefusal};
-use gp_syntax::Program;
+use gp_syntax::{Item, Program};
+use gp_trace::Version;
 use std::alloc::Global;
 
 /// The greatest number of bytes of a file.
@@ -59,4 +61,31 @@ pub(crate) fn load_host<'a, F: Files>(
 {
     let text = read_file(alloc, files, name, Said::LongHost)?;
     host_of(alloc, &text)
+}
+
+/// The items of the trace's file, with their version.
+pub(crate) fn load_trace<'a, F: Files>(
+    alloc: Global,
+    files: &mut F,
+    name: &'a str,
+) -> Result<(Version, Vec<Item>), Stop<'a>>
+    ensures loads { LoadsTrace (F.known files.old) (F.known files.new) name.entry.now result }
+    ensures later { (F.known files.old).faults ≤ (F.known files.new).faults }
+    ensures same { (F.known files.new).content ≡ (F.known files.old).content }
+{
+    let text = read_file(alloc, files, name, Said::LongTrace)?;
+    trace_of(alloc, &text)
+}
+
+/// The text of the result's file.
+pub(crate) fn load_result<'a, F: Files>(
+    alloc: Global,
+    files: &mut F,
+    name: &'a str,
+) -> Result<Vec<u8>, Stop<'a>>
+    ensures loads { ReadsFile (F.known files.old) (F.known files.new) name.entry.now long_result result }
+    ensures later { (F.known files.old).faults ≤ (F.known files.new).faults }
+    ensures same { (F.known files.new).content ≡ (F.known files.old).content }
+{
+    read_file(alloc, files, name, Said::LongResult)
 }

@@ -1,14 +1,15 @@
-//! The program and the host of texts, or the answer that says why not.
+//! The program, the host and the trace of texts, or the answer that says why not.
 
 ghost use Rattle.std.specs.Prelude.{◌≡◌};
-ghost use Rattle.gp_cli.specs.inside.Parts.{TellsOrFaults, HostsOrFaults};
-ghost use Rattle.gp_cli.specs.inside.Told.{program_refused, host_refused};
+ghost use Rattle.gp_cli.specs.inside.Parts.{TellsOrFaults, HostsOrFaults, TracesOrFaults};
+ghost use Rattle.gp_cli.specs.inside.Told.{program_refused, host_refused, trace_refused};
 
 use crate::said::{Said, Stop};
 use gp_graph::Graph;
 use gp_hostfile::{HostFault, read_host};
 use gp_reader::{ProgramFault, read_program};
-use gp_syntax::Program;
+use gp_syntax::{Item, Program};
+use gp_trace::{TraceFault, Version, read_trace};
 use std::alloc::Global;
 
 // What is answered where a program is refused so.
@@ -31,6 +32,16 @@ fn host_refused<'a>(fault: HostFault) -> Stop<'a>
     }
 }
 
+// The same of a trace.
+fn trace_refused<'a>(fault: TraceFault) -> Stop<'a>
+    ensures { result ≡ trace_refused fault }
+{
+    match fault {
+        TraceFault::Line(line) => Stop::Said(Said::BadTrace(line)),
+        TraceFault::NoMemory => Stop::NoMemory,
+    }
+}
+
 /// The program of a text.
 pub(crate) fn program_of<'a>(alloc: Global, text: &[u8]) -> Result<Program, Stop<'a>>
     ensures { TellsOrFaults text.now result }
@@ -48,5 +59,15 @@ pub(crate) fn host_of<'a>(alloc: Global, text: &[u8]) -> Result<Graph, Stop<'a>>
     match read_host(alloc, text) {
         Ok(graph) => Ok(graph),
         Err(fault) => Err(host_refused(fault)),
+    }
+}
+
+/// The items of the text of a trace, with their version.
+pub(crate) fn trace_of<'a>(alloc: Global, text: &[u8]) -> Result<(Version, Vec<Item>), Stop<'a>>
+    ensures { TracesOrFaults text.now result }
+{
+    match read_trace(alloc, text) {
+        Ok(trace) => Ok(trace),
+        Err(fault) => Err(trace_refused(fault)),
     }
 }

@@ -20,11 +20,18 @@ pub(crate) enum Said<'a> {
     Fail(Journal),
     /// The kind and the size of a demo, and the journal of its run.
     Demo(Kind, u64, Journal),
+    /// The trace and the result that are checked are a derivation, or are none.
+    Derivation,
+    NoDerivation,
     Usage,
     LongProgram,
     BadProgram(ProgramFault),
     LongHost,
     BadHost(HostFault),
+    LongTrace,
+    /// The first line that is not of the form of its place.
+    BadTrace(u64),
+    LongResult,
     /// The bound that is spent.
     Bound(u64),
     /// The name of the rule that has a faulty match.
@@ -41,8 +48,16 @@ impl Drop for Said<'_> {
             Said::BadProgram(fault) => drop(fault),
             Said::BadHost(fault) => drop(fault),
             Said::Number(name, _) => drop(name),
-            Said::Usage | Said::LongProgram | Said::LongHost | Said::Bound(_) | Said::Unread(_) =>
-                {}
+            Said::Derivation
+            | Said::NoDerivation
+            | Said::Usage
+            | Said::LongProgram
+            | Said::LongHost
+            | Said::LongTrace
+            | Said::BadTrace(_)
+            | Said::LongResult
+            | Said::Bound(_)
+            | Said::Unread(_) => {}
         }
     }
 }

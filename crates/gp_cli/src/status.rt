@@ -10,6 +10,10 @@ pub(crate) enum Status {
     Graph,
     /// The run gave fail.
     Fail,
+    /// What was checked is a derivation.
+    Derivation,
+    /// It is none.
+    NoDerivation,
     /// The words are no command.
     Words,
     /// The program is refused.
@@ -26,6 +30,8 @@ pub(crate) enum Status {
     Read,
     /// A text cannot be written.
     Write,
+    /// The trace or the result is refused.
+    Trace,
 }
 
 impl Status {
@@ -36,6 +42,8 @@ impl Status {
         match self {
             Status::Graph => 0,
             Status::Fail => 1,
+            Status::Derivation => 0,
+            Status::NoDerivation => 1,
             Status::Words => 2,
             Status::Program => 3,
             Status::Host => 4,
@@ -44,6 +52,7 @@ impl Status {
             Status::NoMemory => 7,
             Status::Read => 8,
             Status::Write => 9,
+            Status::Trace => 10,
         }
     }
 }

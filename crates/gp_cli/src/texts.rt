@@ -5,7 +5,8 @@ ghost use Rattle.std.specs.Fmt.{decimal};
 ghost use Rattle.gp_hostfile.specs.GraphText.{IsGraphText};
 ghost use Rattle.gp_hostfile.specs.FaultLines.{line_of as host_line};
 ghost use Rattle.gp_reader.specs.FaultLines.{line_of};
-ghost use Rattle.gp_cli.specs.Texts.{Shows, graph, failed, demo_done, kind_text, number_text, bound_text, read_text, journal_text};
+ghost use Rattle.gp_cli.specs.Texts.{Shows, graph, failed, demo_done, kind_text, number_text, bound_text, read_text, trace_line, IsJournal};
+ghost use Rattle.gp_cli.specs.inside.Parts.{IsOnErr, IsOnOut};
 ghost use Rattle.gp_cli.specs.inside.Statuses.{status_code};
 ghost use Rattle.gp_cli.specs.inside.Told.{said_of};
 ghost use Rattle.gp_journal.specs.Journal.{items_of};
@@ -26,7 +27,7 @@ use itoa::Buffer;
 use std::alloc::Global;
 
 const USAGE: &[u8] =
-    b"usage: gp2 run PROGRAM HOST [--workers N] [--bound N] [--fan N] [--seed N] [--journal]\n       gp2 demo KIND SIZE SEED [--workers N] [--fan N]\n";
+    b"usage: gp2 run PROGRAM HOST [--workers N] [--bound N] [--fan N] [--seed N] [--journal]\n       gp2 demo KIND SIZE SEED [--workers N] [--fan N]\n       gp2 check PROGRAM HOST TRACE RESULT\n";
 
 fn bound_text(alloc: Global, bound: u64) -> Result<Vec<u8>, NoMemory>
     ensures { IfOk result (λ v. v.items ≡ bound_text bound) }
@@ -66,6 +67,15 @@ fn read_text(alloc: Global, name: &str) -> Result<Vec<u8>, NoMemory>
     Ok(text)
 }
 
+fn trace_line(alloc: Global, line: u64) -> Result<Vec<u8>, NoMemory>
+    ensures { IfOk result (λ v. v.items ≡ trace_line line) }
+{
+    let mut text = Vec::from_slice(alloc, b"trace: Line ")?;
+    text.extend_from_slice(Buffer::new().format(line).as_bytes())?;
+    text.push(b'\n')?;
+    Ok(text)
+}
+
 fn program_line(alloc: Global, fault: &ProgramFault) -> Result<Vec<u8>, NoMemory>
     ensures { IfOk result (λ v. v.items ≡ line_of fault.now) }
 {
@@ -92,7 +102,7 @@ fn graph_text(alloc: Global, graph: &Graph) -> Result<Vec<u8>, NoMemory>
 
 // The trace, where the journal is asked for.
 fn journal_text(alloc: Global, asked: bool, journal: &Journal) -> Result<Vec<u8>, NoMemory>
-    ensures { IfOk result (λ v. v.items ≡ journal_text asked (items_of journal.now.items)) }
+    ensures { IfOk result (λ v. IsJournal (items_of journal.now.items) asked v.items) }
 {
     let mut text = Vec::new(alloc);
     if asked {
@@ -103,10 +113,7 @@ fn journal_text(alloc: Global, asked: bool, journal: &Journal) -> Result<Vec<u8>
 
 // An answer on standard error alone.
 fn on_err(alloc: Global, status: Status, err: Vec<u8>) -> Reply
-    ensures status { result.status ≡ status }
-    ensures journal { result.journal.items ≡ [] }
-    ensures text { result.result.items ≡ [] }
-    ensures err { result.err.items ≡ err.items }
+    ensures { IsOnErr status err.items result }
 {
     Reply {
         status,
@@ -118,10 +125,7 @@ fn on_err(alloc: Global, status: Status, err: Vec<u8>) -> Reply
 
 // An answer on standard output alone.
 fn on_out(alloc: Global, status: Status, journal: Vec<u8>, text: Vec<u8>) -> Reply
-    ensures status { result.status ≡ status }
-    ensures journal { result.journal.items ≡ journal.items }
-    ensures text { result.result.items ≡ text.items }
-    ensures err { result.err.items ≡ [] }
+    ensures { IsOnOut status journal.items text.items result }
 {
     Reply {
         status,
@@ -156,11 +160,19 @@ fn demo_reply(alloc: Global, kind: Kind, size: u64, journal: &Journal) -> Result
     Ok(on_out(alloc, Status::Graph, Vec::new(alloc), text))
 }
 
-// The bytes of a text.
-fn constant(alloc: Global, text: &[u8]) -> Result<Vec<u8>, NoMemory>
-    ensures { IfOk result (λ v. v.items ≡ text.now) }
+// What a check says, on standard output.
+fn verdict(alloc: Global, status: Status, text: &[u8]) -> Result<Reply, NoMemory>
+    ensures { IfOk result (IsOnOut status [] text.now) }
 {
-    Ok(Vec::from_slice(alloc, text)?)
+    let copied = Vec::from_slice(alloc, text)?;
+    Ok(on_out(alloc, status, Vec::new(alloc), copied))
+}
+
+// A refusal that is always told by the same text.
+fn refusal(alloc: Global, status: Status, text: &[u8]) -> Result<Reply, NoMemory>
+    ensures { IfOk result (IsOnErr status text.now) }
+{
+    Ok(on_err(alloc, status, Vec::from_slice(alloc, text)?))
 }
 
 /// The texts of an answer, with the journal where it is asked for.
@@ -171,23 +183,16 @@ pub(crate) fn reply_of(alloc: Global, asked: bool, said: &Said<'_>) -> Result<Re
         Said::Graph(journal) => graph_reply(alloc, asked, journal),
         Said::Fail(journal) => fail_reply(alloc, asked, journal),
         Said::Demo(kind, size, journal) => demo_reply(alloc, *kind, *size, journal),
-        Said::Usage => Ok(on_err(alloc, Status::Words, constant(alloc, USAGE)?)),
-        Said::LongProgram => {
-            let text = constant(alloc, b"program: TooLong\n")?;
-            Ok(on_err(alloc, Status::Program, text))
-        }
-        Said::BadProgram(fault) => {
-            let line = program_line(alloc, fault)?;
-            Ok(on_err(alloc, Status::Program, line))
-        }
-        Said::LongHost => {
-            let text = constant(alloc, b"host: TooLong\n")?;
-            Ok(on_err(alloc, Status::Host, text))
-        }
-        Said::BadHost(fault) => {
-            let line = host_line(alloc, fault)?;
-            Ok(on_err(alloc, Status::Host, line))
-        }
+        Said::Derivation => verdict(alloc, Status::Derivation, b"derivation\n"),
+        Said::NoDerivation => verdict(alloc, Status::NoDerivation, b"no derivation\n"),
+        Said::Usage => refusal(alloc, Status::Words, USAGE),
+        Said::LongProgram => refusal(alloc, Status::Program, b"program: TooLong\n"),
+        Said::BadProgram(fault) => Ok(on_err(alloc, Status::Program, program_line(alloc, fault)?)),
+        Said::LongHost => refusal(alloc, Status::Host, b"host: TooLong\n"),
+        Said::BadHost(fault) => Ok(on_err(alloc, Status::Host, host_line(alloc, fault)?)),
+        Said::LongTrace => refusal(alloc, Status::Trace, b"trace: TooLong\n"),
+        Said::BadTrace(line) => Ok(on_err(alloc, Status::Trace, trace_line(alloc, *line)?)),
+        Said::LongResult => refusal(alloc, Status::Trace, b"result: TooLong\n"),
         Said::Bound(bound) => Ok(on_err(alloc, Status::Bound, bound_text(alloc, *bound)?)),
         Said::Number(rule, kind) => {
             let text = number_text(alloc, rule, *kind)?;

@@ -5,12 +5,14 @@ ghost use Rattle.std.specs.Option.{option_map_or};
 ghost use Rattle.gp_values.specs.Names.{Name as AnyName};
 ghost use Rattle.gp_words.specs.CommandLine as spec;
 ghost use Rattle.gp_words.specs.Told.{run_now, command_now, HasSize};
-ghost use Rattle.gp_cli.specs.Answer.{wants_journal, IsTrue, Replies, ReadsNone, Answered, Completes, IsSilent};
+ghost use Rattle.gp_cli.specs.Answer.{wants_journal, IsTrue, Replies, ReadsNone, Answered, IsSilent};
+ghost use Rattle.gp_cli.specs.Completes.{Completes};
 ghost use Rattle.gp_cli.specs.Texts.{Shows};
 ghost use Rattle.gp_cli.specs.inside.Parts.{RunsFiles};
 ghost use Rattle.gp_cli.specs.inside.Statuses.{status_code};
 ghost use Rattle.gp_cli.specs.inside.Told.{said_of};
 
+use crate::check::check;
 use crate::deliver::deliver;
 use crate::demo::demo;
 use crate::files::{load_host, load_program};
@@ -21,7 +23,7 @@ use crate::status::Status;
 use crate::texts::reply_of;
 use gp_io::{Files, Sink};
 use gp_memory::NoMemory;
-use gp_reader::laws::texts_have_one_fault;
+use gp_reader::laws::{texts_have_one_fault, texts_have_one_program};
 use gp_system::Crew;
 use gp_words::{Command, RunCommand, command_of};
 use opt_worker::Pacing;
@@ -65,6 +67,7 @@ fn said_by_command<'a, F: Files, R: Threads + Wait + Sync>(
     match command {
         Command::Run(command) => settled(said_by_files(rt, alloc, command, files, pace)),
         Command::Demo(command) => settled(demo(rt, alloc, command, pace)),
+        Command::Check(command) => settled(check(alloc, command, files)),
     }
 }
 
@@ -137,13 +140,14 @@ fn answer_words<F: Files, O: Sink, E: Sink, R: Threads + Wait + Sync>(
     ensures unread { ReadsNone (spec.command_of (map string_bytes words.now)) → files.new ≡ files.old }
 {
     texts_have_one_fault();
+    texts_have_one_program();
     match reply_to(rt, alloc, words, files, pace) {
         Ok(reply) => deliver(&reply, out, err),
         Err(NoMemory) => Status::NoMemory.code(),
     }
 }
 
-/// Runs the program's file on the host's, or a demo, as the words say, and writes what comes of it. The answer is the
+/// Runs the program's file on the host's, or a demo, or checks a trace and a result, as the words say, and writes what comes of it. The answer is the
 /// status of the process. The words are those behind the program's name, or that memory was refused for them. With two
 /// workers or more the call starts threads, and the pace may hold them; it may wait then.
 pub fn gp2_main<R: AllocGlobal + Threads + Wait + Sync, F: Files, O: Sink, E: Sink>(

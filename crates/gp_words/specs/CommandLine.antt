@@ -28,9 +28,17 @@ pub record DemoCommand : Type 0 where
   pub workers : ℕ
   pub fan : ℕ
 
+-- `check`: the names of the files of the program, of the host, of the trace and of the result
+pub record CheckCommand : Type 0 where
+  pub program : Name
+  pub host : Name
+  pub trace : Name
+  pub result : Name
+
 pub data Command : Type 0 where
   run : RunCommand → Command
   demo : DemoCommand → Command
+  check : CheckCommand → Command
 
 -- ---- as clap reads them
 
@@ -46,7 +54,7 @@ option id = record (new_rule id) { long = Some id; action = Some Set }
 abbrev pub flag : Name → Rule
 flag id = record (new_rule id) { long = Some id; action = Some SetTrue }
 
--- the options of both commands
+-- the options of `run` and of `demo`
 abbrev pub with_crew : App → App
 with_crew app = with_rule (with_rule app (option (codes "workers"))) (option (codes "fan"))
 
@@ -58,12 +66,16 @@ run_app = with_crew (with_rule (with_rule (with_rule (with_rule (with_rule (new_
 abbrev pub demo_app : App
 demo_app = with_crew (with_rule (with_rule (with_rule (new_app (codes "demo")) (place (codes "kind"))) (place (codes "size"))) (place (codes "seed")))
 
+-- `check PROGRAM HOST TRACE RESULT`
+abbrev pub check_app : App
+check_app = with_rule (with_rule (with_rule (with_rule (new_app (codes "check")) (place (codes "program"))) (place (codes "host"))) (place (codes "trace"))) (place (codes "result"))
+
 -- one level of commands, read behind the name of the program
 abbrev pub top : App
 top = record { top = record (new_app (codes "gp2")).top { no_binary_name = true; subcommand_required = true }; subs = [] }
 
 abbrev pub gp2 : App
-gp2 = with_subcommand (with_subcommand top run_app.top) demo_app.top
+gp2 = with_subcommand (with_subcommand (with_subcommand top run_app.top) demo_app.top) check_app.top
 
 -- ---- numbers
 
@@ -164,9 +176,20 @@ demo_words rows kind size seed = None
 abbrev pub demo_of : List Row → Option Command
 demo_of rows = demo_words rows (first_of (codes "kind") rows) (first_of (codes "size") rows) (first_of (codes "seed") rows)
 
+abbrev pub check_files : Option Name → Option Name → Option Name → Option Name → Option Command
+check_files (Some program) (Some host) (Some trace) (Some result) = Some (check (record { program = program; host = host; trace = trace; result = result }))
+check_files program host trace result = None
+
+-- what clap found at `check`
+abbrev pub check_of : List Row → Option Command
+check_of rows = check_files (first_of (codes "program") rows) (first_of (codes "host") rows) (first_of (codes "trace") rows) (first_of (codes "result") rows)
+
 -- what clap found at the command of this name
 abbrev pub command_at : Name × List Row → Option Command
-command_at p = if same_name p.0 (codes "run") then run_of p.1 else (if same_name p.0 (codes "demo") then demo_of p.1 else None)
+command_at p =
+    if same_name p.0 (codes "run") then run_of p.1 else
+    (if same_name p.0 (codes "demo") then demo_of p.1 else
+    (if same_name p.0 (codes "check") then check_of p.1 else None))
 
 abbrev pub command_if : Bool → List Name → Option Command
 command_if refused words = if refused then None else option_and_then command_at (subcommand_of gp2 words)

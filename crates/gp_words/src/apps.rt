@@ -37,6 +37,13 @@ const DEMO: [(Form, &'static str); 5] = [
     (Form::Option, "fan"),
 ];
 
+const CHECK: [(Form, &'static str); 4] = [
+    (Form::Place, "program"),
+    (Form::Place, "host"),
+    (Form::Place, "trace"),
+    (Form::Place, "result"),
+];
+
 fn argument<'a>(alloc: Global, form: Form, id: &'a str) -> Arg<'a>
     ensures rule { rule_of result ≡ rule_at form id.entry.now }
     ensures own { result.global ≡ false }
@@ -64,7 +71,7 @@ fn command_with<'a>(
     Ok(command)
 }
 
-// The level above both, without them.
+// The level above the commands, without them.
 fn plain_top<'a>(alloc: Global) -> Command<'a>
     ensures { app_of result ≡ spec.top }
 {
@@ -89,5 +96,6 @@ pub(crate) fn top_command<'a>(alloc: Global) -> Result<Command<'a>, AllocError>
     ensures { IfOk result (λ c. app_of c ≡ spec.gp2) }
 {
     let above_run = above(alloc, plain_top(alloc), "run", &RUN)?;
-    above(alloc, above_run, "demo", &DEMO)
+    let above_demo = above(alloc, above_run, "demo", &DEMO)?;
+    above(alloc, above_demo, "check", &CHECK)
 }

@@ -26,9 +26,19 @@ pub struct DemoCommand {
     pub fan: u32,
 }
 
+/// `check PROGRAM HOST TRACE RESULT`: the names of the files.
+#[derive(Clone, Copy)]
+pub struct CheckCommand<'a> {
+    pub program: &'a str,
+    pub host: &'a str,
+    pub trace: &'a str,
+    pub result: &'a str,
+}
+
 /// What the words ask for.
 #[derive(Clone, Copy)]
 pub enum Command<'a> {
     Run(RunCommand<'a>),
     Demo(DemoCommand),
+    Check(CheckCommand<'a>),
 }

@@ -6,7 +6,7 @@ ghost use Rattle.gp_gen.specs.Host.{largest};
 ghost use Rattle.gp_words.specs.CommandLine as spec;
 ghost use Rattle.gp_words.specs.Told.{command_now, HasSize};
 
-use crate::command::{Command, DemoCommand, RunCommand};
+use crate::command::{CheckCommand, Command, DemoCommand, RunCommand};
 use crate::number::{number_between, value_or};
 use clap::ArgMatches;
 use gp_gen::Kind;
@@ -158,6 +158,28 @@ fn demo_of<'a>(matches: &ArgMatches<'a>) -> Option<Command<'a>>
     }
 }
 
+fn check_of<'a>(matches: &ArgMatches<'a>) -> Option<Command<'a>>
+    ensures check { option_map command_now result ≡ spec.check_of (rows_of (found_of matches.now)) }
+    ensures size { IfSome result HasSize }
+{
+    match (
+        text_of(matches, "program"),
+        text_of(matches, "host"),
+        text_of(matches, "trace"),
+        text_of(matches, "result"),
+    ) {
+        (Some(program), Some(host), Some(trace), Some(result)) => {
+            Some(Command::Check(CheckCommand {
+                program,
+                host,
+                trace,
+                result,
+            }))
+        }
+        _ => None,
+    }
+}
+
 /// The command of that name at which clap found these matches.
 pub(crate) fn command_at<'a>(name: &str, matches: &ArgMatches<'a>) -> Option<Command<'a>>
     ensures command { option_map command_now result ≡ spec.command_at (name.now, rows_of (found_of matches.now)) }
@@ -167,6 +189,8 @@ pub(crate) fn command_at<'a>(name: &str, matches: &ArgMatches<'a>) -> Option<Com
         run_of(matches)
     } else if name == "demo" {
         demo_of(matches)
+    } else if name == "check" {
+        check_of(matches)
     } else {
         None
     }

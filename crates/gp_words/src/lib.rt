@@ -11,5 +11,5 @@ mod found;
 mod number;
 mod words;
 
-pub use command::{Command, DemoCommand, RunCommand};
+pub use command::{CheckCommand, Command, DemoCommand, RunCommand};
 pub use words::command_of;

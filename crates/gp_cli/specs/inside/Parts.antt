@@ -7,19 +7,26 @@ use Rattle.gp_io.specs.declared.outside.Failed.{Failed as Fault}
 use Rattle.gp_memory.specs.Free.{Free}
 use Rattle.gp_values.specs.Names.{Name}
 use Rattle.gp_graph.specs.declared.graph.Graph.{Graph}
+use Rattle.gp_syntax.specs.declared.found.Item.{Item}
 use Rattle.gp_syntax.specs.declared.command.ProgramParts.{ProgramParts}
 use Rattle.gp_syntax.specs.declared.rule.RuleParts.{RuleParts}
-use Rattle.gp_syntax.specs.Tree.{program_of_tree}
+use Rattle.gp_syntax.specs.Tree.{program_of_tree, item_of}
+use Rattle.gp_syntax.specs.Run.{Program}
 use Rattle.gp_reader.specs.declared.fault.ProgramFault.{ProgramFault}
 use Rattle.gp_reader.specs.Program.{IsFaultyText}
 use Rattle.gp_hostfile.specs.declared.fault.HostFault.{HostFault}
 use Rattle.gp_hostfile.specs.Host.{IsHostText, IsHostFault}
-use Rattle.gp_words.specs.CommandLine.{RunCommand, DemoCommand}
+use Rattle.gp_trace.specs.declared.version.Version.{Version}
+use Rattle.gp_trace.specs.Reading.{IsTraceOf, BreaksAt}
+use Rattle.gp_values.specs.Graph.{Graph as AnyGraph}
+use Rattle.gp_words.specs.CommandLine.{RunCommand, DemoCommand, CheckCommand}
 use Rattle.gp_cli.specs.declared.said.Stop.{Stop}
 use Rattle.gp_cli.specs.declared.said.Stop.TheVariants as stops
 use Rattle.gp_cli.specs.declared.said.Said.{Said}
+use Rattle.gp_cli.specs.declared.status.Status.{Status}
+use Rattle.gp_cli.specs.declared.reply.Reply.{Reply}
 use Rattle.gp_cli.specs.Texts as texts
-use Rattle.gp_cli.specs.Answer.{HasBytes, HasLongFile, CannotRead, TellsProgram, HasProgram, HasHost, StopsAtProgram, StopsAtHost, RunAnswers, DemoAnswers}
+use Rattle.gp_cli.specs.Answer.{HasBytes, HasLongFile, CannotRead, TellsProgram, HasProgram, HasHost, HasTrace, StopsAtProgram, StopsAtHost, StopsAtTrace, RunAnswers, DemoAnswers, Checks, CheckAnswers}
 use Rattle.gp_cli.specs.Written.{TakesAll, IsCutShort}
 use Rattle.gp_cli.specs.inside.Told.{said_of}
 
@@ -60,6 +67,17 @@ LoadsHost old new name (Ok g) = HasHost old.content name g.graph
 LoadsHost old new name (Err (stops.Said s)) = StopsAtHost old new name (said_of s)
 LoadsHost old new name (Err stops.NoMemory) = Free
 
+-- the items of the bytes, or the first line that is not of its form
+abbrev pub TracesOrFaults : List ℕ → Result (Version × Vec Item Global) Stop → Type 0
+TracesOrFaults bytes (Ok t) = IsTraceOf bytes t.0 (map item_of t.1.items)
+TracesOrFaults bytes (Err (stops.Said s)) = (line : ℕ) × (said_of s ≡ texts.bad_trace line) × BreaksAt bytes line
+TracesOrFaults bytes (Err stops.NoMemory) = Free
+
+abbrev pub LoadsTrace : KnownFiles → KnownFiles → Name → Result (Version × Vec Item Global) Stop → Type 0
+LoadsTrace old new name (Ok t) = HasTrace old.content name t.0 (map item_of t.1.items)
+LoadsTrace old new name (Err (stops.Said s)) = StopsAtTrace old new name (said_of s)
+LoadsTrace old new name (Err stops.NoMemory) = Free
+
 -- ---- what commands come to
 
 abbrev pub RunsFiles : KnownFiles → KnownFiles → RunCommand → Result Said Stop → Type 0
@@ -71,6 +89,32 @@ abbrev pub RunsDemo : DemoCommand → Result Said Stop → Type 0
 RunsDemo k (Ok s) = DemoAnswers k (said_of s)
 RunsDemo k (Err (stops.Said s)) = DemoAnswers k (said_of s)
 RunsDemo k (Err stops.NoMemory) = Free
+
+abbrev pub ChecksBoth : KnownFiles → KnownFiles → CheckCommand → Program → AnyGraph → Result Said Stop → Type 0
+ChecksBoth old new k p g (Ok s) = Checks old new k p g (said_of s)
+ChecksBoth old new k p g (Err (stops.Said s)) = Checks old new k p g (said_of s)
+ChecksBoth old new k p g (Err stops.NoMemory) = Free
+
+abbrev pub ChecksFiles : KnownFiles → KnownFiles → CheckCommand → Result Said Stop → Type 0
+ChecksFiles old new k (Ok s) = CheckAnswers old new k (said_of s)
+ChecksFiles old new k (Err (stops.Said s)) = CheckAnswers old new k (said_of s)
+ChecksFiles old new k (Err stops.NoMemory) = Free
+
+-- ---- texts
+
+-- the texts of an answer with this status: this one on err alone
+pub record IsOnErr (status : Status) (text : List ℕ) (r : Reply) : Type 0 where
+  pub status_is : r.status ≡ status
+  pub journal : r.journal.items ≡ []
+  pub result : r.result.items ≡ []
+  pub err : r.err.items ≡ text
+
+-- and these on out alone
+pub record IsOnOut (status : Status) (journal text : List ℕ) (r : Reply) : Type 0 where
+  pub status_is : r.status ≡ status
+  pub journal_is : r.journal.items ≡ journal
+  pub result : r.result.items ≡ text
+  pub err : r.err.items ≡ []
 
 -- ---- what is written
 

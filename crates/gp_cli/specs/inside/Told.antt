@@ -8,6 +8,8 @@ use Rattle.gp_reader.specs.declared.fault.ProgramFault.{ProgramFault}
 use Rattle.gp_reader.specs.declared.fault.ProgramFault.TheVariants as program
 use Rattle.gp_hostfile.specs.declared.fault.HostFault.{HostFault}
 use Rattle.gp_hostfile.specs.declared.fault.HostFault.TheVariants as host
+use Rattle.gp_trace.specs.declared.fault.TraceFault.{TraceFault}
+use Rattle.gp_trace.specs.declared.fault.TraceFault.TheVariants as trace
 use Rattle.gp_cli.specs.declared.said.Stop.{Stop}
 use Rattle.gp_cli.specs.declared.said.Stop.TheVariants as stops
 
@@ -15,11 +17,16 @@ abbrev pub said_of : Said → texts.Said
 said_of (code.Graph j) = texts.graph (items_of j.items) j.trail.graph
 said_of (code.Fail j) = texts.failed (items_of j.items)
 said_of (code.Demo kind size j) = texts.demo_done kind size (items_of j.items) j.trail.graph
+said_of code.Derivation = texts.derivation
+said_of code.NoDerivation = texts.no_derivation
 said_of code.Usage = texts.usage
 said_of code.LongProgram = texts.long_program
 said_of (code.BadProgram f) = texts.bad_program f
 said_of code.LongHost = texts.long_host
 said_of (code.BadHost f) = texts.bad_host f
+said_of code.LongTrace = texts.long_trace
+said_of (code.BadTrace line) = texts.bad_trace line
+said_of code.LongResult = texts.long_result
 said_of (code.Bound n) = texts.bound_spent n
 said_of (code.Number name kind) = texts.number_fault name kind
 said_of (code.Unread name) = texts.unread name.now
@@ -44,6 +51,11 @@ host_refused (host.TwoEdges name) = stops.Said (code.BadHost (host.TwoEdges name
 host_refused (host.NoSuchEnd name) = stops.Said (code.BadHost (host.NoSuchEnd name))
 host_refused (host.WrongMark name) = stops.Said (code.BadHost (host.WrongMark name))
 host_refused host.NoMemory = stops.NoMemory
+
+-- of a trace
+abbrev pub trace_refused : TraceFault → Stop
+trace_refused (trace.Line line) = stops.Said (code.BadTrace line)
+trace_refused trace.NoMemory = stops.NoMemory
 
 -- this is answered, and not want of memory
 abbrev pub IsAnswer : Result Said Stop → texts.Said → Type 0

@@ -6,4 +6,5 @@ use Rattle.gp_words.proofs.apps.top_command.Goals as goal
 pub returns : goal.returns
 returns c =
     let above_run = c.in_ok-above_run.ensures refl ∙ ap₂ with_subcommand c.plain_top.ensures refl in
-    IfOk-weaker c.above-2.result _ _ (λ r h. h refl ∙ ap₂ with_subcommand above_run refl) c.above-2.ensures
+    let above_demo = c.in_ok-above_demo.ensures refl ∙ ap₂ with_subcommand above_run refl in
+    IfOk-weaker c.above-3.result _ _ (λ r h. h refl ∙ ap₂ with_subcommand above_demo refl) c.above-3.ensures
