@@ -6,7 +6,7 @@ _gp2() {
     --bound | --seed | --workers | --fan) return ;;
   esac
   if [ "$COMP_CWORD" -eq 1 ]; then
-    mapfile -t COMPREPLY < <(compgen -W "run demo" -- "$word")
+    mapfile -t COMPREPLY < <(compgen -W "run demo check" -- "$word")
     return
   fi
   if [ "${COMP_WORDS[1]}" = demo ]; then
@@ -14,8 +14,13 @@ _gp2() {
     elif [[ $word == -* ]]; then mapfile -t COMPREPLY < <(compgen -W "--workers --fan" -- "$word"); fi
     return
   fi
+  if [ "${COMP_WORDS[1]}" = check ] && [ "$COMP_CWORD" -gt 3 ]; then # the trace and the result: any file
+    compopt -o filenames 2>/dev/null
+    mapfile -t COMPREPLY < <([ "$COMP_CWORD" -gt 5 ] || compgen -f -- "$word")
+    return
+  fi
   if [[ $word == -* ]]; then
-    mapfile -t COMPREPLY < <(compgen -W "--bound --seed --journal --workers --fan" -- "$word")
+    [ "${COMP_WORDS[1]}" = check ] || mapfile -t COMPREPLY < <(compgen -W "--bound --seed --journal --workers --fan" -- "$word")
     return
   fi
   # How many files stand before this word: the first is the program, the second the host.

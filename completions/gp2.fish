@@ -9,3 +9,5 @@ complete -c gp2 -n __fish_use_subcommand -a demo -d 'Run a workload made from a 
 complete -c gp2 -n '__fish_seen_subcommand_from run demo' -l workers -x -d 'How many workers search at the same time'
 complete -c gp2 -n '__fish_seen_subcommand_from run demo' -l fan -x -d 'With how many candidates a search begins that all workers make'
 complete -c gp2 -n '__fish_seen_subcommand_from demo' -a 'closure colour tree'
+complete -c gp2 -n __fish_use_subcommand -a check -d 'Say whether a journal and a result are those of a run'
+complete -c gp2 -n '__fish_seen_subcommand_from check' -F
