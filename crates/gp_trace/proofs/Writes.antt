@@ -1,12 +1,14 @@
 -- What is written for items.
-use Rattle.std.proofs.Common.{◌≡◌, ℕ, suc, zero, ◌+◌, ◌<◌, ◌≤◌, get_or, arith, Bool, List, [], ◌∷◌, ◌++◌, map, take, length, refl, sym, ap, ◌∙◌, decimal, append_assoc, append-nil}
-use Rattle.std.specs.Prelude.{codes, flat_map, Result, Ok, Err, OnOk, OnErr}
+use Rattle.std.proofs.Common.{◌≡◌, ℕ, suc, zero, ◌+◌, ◌<◌, ◌≤◌, ◌^◌, get_or, arith, List, [], ◌∷◌, ◌++◌, map, take, length, refl, sym, ap, subst, ◌∙◌, decimal, append_assoc, append-nil}
+use Rattle.std.specs.Prelude.{All, codes, flat_map, Result, Ok, Err, OnOk, OnErr}
 use Rattle.std.specs.List.{join_with_byte}
+use Rattle.std.proofs.lemmas.List.{take_all, length-map}
+use Rattle.std.proofs.lemmas.List.Elements.{All-map}
 use Rattle.gp_syntax.specs.declared.found.EdgeImage.{EdgeImage}
 use Rattle.gp_syntax.specs.Rule.{Found}
-use Rattle.gp_trace.specs.TraceText.{image_word, images_of, found_words, found_line, trace_text}
+use Rattle.gp_trace.specs.TraceText.{image_word, images_of, found_line, trace_text}
 use Rattle.gp_syntax.specs.Run.{Item}
-use Rattle.gp_trace.specs.Reading.{BeginsTrace}
+use Rattle.gp_trace.specs.Reading.{IsNumber, IsHeld, BeginsTrace}
 use Rattle.gp_trace.specs.inside.Lines.{spaced}
 
 pub joined_spaced : (w : List ℕ) (ws : List (List ℕ)) → join_with_byte 32 (w ∷ ws) ≡ w ++ spaced ws
@@ -48,20 +50,14 @@ one_more f g xs k d t0 t t' b was now =
     let e : suc k ≡ k + 1 = omega arith in
     now ∙ ap (λ l. l ++ f (g (get_or xs k d))) was ∙ append_assoc t0 _ _ ∙ ap (λ l. t0 ++ l) (sym (more_at f g xs k d b)) ∙ ap (λ j. t0 ++ flat_map f (map g (take j xs))) e
 
-take_all : {A : Type 0} (xs : List A) (k : ℕ) → length xs ≤ k → take k xs ≡ xs
-take_all [] zero b = refl
-take_all [] (suc k) b = refl
-take_all (x ∷ xs) zero b = absurd (omega arith)
-take_all (x ∷ xs) (suc k) b = ap (λ l. x ∷ l) (take_all xs k (omega arith))
-
 pub all_written : {A B : Type 0} (f : B → List ℕ) (g : A → B) (xs : List A) (k : ℕ) (t0 t : List ℕ) → length xs ≤ k
     → t ≡ t0 ++ flat_map f (map g (take k xs)) → t ≡ t0 ++ flat_map f (map g xs)
-all_written f g xs k t0 t b h = h ∙ ap (λ l. t0 ++ flat_map f (map g l)) (take_all xs k b)
+all_written f g xs k t0 t b h = h ∙ ap (λ l. t0 ++ flat_map f (map g l)) (take_all k xs b)
 
 behind : (t s u p q : List ℕ) → t ≡ s ++ p → s ≡ u ++ q → t ≡ u ++ (q ++ p)
 behind t s u p q h k = h ∙ ap (λ l. l ++ p) k ∙ append_assoc u q p
 
-on_ok : {T E P Q : Type 0} (r : Result T E) → OnOk r P → (P → Q) → OnOk r Q
+pub on_ok : {T E P Q : Type 0} (r : Result T E) → OnOk r P → (P → Q) → OnOk r Q
 on_ok (Ok x) h f = f h
 on_ok (Err e) h f = tt
 
@@ -80,6 +76,20 @@ pub step_written : {T E : Type 0} (r : Result T E) (m : Found) (images : List Ed
 step_written r m images rule nodes t0 t1 t2 t3 t4 t5 t6 t7 he hr h hn e1 e2 e3 e4 e5 e6 e7 =
     on_ok r e7 (λ e. behind t7 t1 t0 _ _ (behind t7 t2 t1 _ _ (behind t7 t3 t2 _ _ (behind t7 t4 t3 _ _ (behind t7 t5 t4 _ _ (behind t7 t6 t5 _ _ e e6) e5) e4) e3) e2) e1
     ∙ ap (λ l. t0 ++ l) (line_of_pieces m images rule nodes he hr h hn))
+
+-- ---- what can be held
+
+pub all_held : {A : Type 0} (P : A → Type 0) (xs : List A) (k : ℕ) → length xs ≤ k → All P (take k xs) → All P xs
+all_held P xs k b h = subst (All P) (take_all k xs b) h
+
+pub found_held : (m : Found) (images : List EdgeImage) (nodes : List ℕ) → map (λ (i : EdgeImage). i.number) images ≡ m.edges → map (λ (i : EdgeImage). i.reversed) images ≡ m.reversed → nodes ≡ m.nodes
+    → m.rule < 2 ^ 32 → All IsNumber nodes → All (λ (i : EdgeImage). IsNumber i.number) images → IsHeld m
+found_held m images nodes he hr hn rule numbers held = record {
+  rule = rule;
+  nodes = subst (All IsNumber) hn numbers;
+  edges = subst (All IsNumber) he (All-map IsNumber (λ (i : EdgeImage). i.number) images held);
+  directions = ap length (sym hr) ∙ length-map images (λ (i : EdgeImage). i.reversed) ∙ sym (length-map images (λ (i : EdgeImage). i.number)) ∙ ap length he;
+}
 
 -- what was refused before anything was written
 pub nothing_written : {T E : Type 0} (r : Result T E) (items : List Item) (before after : List ℕ) → after ≡ before → OnErr r (BeginsTrace items before after)

@@ -1,10 +1,10 @@
 //! The texts of traces.
 
-ghost use Rattle.std.specs.Prelude.{◌≡◌, ◌++◌, map, codes, OnOk, OnErr, IfOk};
+ghost use Rattle.std.specs.Prelude.{◌≡◌, ◌++◌, map, codes, All, OnOk, OnErr, IfOk};
 ghost use Rattle.std.specs.Fmt.{decimal};
 ghost use Rattle.gp_syntax.specs.Tree.{item_of};
 ghost use Rattle.gp_trace.specs.TraceText.{item_line, found_line, image_word, trace_text};
-ghost use Rattle.gp_trace.specs.Reading.{BeginsTrace};
+ghost use Rattle.gp_trace.specs.Reading.{IsNumber, IsHeld, CanBeHeld, BeginsTrace};
 ghost use Rattle.gp_trace.specs.inside.Lines.{spaced, item_lines};
 
 use gp_memory::NoMemory;
@@ -15,6 +15,7 @@ use std::alloc::Global;
 /// Puts the text of the items, which are of version 2, behind what `text` holds. On refusal `text` is as before.
 pub fn write_trace(alloc: Global, items: &[Item], text: &mut Vec<u8>) -> Result<(), NoMemory>
     ensures ok { OnOk result (text.new.items ≡ text.old.items ++ trace_text (map item_of items.now)) }
+    ensures held { OnOk result (All CanBeHeld (map item_of items.now)) }
     ensures err { OnErr result (BeginsTrace (map item_of items.now) text.old.items text.new.items) }
     ensures unchanged { OnErr result (text.new.items ≡ text.old.items) }
 {
@@ -24,7 +25,8 @@ pub fn write_trace(alloc: Global, items: &[Item], text: &mut Vec<u8>) -> Result<
 }
 
 fn text_of(alloc: Global, items: &[Item]) -> Result<Vec<u8>, NoMemory>
-    ensures { IfOk result (λ v. v.items ≡ trace_text (map item_of items.now)) }
+    ensures text { IfOk result (λ v. v.items ≡ trace_text (map item_of items.now)) }
+    ensures held { OnOk result (All CanBeHeld (map item_of items.now)) }
 {
     let mut text = Vec::new(alloc);
     write(b"gp2-trace 2\n", &mut text)?;
@@ -41,13 +43,15 @@ fn write(piece: &[u8], text: &mut Vec<u8>) -> Result<(), NoMemory>
 }
 
 fn write_number(number: u64, text: &mut Vec<u8>) -> Result<(), NoMemory>
-    ensures { OnOk result (text.new.items ≡ text.old.items ++ decimal number) }
+    ensures text { OnOk result (text.new.items ≡ text.old.items ++ decimal number) }
+    ensures held { OnOk result (IsNumber number) }
 {
     write(Buffer::new().format(number).as_bytes(), text)
 }
 
 fn write_items(items: &[Item], text: &mut Vec<u8>) -> Result<(), NoMemory>
-    ensures { OnOk result (text.new.items ≡ text.old.items ++ item_lines (map item_of items.now)) }
+    ensures text { OnOk result (text.new.items ≡ text.old.items ++ item_lines (map item_of items.now)) }
+    ensures held { OnOk result (All CanBeHeld (map item_of items.now)) }
 {
     for item in items {
         write_item(item, text)?;
@@ -56,7 +60,8 @@ fn write_items(items: &[Item], text: &mut Vec<u8>) -> Result<(), NoMemory>
 }
 
 fn write_item(item: &Item, text: &mut Vec<u8>) -> Result<(), NoMemory>
-    ensures { OnOk result (text.new.items ≡ text.old.items ++ item_line (item_of item.now)) }
+    ensures text { OnOk result (text.new.items ≡ text.old.items ++ item_line (item_of item.now)) }
+    ensures held { OnOk result (CanBeHeld (item_of item.now)) }
 {
     match item {
         Item::Step(found) => write_step(found, text),
@@ -70,7 +75,8 @@ fn write_item(item: &Item, text: &mut Vec<u8>) -> Result<(), NoMemory>
 }
 
 fn write_step(found: &Found, text: &mut Vec<u8>) -> Result<(), NoMemory>
-    ensures { OnOk result (text.new.items ≡ text.old.items ++ found_line found.now) }
+    ensures text { OnOk result (text.new.items ≡ text.old.items ++ found_line found.now) }
+    ensures held { OnOk result (IsHeld found.now) }
 {
     write(b"step ", text)?;
     write_number(u64::from(found.rule()), text)?;
@@ -82,7 +88,8 @@ fn write_step(found: &Found, text: &mut Vec<u8>) -> Result<(), NoMemory>
 }
 
 fn write_nodes(nodes: &[u64], text: &mut Vec<u8>) -> Result<(), NoMemory>
-    ensures { OnOk result (text.new.items ≡ text.old.items ++ spaced (map decimal nodes.now)) }
+    ensures text { OnOk result (text.new.items ≡ text.old.items ++ spaced (map decimal nodes.now)) }
+    ensures held { OnOk result (All IsNumber nodes.now) }
 {
     for node in nodes {
         write(b" ", text)?;
@@ -92,7 +99,8 @@ fn write_nodes(nodes: &[u64], text: &mut Vec<u8>) -> Result<(), NoMemory>
 }
 
 fn write_edges(edges: &[EdgeImage], text: &mut Vec<u8>) -> Result<(), NoMemory>
-    ensures { OnOk result (text.new.items ≡ text.old.items ++ spaced (map image_word edges.now)) }
+    ensures text { OnOk result (text.new.items ≡ text.old.items ++ spaced (map image_word edges.now)) }
+    ensures held { OnOk result (All (λ i. IsNumber i.number) edges.now) }
 {
     for edge in edges {
         write_edge(*edge, text)?;
@@ -101,7 +109,8 @@ fn write_edges(edges: &[EdgeImage], text: &mut Vec<u8>) -> Result<(), NoMemory>
 }
 
 fn write_edge(edge: EdgeImage, text: &mut Vec<u8>) -> Result<(), NoMemory>
-    ensures { OnOk result (text.new.items ≡ text.old.items ++ codes " " ++ image_word edge) }
+    ensures text { OnOk result (text.new.items ≡ text.old.items ++ codes " " ++ image_word edge) }
+    ensures held { OnOk result (IsNumber edge.number) }
 {
     write(b" ", text)?;
     write_number(edge.number, text)?;

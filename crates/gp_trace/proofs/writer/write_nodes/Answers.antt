@@ -1,4 +1,6 @@
-use Rattle.std.proofs.Common.{ℕ, List, ◌∷◌, ◌++◌, get_or, decimal, ap, ◌∙◌, append_assoc}
+use Rattle.std.proofs.Common.{ℕ, List, ◌∷◌, ◌++◌, get_or, decimal, ap, arith, ◌∙◌, append_assoc}
+use Rattle.std.proofs.lemmas.List.Elements.{All-from_get_or}
+use Rattle.gp_trace.specs.Reading.{IsNumber}
 use Rattle.gp_trace.proofs.Writes.{one_more, all_written}
 use Rattle.gp_trace.proofs.writer.write_nodes.Goals as goal
 
@@ -6,7 +8,10 @@ pub loop-node-preserved : goal.loop-node-preserved
 loop-node-preserved c =
     let word = decimal (get_or c.args.nodes.now c.loop-node.node-index 0) in
     one_more (λ (w : List ℕ). 32 ∷ w) decimal c.args.nodes.now c.loop-node.node-index 0 c.args.text.now.items c.loop-node.text.items c.write_number.new.text.items c.loop-node-test.true c.loop-node.invariant
-    (c.in_ok-write_number.ensures ∙ ap (λ l. l ++ word) c.in_ok-write.ensures ∙ append_assoc c.loop-node.text.items _ word)
+    (c.in_ok-write_number.ensures.text ∙ ap (λ l. l ++ word) c.in_ok-write.ensures ∙ append_assoc c.loop-node.text.items _ word)
 
-pub returns : goal.returns
-returns c = all_written (λ (w : List ℕ). 32 ∷ w) decimal c.args.nodes.now c.loop-node.node-index c.args.text.now.items c.loop-node.text.items c.loop-node-test.false c.loop-node.invariant
+pub returns-clause-text : goal.returns-clause-text
+returns-clause-text c = all_written (λ (w : List ℕ). 32 ∷ w) decimal c.args.nodes.now c.loop-node.node-index c.args.text.now.items c.loop-node.text.items c.loop-node-test.false c.loop-node.invariant
+
+pub returns-clause-held : goal.returns-clause-held
+returns-clause-held c = All-from_get_or IsNumber c.args.nodes.now 0 (λ i b. let fits = c.type_inv.nodes i in omega arith)
