@@ -2,6 +2,7 @@
 
 mod answers;
 mod calls;
+mod checks;
 mod crews;
 mod demos;
 mod devices;

@@ -19,6 +19,7 @@ pub(crate) enum Kind {
     Upgrades,
     Upgraded,
     Certified,
+    Derivations,
     Replays,
     Parts,
     Commands,
@@ -26,7 +27,7 @@ pub(crate) enum Kind {
 }
 
 /// The files of rows, `NAME.rows`, and the kind of each.
-pub(crate) const FILES: [(&'static str, Kind); 13] = [
+pub(crate) const FILES: [(&'static str, Kind); 14] = [
     ("edits", Kind::Edits),
     ("leads", Kind::Leads),
     ("walks", Kind::Walks),
@@ -36,6 +37,7 @@ pub(crate) const FILES: [(&'static str, Kind); 13] = [
     ("upgrades", Kind::Upgrades),
     ("upgraded", Kind::Upgraded),
     ("certified", Kind::Certified),
+    ("derivations", Kind::Derivations),
     ("replays", Kind::Replays),
     ("parts", Kind::Parts),
     ("commands", Kind::Commands),
@@ -60,6 +62,7 @@ pub(crate) fn answer<R: Threads + Wait + Sync>(
         Kind::Upgrades => upgrades::answer(alloc, fields, out),
         Kind::Upgraded => upgrades::graph(alloc, fields, out),
         Kind::Certified => certified::answer(alloc, fields, out),
+        Kind::Derivations => certified::derivation(alloc, fields, out),
         Kind::Replays => random::replays(alloc, fields, out),
         Kind::Parts => random::parts(alloc, fields, out),
         Kind::Commands => commands::answer(rt, alloc, fields, out),

@@ -56,8 +56,8 @@ impl<'a> Call<'a> {
     }
 }
 
-// Adds a file of that name and text, unless memory is refused for it.
-fn add(alloc: Global, files: &mut Vec<(String, Vec<u8>)>, name: &str, text: &[u8]) {
+/// Adds a file of that name and text, unless memory is refused for it.
+pub(crate) fn add(alloc: Global, files: &mut Vec<(String, Vec<u8>)>, name: &str, text: &[u8]) {
     if let Ok(name) = String::from_str(alloc, name) {
         if let Ok(text) = Vec::from_slice(alloc, text) {
             let _ = files.push((name, text));
@@ -93,7 +93,7 @@ pub(crate) fn sink(
 
 /// Tells the status, and then what is on out and what is on err, each behind a line of its name where there is something.
 pub(crate) fn put_shown(status: u8, out: &[u8], err: &[u8], told: &mut Answer) {
-    told.put(&[b'0'.wrapping_add(status)]);
+    told.number(u64::from(status));
     if !out.is_empty() {
         told.put(b" out\n");
         told.put(out);

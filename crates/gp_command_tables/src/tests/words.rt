@@ -4,12 +4,12 @@ use crate::tests::answers::{Answer, expect};
 use crate::tests::calls::words_of;
 use gp_gen::Kind;
 use gp_memory::NoMemory;
-use gp_words::{Command, DemoCommand, RunCommand, command_of};
+use gp_words::{CheckCommand, Command, DemoCommand, RunCommand, command_of};
 use std::alloc::Global;
 use std::test::Fail;
 
 // Words, and the parts of their command: its names, and then its numbers, where a run has its workers, its bound, its fan,
-// its seed, and 1 for the journal, and a demo its size, its seed, its workers and its fan.
+// its seed, and 1 for the journal, a demo its size, its seed, its workers and its fan, and a check none.
 const COMMANDS: &str = "run p h => p h 1 1000000 64 0 0
 run p h --bound 10 => p h 1 10 64 0 0
 run --bound=007 p h => p h 1 7 64 0 0
@@ -26,7 +26,10 @@ demo colour 500 007 => colour 500 7 1 64
 demo tree 18 0 => tree 18 0 1 64
 demo closure 1 7 --workers 4 --fan 1 => closure 1 7 4 1
 demo --fan 2 --workers 3 tree 1 9 => tree 1 9 3 2
-demo closure 500 18446744073709551615 => closure 500 18446744073709551615 1 64";
+demo closure 500 18446744073709551615 => closure 500 18446744073709551615 1 64
+check p h t r => p h t r
+check -- -p --h t -r => -p --h t -r
+check p  t r => p  t r";
 
 /// Words that are no command, a line each; the first line has none.
 pub(crate) const OTHER_WORDS: &str = "
@@ -59,6 +62,11 @@ demo closure 3 18446744073709551616
 demo closure 3 1 --journal
 demo closure 3 1 --bound 5
 demo closure 3 1 --workers 0
+check
+check p h t
+check p h t r x
+check p h t r --journal
+check p h t r --workers 2
 --help
 help";
 
@@ -86,6 +94,15 @@ fn put_demo(c: &DemoCommand, told: &mut Answer) {
     told.numbers(&[c.size, c.seed, u64::from(c.workers), u64::from(c.fan)]);
 }
 
+// Tells the names of a check.
+fn put_check(c: &CheckCommand<'_>, told: &mut Answer) {
+    told.put(c.program.as_bytes());
+    for name in &[c.host, c.trace, c.result] {
+        told.put(b" ");
+        told.put(name.as_bytes());
+    }
+}
+
 // What the command of a line of words is.
 fn told_of(alloc: Global, line: &str) -> Result<Answer, NoMemory> {
     let mut told = Answer::new(alloc);
@@ -93,6 +110,7 @@ fn told_of(alloc: Global, line: &str) -> Result<Answer, NoMemory> {
     match command_of(alloc, &words)? {
         Some(Command::Run(command)) => put_run(&command, &mut told),
         Some(Command::Demo(command)) => put_demo(&command, &mut told),
+        Some(Command::Check(command)) => put_check(&command, &mut told),
         None => told.word("none"),
     }
     Ok(told)

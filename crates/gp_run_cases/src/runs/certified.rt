@@ -2,6 +2,7 @@
 
 use crate::runs::replay::text_of;
 use gp_certify::{Checked, certify};
+use gp_derivation::is_derivation;
 use gp_hostfile::read_host;
 use gp_reader::read_program;
 use gp_rows::{Answer, Wrong, field};
@@ -30,4 +31,21 @@ fn put_checked(alloc: Global, checked: &Checked, out: &mut Answer) {
     }
     out.word_if(checked.fail, b"fail");
     out.word_if(checked.graph.is_none() && !checked.fail, b"none");
+}
+
+/// Whether a trace of either version and the text of a result are a derivation of a program on a host.
+pub(crate) fn derivation(alloc: Global, fields: &[Vec<u8>], out: &mut Answer) {
+    match is_derived(alloc, fields) {
+        Ok(true) => out.word(b"derivation"),
+        Ok(false) => out.word(b"none"),
+        Err(wrong) => out.wrong(wrong),
+    }
+}
+
+fn is_derived(alloc: Global, fields: &[Vec<u8>]) -> Result<bool, Wrong> {
+    let program = read_program(alloc, field(fields, 0))?;
+    let host = read_host(alloc, field(fields, 1))?;
+    let (version, items) = read_trace(alloc, field(fields, 2))?;
+    let text = field(fields, 3);
+    Ok(is_derivation(alloc, &program, &host, version, &items, text)?)
 }
