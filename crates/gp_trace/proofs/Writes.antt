@@ -2,14 +2,14 @@
 use Rattle.std.proofs.Common.{◌≡◌, ℕ, suc, zero, ◌+◌, ◌<◌, ◌≤◌, ◌^◌, get_or, arith, List, [], ◌∷◌, ◌++◌, map, take, length, refl, sym, ap, subst, ◌∙◌, decimal, append_assoc, append-nil}
 use Rattle.std.specs.Prelude.{All, codes, flat_map, Result, Ok, Err, OnOk, OnErr}
 use Rattle.std.specs.List.{join_with_byte}
-use Rattle.std.proofs.lemmas.List.{take_all, length-map}
+use Rattle.std.proofs.lemmas.List.{take_all, take_at, length-map}
 use Rattle.std.proofs.lemmas.List.Elements.{All-map}
 use Rattle.gp_syntax.specs.declared.found.EdgeImage.{EdgeImage}
 use Rattle.gp_syntax.specs.Rule.{Found}
 use Rattle.gp_trace.specs.TraceText.{image_word, images_of, found_line, trace_text}
 use Rattle.gp_syntax.specs.Run.{Item}
 use Rattle.gp_trace.specs.Reading.{IsNumber, IsHeld, BeginsTrace}
-use Rattle.gp_trace.specs.inside.Lines.{spaced}
+use Rattle.gp_trace.specs.inside.Lines.{spaced, AddsBehind}
 
 pub joined_spaced : (w : List ℕ) (ws : List (List ℕ)) → join_with_byte 32 (w ∷ ws) ≡ w ++ spaced ws
 joined_spaced w [] = sym (append-nil w)
@@ -90,6 +90,25 @@ found_held m images nodes he hr hn rule numbers held = record {
   edges = subst (All IsNumber) he (All-map IsNumber (λ (i : EdgeImage). i.number) images held);
   directions = ap length (sym hr) ∙ length-map images (λ (i : EdgeImage). i.reversed) ∙ sym (length-map images (λ (i : EdgeImage). i.number)) ∙ ap length he;
 }
+
+-- ---- what is there after a refusal
+
+pub as_before : (u t : List ℕ) → t ≡ u → AddsBehind u t
+as_before u t e = record { piece = []; after_is = e ∙ sym (append-nil u) }
+
+pub further : (u t t' p : List ℕ) → t ≡ u ++ p → AddsBehind t t' → AddsBehind u t'
+further u t t' p e h = record { piece = p ++ h.piece; after_is = h.after_is ∙ ap (λ l. l ++ h.piece) e ∙ append_assoc u p h.piece }
+
+pub on_err : {T E P Q : Type 0} (r : Result T E) → OnErr r P → (P → Q) → OnErr r Q
+on_err (Ok x) h f = tt
+on_err (Err e) h f = f h
+
+pub at_err : {T E P : Type 0} (r : Result T E) → P → OnErr r P
+at_err (Ok x) h = tt
+at_err (Err e) h = h
+
+pub cut_back : (before after : List ℕ) → AddsBehind before after → take (length before) after ≡ before
+cut_back before after h = ap (take (length before)) h.after_is ∙ take_at before h.piece (length before) refl
 
 -- what was refused before anything was written
 pub nothing_written : {T E : Type 0} (r : Result T E) (items : List Item) (before after : List ℕ) → after ≡ before → OnErr r (BeginsTrace items before after)

@@ -5,7 +5,7 @@ ghost use Rattle.std.specs.Fmt.{decimal};
 ghost use Rattle.gp_syntax.specs.Tree.{item_of};
 ghost use Rattle.gp_trace.specs.TraceText.{item_line, found_line, image_word, trace_text};
 ghost use Rattle.gp_trace.specs.Reading.{IsNumber, IsHeld, CanBeHeld, BeginsTrace};
-ghost use Rattle.gp_trace.specs.inside.Lines.{spaced, item_lines};
+ghost use Rattle.gp_trace.specs.inside.Lines.{spaced, item_lines, AddsBehind};
 
 use gp_memory::NoMemory;
 use gp_syntax::{EdgeImage, Found, Item};
@@ -36,7 +36,8 @@ fn text_of(alloc: Global, items: &[Item]) -> Result<Vec<u8>, NoMemory>
 }
 
 fn write(piece: &[u8], text: &mut Vec<u8>) -> Result<(), NoMemory>
-    ensures { OnOk result (text.new.items ≡ text.old.items ++ piece.now) }
+    ensures text { OnOk result (text.new.items ≡ text.old.items ++ piece.now) }
+    ensures kept { OnErr result (AddsBehind text.old.items text.new.items) }
 {
     text.extend_from_slice(piece)?;
     Ok(())
@@ -45,6 +46,7 @@ fn write(piece: &[u8], text: &mut Vec<u8>) -> Result<(), NoMemory>
 fn write_number(number: u64, text: &mut Vec<u8>) -> Result<(), NoMemory>
     ensures text { OnOk result (text.new.items ≡ text.old.items ++ decimal number) }
     ensures held { OnOk result (IsNumber number) }
+    ensures kept { OnErr result (AddsBehind text.old.items text.new.items) }
 {
     write(Buffer::new().format(number).as_bytes(), text)
 }
@@ -54,14 +56,29 @@ fn write_items(items: &[Item], text: &mut Vec<u8>) -> Result<(), NoMemory>
     ensures held { OnOk result (All CanBeHeld (map item_of items.now)) }
 {
     for item in items {
-        write_item(item, text)?;
+        write_line(item, text)?;
     }
     Ok(())
 }
 
-fn write_item(item: &Item, text: &mut Vec<u8>) -> Result<(), NoMemory>
+/// Puts the line of an item behind what `text` holds. On refusal `text` is as before.
+pub fn write_item(item: &Item, text: &mut Vec<u8>) -> Result<(), NoMemory>
+    ensures ok { OnOk result (text.new.items ≡ text.old.items ++ item_line (item_of item.now)) }
+    ensures held { OnOk result (CanBeHeld (item_of item.now)) }
+    ensures unchanged { OnErr result (text.new.items ≡ text.old.items) }
+{
+    let before = text.len();
+    if let Err(refusal) = write_line(item, text) {
+        text.truncate(before);
+        return Err(refusal);
+    }
+    Ok(())
+}
+
+fn write_line(item: &Item, text: &mut Vec<u8>) -> Result<(), NoMemory>
     ensures text { OnOk result (text.new.items ≡ text.old.items ++ item_line (item_of item.now)) }
     ensures held { OnOk result (CanBeHeld (item_of item.now)) }
+    ensures kept { OnErr result (AddsBehind text.old.items text.new.items) }
 {
     match item {
         Item::Step(found) => write_step(found, text),
@@ -77,6 +94,7 @@ fn write_item(item: &Item, text: &mut Vec<u8>) -> Result<(), NoMemory>
 fn write_step(found: &Found, text: &mut Vec<u8>) -> Result<(), NoMemory>
     ensures text { OnOk result (text.new.items ≡ text.old.items ++ found_line found.now) }
     ensures held { OnOk result (IsHeld found.now) }
+    ensures kept { OnErr result (AddsBehind text.old.items text.new.items) }
 {
     write(b"step ", text)?;
     write_number(u64::from(found.rule()), text)?;
@@ -90,6 +108,7 @@ fn write_step(found: &Found, text: &mut Vec<u8>) -> Result<(), NoMemory>
 fn write_nodes(nodes: &[u64], text: &mut Vec<u8>) -> Result<(), NoMemory>
     ensures text { OnOk result (text.new.items ≡ text.old.items ++ spaced (map decimal nodes.now)) }
     ensures held { OnOk result (All IsNumber nodes.now) }
+    ensures kept { OnErr result (AddsBehind text.old.items text.new.items) }
 {
     for node in nodes {
         write(b" ", text)?;
@@ -101,6 +120,7 @@ fn write_nodes(nodes: &[u64], text: &mut Vec<u8>) -> Result<(), NoMemory>
 fn write_edges(edges: &[EdgeImage], text: &mut Vec<u8>) -> Result<(), NoMemory>
     ensures text { OnOk result (text.new.items ≡ text.old.items ++ spaced (map image_word edges.now)) }
     ensures held { OnOk result (All (λ i. IsNumber i.number) edges.now) }
+    ensures kept { OnErr result (AddsBehind text.old.items text.new.items) }
 {
     for edge in edges {
         write_edge(*edge, text)?;
@@ -111,6 +131,7 @@ fn write_edges(edges: &[EdgeImage], text: &mut Vec<u8>) -> Result<(), NoMemory>
 fn write_edge(edge: EdgeImage, text: &mut Vec<u8>) -> Result<(), NoMemory>
     ensures text { OnOk result (text.new.items ≡ text.old.items ++ codes " " ++ image_word edge) }
     ensures held { OnOk result (IsNumber edge.number) }
+    ensures kept { OnErr result (AddsBehind text.old.items text.new.items) }
 {
     write(b" ", text)?;
     write_number(edge.number, text)?;

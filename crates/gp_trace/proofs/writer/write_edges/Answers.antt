@@ -3,7 +3,7 @@ use Rattle.std.proofs.lemmas.List.Elements.{All-nil, All-more}
 use Rattle.gp_syntax.specs.declared.found.EdgeImage.{EdgeImage}
 use Rattle.gp_trace.specs.TraceText.{image_word}
 use Rattle.gp_trace.specs.Reading.{IsNumber}
-use Rattle.gp_trace.proofs.Writes.{one_more, all_written, all_held}
+use Rattle.gp_trace.proofs.Writes.{one_more, all_written, all_held, further, at_err}
 use Rattle.gp_trace.proofs.writer.write_edges.Goals as goal
 
 pub loop-edge-init : goal.loop-edge-init
@@ -21,3 +21,6 @@ returns-clause-text c = all_written (λ (w : List ℕ). 32 ∷ w) image_word c.a
 
 pub returns-clause-held : goal.returns-clause-held
 returns-clause-held c = all_held (λ (i : EdgeImage). IsNumber i.number) c.args.edges.now c.loop-edge.edge-index c.loop-edge-test.false c.loop-edge.invariant.held
+
+pub returns-in_err-write_edge-clause-kept : goal.returns-in_err-write_edge-clause-kept
+returns-in_err-write_edge-clause-kept c = at_err c.from_residual.result (further _ _ _ _ c.loop-edge.invariant.text c.in_err-write_edge.ensures.kept)

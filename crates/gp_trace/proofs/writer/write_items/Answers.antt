@@ -12,10 +12,10 @@ loop-item-init c = record { text = sym (append-nil c.args.text.now.items); held 
 
 pub loop-item-preserved : goal.loop-item-preserved
 loop-item-preserved c = record {
-  text = one_more item_line item_of c.args.items.now c.loop-item.item-index c.item-item.result c.args.text.now.items c.loop-item.text.items c.write_item.new.text.items c.loop-item-test.true c.loop-item.invariant.text
-      (c.in_ok-write_item.ensures.text ∙ ap (λ (x : Item). c.loop-item.text.items ++ item_line (item_of x)) c.item-item.is);
+  text = one_more item_line item_of c.args.items.now c.loop-item.item-index c.item-item.result c.args.text.now.items c.loop-item.text.items c.write_line.new.text.items c.loop-item-test.true c.loop-item.invariant.text
+      (c.in_ok-write_line.ensures.text ∙ ap (λ (x : Item). c.loop-item.text.items ++ item_line (item_of x)) c.item-item.is);
   held = All-more (λ (i : Item). CanBeHeld (item_of i)) c.args.items.now c.loop-item.item-index c.item-item.result c.loop-item-test.true c.loop-item.invariant.held
-      (subst (λ (i : Item). CanBeHeld (item_of i)) c.item-item.is c.in_ok-write_item.ensures.held);
+      (subst (λ (i : Item). CanBeHeld (item_of i)) c.item-item.is c.in_ok-write_line.ensures.held);
 }
 
 pub returns-clause-text : goal.returns-clause-text
