@@ -1,1 +1,5 @@
+pub mod AlikeMatches
+pub mod AlikeGraphs
+pub mod TwinItems
+pub mod TwinRuns
 pub mod Twins
