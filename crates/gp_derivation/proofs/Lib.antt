@@ -3,3 +3,4 @@ pub mod AlikeGraphs
 pub mod TwinItems
 pub mod TwinRuns
 pub mod Twins
+pub mod Decided
