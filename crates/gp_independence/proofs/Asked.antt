@@ -1,9 +1,12 @@
 -- Where `indeg`, `outdeg` and `edge` stand in a chain.
-use Rattle.std.proofs.Common.{◌≡◌, ℕ, Bool, true, false, List, [], ◌∷◌, ◌++◌, map, refl, sym, ap, ◌∙◌}
+use Rattle.std.proofs.Common.{◌≡◌, ℕ, Bool, true, false, List, [], ◌∷◌, map, fold, refl, sym, ap, ◌∙◌}
 use Rattle.std.specs.Prelude.{◌||◌}
 use Rattle.std.specs.List.{list_any}
+use Rattle.std.proofs.Math.Bool.{or_assoc, or-false}
+use Rattle.std.proofs.lemmas.List.Folds.{list_any-append}
 use Rattle.gp_values.specs.declared.marks.EdgeMark.{EdgeMark}
 use Rattle.gp_syntax.specs.declared.rule.MarkPattern.{MarkPattern as Pattern}
+use Rattle.gp_syntax.specs.declared.rule.RuleParts.{RuleParts}
 use Rattle.gp_syntax.specs.declared.expression.Expr.{Expr}
 use Rattle.gp_syntax.specs.declared.expression.Expr.TheVariants as tree
 use Rattle.gp_syntax.specs.declared.expression.Cond.{Cond}
@@ -14,20 +17,12 @@ use Rattle.gp_syntax.specs.declared.expression.SumSign.TheVariants as sums
 use Rattle.gp_syntax.specs.declared.expression.ProductSign.{ProductSign}
 use Rattle.gp_syntax.specs.declared.expression.ProductSign.TheVariants as products
 use Rattle.gp_syntax.specs.Expression.{Expression, Dot, Join, Condition, And, Or, MarkPattern}
-use Rattle.gp_syntax.specs.Tree.{expression_of, operands_of, sum as summed, product, dots, joins, added as plus, multiplied as times, condition_of, pattern_of, ands, ors, rule_of_tree, right_node_of, right_edge_of}
-use Rattle.gp_syntax.proofs.Trees.{expression_of-Sum, expression_of-Product, expression_of-Dot, expression_of-Join, condition_of-And, condition_of-Or}
-use Rattle.gp_independence.specs.Independent.{has_degree, asks_edges}
-use Rattle.gp_syntax.specs.declared.rule.RuleParts.{RuleParts}
 use Rattle.gp_syntax.specs.Rule.{RightNode, RightEdge}
 use Rattle.gp_syntax.specs.Step.{right_labels}
-
-or_none : (a : Bool) → a ≡ (a || false)
-or_none true = refl
-or_none false = refl
-
-or_further : (a b c : Bool) → ((a || b) || c) ≡ (a || (b || c))
-or_further true b c = refl
-or_further false b c = refl
+use Rattle.gp_syntax.specs.Tree.{expression_of, added as plus, multiplied as times, condition_of, pattern_of, rule_of_tree, right_node_of, right_edge_of}
+use Rattle.gp_syntax.proofs.Trees.{expression_of-Sum, expression_of-Product, expression_of-Dot, expression_of-Join, condition_of-And, condition_of-Or}
+use Rattle.gp_match.proofs.Verdicts.{any_mapped}
+use Rattle.gp_independence.specs.Independent.{has_degree, asks_edges}
 
 -- ---- what a chain asks
 
@@ -39,45 +34,37 @@ pub else_rest : (r q first rest whole : Bool) → r ≡ first → r ≡ false �
 else_rest r q true rest whole e f s w = absurd (let d : false ≡ true = sym f ∙ e in cc)
 else_rest r q false rest whole e f s w = s ∙ sym w
 
-sum_has : (e : Expression ℕ) (ts : List (Signed SumSign (Expr ℕ))) → has_degree (summed e (operands_of ts)) ≡ (has_degree e || list_any (λ t. has_degree (expression_of t.operand)) ts)
-sum_has e [] = or_none (has_degree e)
-sum_has e (t ∷ ts) =
-    sum_has (plus t.sign e (expression_of t.operand)) ts ∙ ap (λ b. b || list_any (λ t. has_degree (expression_of t.operand)) ts) (by t.sign)
-    ∙ or_further (has_degree e) (has_degree (expression_of t.operand)) (list_any (λ t. has_degree (expression_of t.operand)) ts)
-  where
-    by : (sign : SumSign) → has_degree (plus sign e (expression_of t.operand)) ≡ (has_degree e || has_degree (expression_of t.operand))
-    by sums.Plus = refl
-    by sums.Minus = refl
+-- a test of a chain that is put together from the left, by that of its parts
+chain_asks : {X Y Z : Type 0} (test : X → Bool) (put : X → Y → X) (of : Z → Y) (asks : Z → Bool) → ((x : X) (z : Z) → test (put x (of z)) ≡ (test x || asks z)) → (x : X) (zs : List Z) → test (fold put x (map of zs)) ≡ (test x || list_any asks zs)
+chain_asks test put of asks each x [] = sym (or-false (test x))
+chain_asks test put of asks each x (z ∷ zs) = chain_asks test put of asks each (put x (of z)) zs ∙ ap (λ b. b || list_any asks zs) (each x z) ∙ or_assoc (test x) (asks z) (list_any asks zs)
 
-product_has : (e : Expression ℕ) (ts : List (Signed ProductSign (Expr ℕ))) → has_degree (product e (operands_of ts)) ≡ (has_degree e || list_any (λ t. has_degree (expression_of t.operand)) ts)
-product_has e [] = or_none (has_degree e)
-product_has e (t ∷ ts) =
-    product_has (times t.sign e (expression_of t.operand)) ts ∙ ap (λ b. b || list_any (λ t. has_degree (expression_of t.operand)) ts) (by t.sign)
-    ∙ or_further (has_degree e) (has_degree (expression_of t.operand)) (list_any (λ t. has_degree (expression_of t.operand)) ts)
-  where
-    by : (sign : ProductSign) → has_degree (times sign e (expression_of t.operand)) ≡ (has_degree e || has_degree (expression_of t.operand))
-    by products.Times = refl
-    by products.Over = refl
+abbrev pub expression_asks : Expr ℕ → Bool
+expression_asks e = has_degree (expression_of e)
 
-dots_have : (e : Expression ℕ) (es : List (Expr ℕ)) → has_degree (dots e (map expression_of es)) ≡ (has_degree e || list_any (λ x. has_degree (expression_of x)) es)
-dots_have e [] = or_none (has_degree e)
-dots_have e (x ∷ es) = dots_have (Dot e (expression_of x)) es ∙ or_further (has_degree e) (has_degree (expression_of x)) (list_any (λ x. has_degree (expression_of x)) es)
+by_sum_sign : (sign : SumSign) (d e : Expression ℕ) → has_degree (plus sign d e) ≡ (has_degree d || has_degree e)
+by_sum_sign sums.Plus d e = refl
+by_sum_sign sums.Minus d e = refl
 
-joins_have : (e : Expression ℕ) (es : List (Expr ℕ)) → has_degree (joins e (map expression_of es)) ≡ (has_degree e || list_any (λ x. has_degree (expression_of x)) es)
-joins_have e [] = or_none (has_degree e)
-joins_have e (x ∷ es) = joins_have (Join e (expression_of x)) es ∙ or_further (has_degree e) (has_degree (expression_of x)) (list_any (λ x. has_degree (expression_of x)) es)
+by_product_sign : (sign : ProductSign) (d e : Expression ℕ) → has_degree (times sign d e) ≡ (has_degree d || has_degree e)
+by_product_sign products.Times d e = refl
+by_product_sign products.Over d e = refl
 
-pub of_sum : (x e : Expr ℕ) (ts : List (Signed SumSign (Expr ℕ))) → x ≡ tree.Sum e ts → has_degree (expression_of x) ≡ (has_degree (expression_of e) || list_any (λ t. has_degree (expression_of t.operand)) ts)
-of_sum x e ts is = ap (λ z. has_degree (expression_of z)) is ∙ ap has_degree (expression_of-Sum e ts) ∙ sum_has (expression_of e) ts
+pub of_sum : (x e : Expr ℕ) (ts : List (Signed SumSign (Expr ℕ))) → x ≡ tree.Sum e ts → expression_asks x ≡ (expression_asks e || list_any (λ t. expression_asks t.operand) ts)
+of_sum x e ts is =
+    ap expression_asks is ∙ ap has_degree (expression_of-Sum e ts)
+    ∙ chain_asks has_degree (λ d (t : Signed SumSign (Expression ℕ)). plus t.sign d t.operand) (λ (t : Signed SumSign (Expr ℕ)). record { sign = t.sign; operand = expression_of t.operand }) (λ t. expression_asks t.operand) (λ d t. by_sum_sign t.sign d (expression_of t.operand)) (expression_of e) ts
 
-pub of_product : (x e : Expr ℕ) (ts : List (Signed ProductSign (Expr ℕ))) → x ≡ tree.Product e ts → has_degree (expression_of x) ≡ (has_degree (expression_of e) || list_any (λ t. has_degree (expression_of t.operand)) ts)
-of_product x e ts is = ap (λ z. has_degree (expression_of z)) is ∙ ap has_degree (expression_of-Product e ts) ∙ product_has (expression_of e) ts
+pub of_product : (x e : Expr ℕ) (ts : List (Signed ProductSign (Expr ℕ))) → x ≡ tree.Product e ts → expression_asks x ≡ (expression_asks e || list_any (λ t. expression_asks t.operand) ts)
+of_product x e ts is =
+    ap expression_asks is ∙ ap has_degree (expression_of-Product e ts)
+    ∙ chain_asks has_degree (λ d (t : Signed ProductSign (Expression ℕ)). times t.sign d t.operand) (λ (t : Signed ProductSign (Expr ℕ)). record { sign = t.sign; operand = expression_of t.operand }) (λ t. expression_asks t.operand) (λ d t. by_product_sign t.sign d (expression_of t.operand)) (expression_of e) ts
 
-pub of_dot : (x e : Expr ℕ) (es : List (Expr ℕ)) → x ≡ tree.Dot e es → has_degree (expression_of x) ≡ (has_degree (expression_of e) || list_any (λ z. has_degree (expression_of z)) es)
-of_dot x e es is = ap (λ z. has_degree (expression_of z)) is ∙ ap has_degree (expression_of-Dot e es) ∙ dots_have (expression_of e) es
+pub of_dot : (x e : Expr ℕ) (es : List (Expr ℕ)) → x ≡ tree.Dot e es → expression_asks x ≡ (expression_asks e || list_any expression_asks es)
+of_dot x e es is = ap expression_asks is ∙ ap has_degree (expression_of-Dot e es) ∙ chain_asks has_degree Dot expression_of expression_asks (λ d z. refl) (expression_of e) es
 
-pub of_join : (x e : Expr ℕ) (es : List (Expr ℕ)) → x ≡ tree.Join e es → has_degree (expression_of x) ≡ (has_degree (expression_of e) || list_any (λ z. has_degree (expression_of z)) es)
-of_join x e es is = ap (λ z. has_degree (expression_of z)) is ∙ ap has_degree (expression_of-Join e es) ∙ joins_have (expression_of e) es
+pub of_join : (x e : Expr ℕ) (es : List (Expr ℕ)) → x ≡ tree.Join e es → expression_asks x ≡ (expression_asks e || list_any expression_asks es)
+of_join x e es is = ap expression_asks is ∙ ap has_degree (expression_of-Join e es) ∙ chain_asks has_degree Join expression_of expression_asks (λ d z. refl) (expression_of e) es
 
 -- ---- conditions
 
@@ -87,32 +74,22 @@ Tree = Cond ℕ (Pattern EdgeMark)
 abbrev pub meaning : Tree → Condition ℕ (MarkPattern EdgeMark)
 meaning c = condition_of pattern_of c
 
-ands_ask : (c : Condition ℕ (MarkPattern EdgeMark)) (cs : List Tree) → asks_edges (ands c (map meaning cs)) ≡ (asks_edges c || list_any (λ z. asks_edges (meaning z)) cs)
-ands_ask c [] = or_none (asks_edges c)
-ands_ask c (x ∷ cs) = ands_ask (And c (meaning x)) cs ∙ or_further (asks_edges c) (asks_edges (meaning x)) (list_any (λ z. asks_edges (meaning z)) cs)
+abbrev pub condition_asks : Tree → Bool
+condition_asks c = asks_edges (meaning c)
 
-ors_ask : (c : Condition ℕ (MarkPattern EdgeMark)) (cs : List Tree) → asks_edges (ors c (map meaning cs)) ≡ (asks_edges c || list_any (λ z. asks_edges (meaning z)) cs)
-ors_ask c [] = or_none (asks_edges c)
-ors_ask c (x ∷ cs) = ors_ask (Or c (meaning x)) cs ∙ or_further (asks_edges c) (asks_edges (meaning x)) (list_any (λ z. asks_edges (meaning z)) cs)
+pub of_and : (x c : Tree) (cs : List Tree) → x ≡ conditions.And c cs → condition_asks x ≡ (condition_asks c || list_any condition_asks cs)
+of_and x c cs is = ap condition_asks is ∙ ap asks_edges (condition_of-And {R = ℕ} (pattern_of {M = EdgeMark}) c cs) ∙ chain_asks asks_edges And meaning condition_asks (λ d z. refl) (meaning c) cs
 
-pub of_and : (x c : Tree) (cs : List Tree) → x ≡ conditions.And c cs → asks_edges (meaning x) ≡ (asks_edges (meaning c) || list_any (λ z. asks_edges (meaning z)) cs)
-of_and x c cs is = ap (λ z. asks_edges (meaning z)) is ∙ ap asks_edges (condition_of-And {R = ℕ} (pattern_of {M = EdgeMark}) c cs) ∙ ands_ask (meaning c) cs
-
-pub of_or : (x c : Tree) (cs : List Tree) → x ≡ conditions.Or c cs → asks_edges (meaning x) ≡ (asks_edges (meaning c) || list_any (λ z. asks_edges (meaning z)) cs)
-of_or x c cs is = ap (λ z. asks_edges (meaning z)) is ∙ ap asks_edges (condition_of-Or {R = ℕ} (pattern_of {M = EdgeMark}) c cs) ∙ ors_ask (meaning c) cs
+pub of_or : (x c : Tree) (cs : List Tree) → x ≡ conditions.Or c cs → condition_asks x ≡ (condition_asks c || list_any condition_asks cs)
+of_or x c cs is = ap condition_asks is ∙ ap asks_edges (condition_of-Or {R = ℕ} (pattern_of {M = EdgeMark}) c cs) ∙ chain_asks asks_edges Or meaning condition_asks (λ d z. refl) (meaning c) cs
 
 -- ---- right labels
 
-any_mapped : {X Y : Type 0} (f : X → Y) (label : Y → Expression ℕ) (xs : List X) → list_any has_degree (map label (map f xs)) ≡ list_any (λ x. has_degree (label (f x))) xs
-any_mapped f label [] = refl
-any_mapped f label (x ∷ xs) = ap (λ b. has_degree (label (f x)) || b) (any_mapped f label xs)
-
-any_joined : (es fs : List (Expression ℕ)) → list_any has_degree (es ++ fs) ≡ (list_any has_degree es || list_any has_degree fs)
-any_joined [] fs = refl
-any_joined (e ∷ es) fs = ap (λ b. has_degree e || b) (any_joined es fs) ∙ sym (or_further (has_degree e) (list_any has_degree es) (list_any has_degree fs))
+labels_mapped : {X Y : Type 0} (f : X → Y) (label : Y → Expression ℕ) (xs : List X) → list_any has_degree (map label (map f xs)) ≡ list_any (λ x. has_degree (label (f x))) xs
+labels_mapped f label xs = any_mapped label has_degree (map f xs) ∙ any_mapped f (λ y. has_degree (label y)) xs
 
 pub of_labels : (p : RuleParts) → list_any has_degree (right_labels (rule_of_tree p)) ≡ (list_any (λ q. has_degree (expression_of q.label)) p.right_nodes || list_any (λ q. has_degree (expression_of q.label)) p.right_edges)
 of_labels p =
-    any_joined (map (λ (q : RightNode). q.label) (map right_node_of p.right_nodes)) (map (λ (q : RightEdge). q.label) (map right_edge_of p.right_edges))
-    ∙ ap (λ b. b || list_any has_degree (map (λ (q : RightEdge). q.label) (map right_edge_of p.right_edges))) (any_mapped right_node_of (λ (q : RightNode). q.label) p.right_nodes)
-    ∙ ap (λ b. list_any (λ q. has_degree (expression_of q.label)) p.right_nodes || b) (any_mapped right_edge_of (λ (q : RightEdge). q.label) p.right_edges)
+    list_any-append has_degree (map (λ (q : RightNode). q.label) (map right_node_of p.right_nodes)) (map (λ (q : RightEdge). q.label) (map right_edge_of p.right_edges))
+    ∙ ap (λ b. b || list_any has_degree (map (λ (q : RightEdge). q.label) (map right_edge_of p.right_edges))) (labels_mapped right_node_of (λ (q : RightNode). q.label) p.right_nodes)
+    ∙ ap (λ b. list_any (λ q. has_degree (expression_of q.label)) p.right_nodes || b) (labels_mapped right_edge_of (λ (q : RightEdge). q.label) p.right_edges)

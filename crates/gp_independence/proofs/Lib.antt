@@ -8,4 +8,5 @@ pub mod Orders
 pub mod Lists
 pub mod Written
 pub mod Asked
+pub mod Sizes
 pub mod Deciding

@@ -1,8 +1,7 @@
 -- The two orders of two independent matches lead to one graph, but for the numbers of what is new.
-use Rattle.std.proofs.Common.{◌≡◌, inl, inr, ℕ, ◌+◌, ◌<◌, ◌≤◌, true, Bool, count_by, Option, Some, None, is_none, IsSome, Contains, refl, sym, ap, subst, ◌∙◌, arith}
-use Rattle.std.specs.Prelude.{◌||◌}
+use Rattle.std.proofs.Common.{◌≡◌, ℕ, ◌+◌, ◌<◌, ◌≤◌, count_by, Option, Some, None, is_none, IsSome, Contains, refl, sym, ap, subst, ◌∙◌, arith}
 use Rattle.std.specs.Option.{option_map}
-use Rattle.std.proofs.lemmas.Bool.{or_left, or_right, or_cases}
+use Rattle.std.proofs.Math.Bool.{or_comm}
 use Rattle.gp_values.specs.Graph.{Graph, Edge, IsGraph, node_at, edge_at}
 use Rattle.gp_syntax.specs.Rule.{Rule, Found, kept_nodes, kept_edges}
 use Rattle.gp_syntax.specs.Step.{Step}
@@ -19,16 +18,13 @@ use Rattle.gp_independence.proofs.Kept.{preserves_stays}
 use Rattle.gp_independence.proofs.Exchange.{exchanged, exchanged_old, exchanged_first, exchanged_past, exchanged_back, TwoOrders, one_half}
 use Rattle.gp_independence.proofs.Halves.{at_node, at_new_node, at_edge, at_new_edge}
 
-or_other : (a b : Bool) → (a || b) ≡ true → (b || a) ≡ true
-or_other a b h = elim (or_cases a b h) [ inl l ↦ or_right b a l | inr l ↦ or_left b a l ]
-
 pub other_way : {r s : Rule} {g : Graph} {m n : Found} → Independent r s g m n → Independent s r g n m
 other_way {r = r} {s = s} i = record {
   first = i.second;
   second = i.first;
   edges = λ e a b. i.edges e b a;
   nodes = λ j k a b e. let p = i.nodes k j b a (sym e) in (p.1, p.0);
-  apart = λ e c a b. i.apart (or_other (looks_around s) (looks_around r) e) c b a;
+  apart = λ e c a b. i.apart (or_comm (looks_around r) (looks_around s) ∙ e) c b a;
 }
 
 -- ---- edges whose ends are renamed

@@ -1,9 +1,11 @@
 -- After the step of an independent match, a match still applies, and makes what it made before.
-use Rattle.std.proofs.Common.{inl, inr, ◌≡◌, ℕ, zero, suc, ◌<◌, ◌==◌, true, false, List, [], ◌∷◌, map, length, refl, sym, ap, subst, ◌∙◌, arith}
-use Rattle.std.specs.Prelude.{◌⊎◌, ◌&&◌, ◌++◌, Option, Some, None, IsSomeAnd, Contains, slice_get, slice_index, slice_index_or}
+use Rattle.std.proofs.Common.{inl, inr, ◌≡◌, ℕ, ◌<◌, ◌==◌, true, false, List, map, length, refl, sym, ap, subst, ◌∙◌, arith}
+use Rattle.std.specs.Prelude.{◌⊎◌, ◌&&◌, ◌||◌, Option, Some, None, IsSomeAnd, Contains, slice_get, slice_index, slice_index_or}
 use Rattle.std.specs.List.{list_any}
 use Rattle.std.specs.Option.{option_map, option_map_or}
 use Rattle.std.proofs.lemmas.Bool.{or_left, or_right, or_cases, and_parts, eqb-true}
+use Rattle.std.proofs.lemmas.List.Folds.{list_any-append}
+use Rattle.std.proofs.lemmas.Map.Keys.{any_passes_from_place}
 use Rattle.std.proofs.lemmas.Option.{slice_get-map, slice_get_within}
 use Rattle.gp_values.specs.Atoms.{same_list}
 use Rattle.gp_values.specs.declared.marks.NodeMark.TheVariants as node_marks
@@ -23,7 +25,7 @@ use Rattle.gp_syntax.proofs.Unique.{contained}
 use Rattle.gp_step.specs.Laws.{IsNumbered}
 use Rattle.gp_step.proofs.Wholes.{at_label, all_left, all_right}
 use Rattle.gp_independence.specs.Independent.{has_degree, asks_edges, looks_around, Independent}
-use Rattle.gp_step.proofs.Halves.{some_same, standing, stands_in}
+use Rattle.gp_step.proofs.Halves.{standing, stands_in}
 use Rattle.gp_step.proofs.Afters.{keeps_nodes, keeps_edges}
 use Rattle.gp_independence.proofs.Frames.{some_at, at_some, found_below, Frame, frame, was, in_same, out_same, any_same}
 use Rattle.gp_independence.proofs.Values.{AlikeAround, value_same, truth_same, faults_same}
@@ -48,19 +50,6 @@ simple_asks_none t e h k = absurd h
 
 -- ---- labels by their places
 
-asks : (es : List (Expression ℕ)) (j : ℕ) (e : Expression ℕ) → slice_get es j ≡ Some e → has_degree e ≡ true → list_any has_degree es ≡ true
-asks [] j e i h = absurd cc
-asks (x ∷ es) zero e i h = or_left (has_degree x) (list_any has_degree es) (ap has_degree (some_same i) ∙ h)
-asks (x ∷ es) (suc j) e i h = or_right (has_degree x) (list_any has_degree es) (asks es j e i h)
-
-asks_left : (es fs : List (Expression ℕ)) → list_any has_degree es ≡ true → list_any has_degree (es ++ fs) ≡ true
-asks_left [] fs h = absurd cc
-asks_left (x ∷ es) fs h = elim (or_cases (has_degree x) (list_any has_degree es) h) [ inl l ↦ or_left (has_degree x) (list_any has_degree (es ++ fs)) l | inr l ↦ or_right (has_degree x) (list_any has_degree (es ++ fs)) (asks_left es fs l) ]
-
-asks_right : (es fs : List (Expression ℕ)) → list_any has_degree fs ≡ true → list_any has_degree (es ++ fs) ≡ true
-asks_right [] fs h = h
-asks_right (x ∷ es) fs h = or_right (has_degree x) (list_any has_degree (es ++ fs)) (asks_right es fs h)
-
 abbrev left_node_label : LeftNode → Expression ℕ
 left_node_label p = p.label
 
@@ -78,6 +67,9 @@ Within s e = IsWithin (length s.types) (length s.left_nodes) e
 
 abbrev Simple : Rule → Expression ℕ → Type 0
 Simple s e = IsSimple (type_in s.types) e
+
+labels_ask : (s : Rule) → (list_any has_degree (map right_node_label s.right_nodes) || list_any has_degree (map right_edge_label s.right_edges)) ≡ true → list_any has_degree (right_labels s) ≡ true
+labels_ask s h = list_any-append has_degree (map right_node_label s.right_nodes) (map right_edge_label s.right_edges) ∙ h
 
 in_map : {X : Type 0} (f : X → Expression ℕ) (xs : List X) (j : ℕ) (x : X) → slice_get xs j ≡ Some x → slice_get (map f xs) j ≡ Some (f x)
 in_map f xs j x e = slice_get-map f xs j ∙ ap (option_map f) e
@@ -186,7 +178,7 @@ module _ {r s : Rule} {g h : Graph} {m n : Found} (wr : IsWellFormed r) (ws : Is
         let l = in_map right_node_label s.right_nodes j q e in
         let f = found_stays q.origin (λ c o. ws.origins j c q e o) in
         let v = right_value q.label (all_left (Within s) (map right_node_label s.right_nodes) (map right_edge_label s.right_edges) ws.right_labels_within j q.label l)
-        (λ d. asks_left (map right_node_label s.right_nodes) (map right_edge_label s.right_edges) (asks (map right_node_label s.right_nodes) j q.label l d)) in
+        (λ d. labels_ask s (or_left (list_any has_degree (map right_node_label s.right_nodes)) (list_any has_degree (map right_edge_label s.right_edges)) (any_passes_from_place has_degree (map right_node_label s.right_nodes) j q.label l d))) in
         record {
           label = sym v ∙ k.label;
           mark = k.mark ∙ ap (λ z. made_mark q.mark (option_map (λ (x : Node). x.mark) z) node_marks.None) f;
@@ -198,7 +190,7 @@ module _ {r s : Rule} {g h : Graph} {m n : Found} (wr : IsWellFormed r) (ws : Is
         let l = in_map right_edge_label s.right_edges j q e in
         let f = found_edge_stays q.origin (λ c o. ws.edge_origins j c q e o) in
         let v = right_value q.label (at_label (Within s) (map right_edge_label s.right_edges) (all_right (Within s) (map right_node_label s.right_nodes) (map right_edge_label s.right_edges) ws.right_labels_within) j q.label l)
-        (λ d. asks_right (map right_node_label s.right_nodes) (map right_edge_label s.right_edges) (asks (map right_edge_label s.right_edges) j q.label l d)) in
+        (λ d. labels_ask s (or_right (list_any has_degree (map right_node_label s.right_nodes)) (list_any has_degree (map right_edge_label s.right_edges)) (any_passes_from_place has_degree (map right_edge_label s.right_edges) j q.label l d))) in
         record {
           source = k.source;
           target = k.target;

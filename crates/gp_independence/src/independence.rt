@@ -42,7 +42,7 @@ fn preserve_shared(
 
 /// Whether two matches that apply are independent: their steps may then be made in either order, or at the same time.
 /// No step is made to tell it. At most two look-ups are made for each image of a node and one for each image of an edge,
-/// and each number of the one match is compared with each of the other: the size of the graph plays no part. Memory is
+/// and the numbers of the one match are compared with those of the other: the size of the graph plays no part. Memory is
 /// taken only where the two share nodes and no edge, and neither rule asks of edges outside its match.
 pub fn independent(
     alloc: Global,

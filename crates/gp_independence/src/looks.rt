@@ -36,8 +36,8 @@ fn labels_ask(parts: &RuleParts) -> bool
 fn nodes_ask(right: &[RightNode]) -> bool
     ensures { result ≡ list_any (λ q. meant.has_degree (expression_of q.label)) right.now }
 {
-    'labels: for q in right {
-        if has_degree(&q.label) {
+    'labels: for node in right {
+        if has_degree(&node.label) {
             return true;
         }
     }
@@ -47,8 +47,8 @@ fn nodes_ask(right: &[RightNode]) -> bool
 fn edges_ask(right: &[RightEdge]) -> bool
     ensures { result ≡ list_any (λ q. meant.has_degree (expression_of q.label)) right.now }
 {
-    'labels: for q in right {
-        if has_degree(&q.label) {
+    'labels: for edge in right {
+        if has_degree(&edge.label) {
             return true;
         }
     }
@@ -56,10 +56,10 @@ fn edges_ask(right: &[RightEdge]) -> bool
 }
 
 #[cycle(has_degree)]
-fn has_degree(e: &Expr<u32>) -> bool
-    ensures { result ≡ meant.has_degree (expression_of e.now) }
+fn has_degree(expression: &Expr<u32>) -> bool
+    ensures { result ≡ meant.has_degree (expression_of expression.now) }
 {
-    match e {
+    match expression {
         Expr::InDegree(_) => true,
         Expr::OutDegree(_) => true,
         Expr::Negated(operand) => has_degree(operand.get()),
@@ -116,10 +116,10 @@ fn asks_edges(condition: &Cond<u32, MarkPattern<EdgeMark>>) -> bool
     ensures { result ≡ meant.asks_edges (condition_of pattern_of condition.now) }
 {
     match condition {
-        Cond::HasType(_, e) => has_degree(e),
+        Cond::HasType(_, expression) => has_degree(expression),
         Cond::HasEdge(_, _) => true,
         Cond::HasEdgeWith(_, _, _, _) => true,
-        Cond::Compared(_, d, e) => has_degree(d) || has_degree(e),
+        Cond::Compared(_, left, right) => has_degree(left) || has_degree(right),
         Cond::Not(part) => asks_edges(part.get()),
         Cond::And(first, rest) => asks_edges(first.get()) || some_asks(rest.as_slice()),
         Cond::Or(first, rest) => asks_edges(first.get()) || some_asks(rest.as_slice()),

@@ -1,5 +1,6 @@
 -- What a step preserves, as tests.
-use Rattle.std.specs.Prelude.{ℕ, Bool, if◌then◌else◌, List, [], ◌∷◌, Option, Some, None, length}
+use Rattle.std.specs.Prelude.{ℕ, Bool, List, Option, length}
+use Rattle.std.specs.List.{find}
 use Rattle.gp_values.specs.Graph.{node_at}
 use Rattle.gp_syntax.specs.declared.rule.RightNode.{RightNode}
 use Rattle.gp_syntax.specs.Rule as meant
@@ -17,8 +18,7 @@ says_again s i q = some_and (node_at s.graph (image_at s i)) (fits_node s (as_le
 
 -- the right node of the left node of this place
 abbrev pub right_of : List RightNode → ℕ → Option RightNode
-right_of [] i = None
-right_of (q ∷ qs) i = if is_origin i q.origin then Some q else right_of qs i
+right_of qs i = find (λ (q : RightNode). is_origin i q.origin) qs
 
 abbrev pub is_preserved : Setting → List RightNode → ℕ → Bool
 is_preserved s qs i = some_and (right_of qs i) (says_again s i)

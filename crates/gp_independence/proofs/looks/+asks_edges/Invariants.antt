@@ -1,7 +1,7 @@
 use Rattle.std.proofs.Common.{◌≡◌, ◌+◌, drop}
 use Rattle.std.specs.List.{list_any}
 use Rattle.gp_syntax.specs.Tree.{condition_of, pattern_of}
-use Rattle.gp_eval.specs.inside.Size.{condition_size, condition_sizes}
+use Rattle.gp_independence.specs.inside.Size.{condition_size, condition_sizes}
 use Rattle.gp_independence.specs.Independent.{asks_edges}
 use Rattle.gp_independence.proofs.looks.+asks_edges.Given as goal
 

@@ -1,12 +1,12 @@
 use Rattle.std.proofs.Common.{◌≡◌, ◌+◌, drop}
 use Rattle.std.specs.List.{list_any}
 use Rattle.gp_syntax.specs.Tree.{expression_of}
-use Rattle.gp_eval.specs.inside.Size.{size, sizes, operand_sizes}
+use Rattle.gp_independence.specs.inside.Size.{size, sizes, operand_sizes}
 use Rattle.gp_independence.specs.Independent.{has_degree}
 use Rattle.gp_independence.proofs.looks.+has_degree.Given as goal
 
 abbrev pub decreases-has_degree : goal.decreases-has_degree
-decreases-has_degree l = size l.e.now
+decreases-has_degree l = size l.expression.now
 
 abbrev pub decreases-terms_have : goal.decreases-terms_have
 decreases-terms_have l = 1 + operand_sizes l.rest.now

@@ -5,4 +5,4 @@ use Rattle.gp_independence.specs.Independent.{has_degree}
 use Rattle.gp_independence.proofs.looks.nodes_ask.Given as goal
 
 abbrev pub invariant-labels : goal.invariant-labels
-invariant-labels l = list_any (λ q. has_degree (expression_of q.label)) (drop l.q-index l.right) ≡ list_any (λ q. has_degree (expression_of q.label)) l.right
+invariant-labels l = list_any (λ q. has_degree (expression_of q.label)) (drop l.node-index l.right) ≡ list_any (λ q. has_degree (expression_of q.label)) l.right
