@@ -2,28 +2,30 @@
 use Rattle.std.proofs.Common.{◌≡◌, ℕ, zero, suc, Bool, true, false, if◌then◌else◌, List, [], ◌∷◌, All, length, get_or, Option, Some, None, IsSomeAnd, Contains, Decides, slice_get, slice_index, refl, sym, ap, subst, ◌∙◌, true≢false}
 use Rattle.std.specs.Prelude.{◌||◌}
 use Rattle.std.specs.Option.{option_map}
+use Rattle.std.proofs.Math.Bool.{and-true}
 use Rattle.std.proofs.lemmas.Bool.{or_from}
 use Rattle.std.proofs.lemmas.Bool.Decides.{not_from_Decides, Decides-like, Decides-and, Decides-by_or}
 use Rattle.std.proofs.lemmas.List.{get_or_default}
 use Rattle.std.proofs.lemmas.Option.{none-some, slice_get-map, slice_get_within, get_or_from_slice_get}
 use Rattle.gp_values.specs.declared.atom.Atom.{Atom}
+use Rattle.gp_values.specs.Atoms.{same_list}
 use Rattle.gp_values.specs.EqualityLaws.{same_list-Decides}
 use Rattle.gp_values.specs.Graph.{Graph, Node, node_at}
 use Rattle.gp_syntax.specs.declared.rule.RuleParts.{RuleParts}
 use Rattle.gp_syntax.specs.declared.rule.RightNode as tree
 use Rattle.gp_syntax.specs.Assigned.{PartialAssignment}
-use Rattle.gp_syntax.specs.Value.{Setting, Valued, Value, NoValue, value_of}
+use Rattle.gp_syntax.specs.Value.{Setting, Valued, Value, NoValue, value_of, image_at}
 use Rattle.gp_syntax.specs.Rule.{Rule, LeftNode, Found, is_origin}
 use Rattle.gp_syntax.specs.Match.{Agrees, FitsNode, setting_of}
 use Rattle.gp_syntax.specs.Step.{Applies}
-use Rattle.gp_syntax.specs.Tree.{rule_of_tree, right_node_of, expression_of}
+use Rattle.gp_syntax.specs.Tree.{rule_of_tree, right_node_of, expression_of, pattern_of}
 use Rattle.gp_syntax.specs.WellFormed.{IsWithin, IsWellFormed}
 use Rattle.gp_syntax.proofs.Declarations.{from_map}
 use Rattle.gp_syntax.proofs.Kept.{Decides-origin}
 use Rattle.gp_syntax.proofs.Unique.{element}
 use Rattle.gp_unify.specs.Matched.{IsAssignment}
 use Rattle.gp_eval.specs.Answer.{setting}
-use Rattle.gp_match.specs.Tests.{some_and, has_number, is_value, node_mark_rank, implies, fits_node}
+use Rattle.gp_match.specs.Tests.{some_and, has_number, is_value, node_mark_rank, agrees, implies, alike, fits_node}
 use Rattle.gp_match.proofs.Judges.{Decides-below, Decides-has, same_node_mark, Decides-agrees, Decides-implies, Decides-alike}
 use Rattle.gp_step.specs.Laws.{IsNumbered}
 use Rattle.gp_step.proofs.Halves.{some_same, standing, stands_in}
@@ -68,6 +70,15 @@ Decides-node s p x =
 Decides-says : (s : Setting) (p : LeftNode) (o : Option Node) → Decides (some_and o (fits_node s p)) (IsSomeAnd o (FitsNode s p))
 Decides-says s p None = (λ e. absurd (true≢false (sym e)), λ h. absurd h)
 Decides-says s p (Some x) = Decides-node s p x
+
+-- what was asked of root, mark and label, one after another
+pub says_by : (s : Setting) (i : ℕ) (q : tree.RightNode) (x : Node) (v : List Atom) {b m : Bool} → node_at s.graph (image_at s i) ≡ Some x → value_of (expression_of q.label) s ≡ Value v
+    → q.root ≡ x.root → m ≡ agrees node_mark_rank (pattern_of q.mark) x.mark → m ≡ true → b ≡ same_list v x.label → b ≡ says_again s i q
+says_by s i q x v {b = b} there value root mark kept same =
+    let label : is_value (value_of (expression_of q.label) s) x.label ≡ b = ap (λ z. is_value z x.label) value ∙ sym same in
+    let agree : agrees node_mark_rank (pattern_of q.mark) x.mark ≡ true = sym mark ∙ kept in
+    let roots : alike q.root x.root ≡ true = (Decides-alike q.root x.root).1 root in
+    rw there (rw (label, agree, roots) (sym (and-true b)))
 
 -- ---- the right node of a left one
 

@@ -1,10 +1,16 @@
-use Rattle.std.proofs.Common.{length}
+use Rattle.std.proofs.Common.{length, ap}
 use Rattle.gp_syntax.specs.declared.rule.RightNode.{RightNode}
 use Rattle.gp_syntax.specs.Tree.{expression_of}
 use Rattle.gp_syntax.specs.WellFormed.{IsWithin}
+use Rattle.gp_eval.specs.Answer.{setting}
+use Rattle.gp_match.specs.Tests.{some_and}
+use Rattle.gp_independence.specs.inside.Tests.{says_again}
 use Rattle.gp_independence.proofs.Deciding.{right_holds}
 use Rattle.gp_independence.proofs.preserved.is_preserved.Goals as goal
 
 pub says_again-requires-clause-within : goal.says_again-requires-clause-within
 says_again-requires-clause-within c =
     right_holds (λ (q : RightNode). IsWithin (length c.args.assignment.now.types) (length c.args.nodes.now) (expression_of q.label)) c.args.right.now c.args.place c.in-Some.node.now c.requires.within c.in-Some.ensures
+
+pub returns-in-None : goal.returns-in-None
+returns-in-None c = ap (λ o. some_and o (says_again (setting c.args.assignment.now c.args.nodes.now c.args.graph.now.graph) c.args.place)) c.in-None.ensures
