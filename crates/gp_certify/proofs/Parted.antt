@@ -247,20 +247,20 @@ ways_below program cs n (node.Proc k a) y h = omega arith
 
 -- ---- the end of a loop's body
 
-pub leaves_failed : (v : View) (i : ℕ) (f : End) (old new : End → Type 0) → f.outcome ≡ outcome.Fails → IsTakenBack v.trace i f.place
-    → Grows old new (λ e. e ≡ record { place = f.place + 1; outcome = outcome.Gives }) → Grows old new (Leaves v i f)
-leaves_failed v i f old new o t g =
-    grows_as old new _ (Leaves v i f) (λ e s. (ap (λ (z : End). z.outcome) s, inl (o, t, ap (λ (z : End). z.place) s)))
-    (λ e s. elim s.1 [ inl z ↦ end_is e _ _ z.2 s.0 | inr z ↦ absurd (apart z.0) ]) g
+pub leaves_failed : (v : View) (i : ℕ) (f given : End) (old new : End → Type 0) → f.outcome ≡ outcome.Fails → IsTakenBack v.trace i f.place → given ≡ record { place = f.place + 1; outcome = outcome.Gives }
+    → Grows old new (λ e. e ≡ given) → Grows old new (Leaves v i f)
+leaves_failed v i f given old new o t k g =
+    grows_as old new _ (Leaves v i f) (λ e s. (ap (λ (z : End). z.outcome) (s ∙ k), inl (o, t, ap (λ (z : End). z.place) (s ∙ k))))
+    (λ e s. elim s.1 [ inl z ↦ end_is e _ _ z.2 s.0 ∙ sym k | inr z ↦ absurd (apart z.0) ]) g
   where
     apart : f.outcome ≡ outcome.Breaks → ⊥
     apart b = let n : outcome.Fails ≡ outcome.Breaks = sym o ∙ b in absurd cc
 
-pub leaves_broken : (v : View) (i : ℕ) (f : End) (old new : End → Type 0) → f.outcome ≡ outcome.Breaks
-    → Grows old new (λ e. e ≡ record { place = f.place; outcome = outcome.Gives }) → Grows old new (Leaves v i f)
-leaves_broken v i f old new o g =
-    grows_as old new _ (Leaves v i f) (λ e s. (ap (λ (z : End). z.outcome) s, inr (o, ap (λ (z : End). z.place) s)))
-    (λ e s. elim s.1 [ inl z ↦ absurd (apart z.0) | inr z ↦ end_is e _ _ z.1 s.0 ]) g
+pub leaves_broken : (v : View) (i : ℕ) (f given : End) (old new : End → Type 0) → f.outcome ≡ outcome.Breaks → given ≡ record { place = f.place; outcome = outcome.Gives }
+    → Grows old new (λ e. e ≡ given) → Grows old new (Leaves v i f)
+leaves_broken v i f given old new o k g =
+    grows_as old new _ (Leaves v i f) (λ e s. (ap (λ (z : End). z.outcome) (s ∙ k), inr (o, ap (λ (z : End). z.place) (s ∙ k))))
+    (λ e s. elim s.1 [ inl z ↦ absurd (apart z.0) | inr z ↦ end_is e _ _ z.1 s.0 ∙ sym k ]) g
   where
     apart : f.outcome ≡ outcome.Fails → ⊥
     apart b = let n : outcome.Breaks ≡ outcome.Fails = sym o ∙ b in absurd cc

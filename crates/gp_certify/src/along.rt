@@ -29,15 +29,6 @@ pub(crate) struct Walked {
     pub(crate) trail: Trail,
 }
 
-/// Reads the rules, so that what their type says is known of each.
-pub(crate) fn read_rules(rules: &[Rule])
-    ensures { All IsWellFormed (map rule_of_tree rules.now) }
-{
-    for rule in rules {
-        let _well_formed = rule.parts();
-    }
-}
-
 // Whether a match applies, by the rule of its number.
 fn applies(alloc: Global, rules: &[Rule], found: &Found, graph: &Graph) -> Result<bool, NoMemory>
     ensures { IfOk result (λ b. Decides b (AppliesBy (map rule_of_tree rules.now) graph.now.graph found.now)) }

@@ -1,5 +1,7 @@
 //! Where a command may end.
 
+ghost use Rattle.std.specs.Prelude.{◌≡◌};
+
 /// How a command ends for the one around it.
 #[derive(Clone, Copy, PartialEq, Eq)]
 pub enum Outcome {
@@ -16,4 +18,16 @@ pub enum Outcome {
 pub(crate) struct End {
     pub(crate) place: usize,
     pub(crate) outcome: Outcome,
+}
+
+impl End {
+    /// The end of a command that gives, at this place.
+    pub(crate) fn given(place: usize) -> End
+        ensures { result ≡ record { place = place; outcome = Outcome.Gives } }
+    {
+        End {
+            place,
+            outcome: Outcome::Gives,
+        }
+    }
 }

@@ -65,24 +65,12 @@ fn after_body<T: Tape>(
         Outcome::Gives => put_start(&mut reached.starts, end.place),
         Outcome::Fails => {
             if tape.takes_back(start, end.place) {
-                put_end(
-                    &mut reached.ends,
-                    End {
-                        place: end.place + 1,
-                        outcome: Outcome::Gives,
-                    },
-                )
+                put_end(&mut reached.ends, End::given(end.place + 1))
             } else {
                 Ok(())
             }
         }
-        Outcome::Breaks => put_end(
-            &mut reached.ends,
-            End {
-                place: end.place,
-                outcome: Outcome::Gives,
-            },
-        ),
+        Outcome::Breaks => put_end(&mut reached.ends, End::given(end.place)),
     }
 }
 

@@ -8,7 +8,8 @@ ghost use Rattle.gp_certify.specs.inside.View.{IsTape};
 ghost use Rattle.gp_certify.specs.inside.Along.{BreaksOff};
 ghost use Rattle.gp_certify.specs.inside.Replay.{view_of};
 
-use crate::along::{Standing, Walked, read_rules, stand_at, walk};
+use crate::along::{Standing, Walked, stand_at, walk};
+use crate::laws::rules_are_well_formed;
 use crate::tape::Tape;
 use gp_blocked::is_set_blocked;
 use gp_graph::Graph;
@@ -100,7 +101,7 @@ impl<'a> Replay<'a> {
         ensures none { IfOk result (λ o. IfNone o (BreaksOff (program_of_tree program.now).rules host.now.graph (map item_of items.now))) }
     {
         let rules = program.parts().rules.as_slice();
-        read_rules(rules);
+        rules_are_well_formed(rules);
         let _sound = host.next_numbers();
         match walk(alloc, rules, host, items)? {
             None => Ok(None),

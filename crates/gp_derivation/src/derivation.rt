@@ -1,11 +1,11 @@
 //! Whether a trace and a result are a derivation.
 
-ghost use Rattle.std.specs.Prelude.{◌≡◌, map, IfOk};
+ghost use Rattle.std.specs.Prelude.{◌≡◌, map, IfOk, IsTrue};
 ghost use Rattle.std.specs.Bool.{Decides};
 ghost use Rattle.gp_syntax.specs.Tree.{program_of_tree, item_of};
 ghost use Rattle.gp_hostfile.specs.GraphText.{IsGraphText};
 ghost use Rattle.gp_trace.specs.declared.version.Version.TheVariants.{One};
-ghost use Rattle.gp_derivation.specs.Derivation.{EndsWith, IsDerivation};
+ghost use Rattle.gp_derivation.specs.Derivation.{fail_text, EndsWith, IsDerivation};
 
 use gp_certify::certify;
 use gp_certify::laws::rules_are_well_formed;
@@ -26,6 +26,13 @@ fn is_text_of(alloc: Global, graph: &Graph, text: &[u8]) -> Result<bool, NoMemor
     Ok(whole.as_slice() == text)
 }
 
+// Whether runs fail, and this is the text that such a run ends with.
+fn ends_by_fail(fail: bool, text: &[u8]) -> bool
+    ensures { Decides result (IsTrue fail × (text.now ≡ fail_text)) }
+{
+    fail && text == b"fail\n".as_slice()
+}
+
 // Whether a run of Main makes these items of version 2, and ends with the text.
 fn ends_with(
     alloc: Global,
@@ -37,7 +44,7 @@ fn ends_with(
     ensures { IfOk result (λ b. Decides b (EndsWith (program_of_tree program.now) host.now.graph (map item_of items.now) text.now)) }
 {
     let checked = certify(alloc, program, host, items)?;
-    if checked.fail && text == b"fail\n" {
+    if ends_by_fail(checked.fail, text) {
         return Ok(true);
     }
     match &checked.graph {
@@ -58,6 +65,7 @@ fn ended_with(
 {
     let rules = program.parts().rules.as_slice();
     rules_are_well_formed(rules);
+    let _sound = host.next_numbers();
     match upgrade(alloc, rules, host.copy(alloc)?, items) {
         Ok(today) => ends_with(alloc, program, host, &today, text),
         Err(UpgradeFault::Item(_)) => Ok(false),

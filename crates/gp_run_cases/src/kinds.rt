@@ -1,7 +1,7 @@
 //! The kinds of rows.
 
 use crate::graphs::{beside, edits, hub};
-use crate::runs::{certified, commands, crews, journals, random, upgrades};
+use crate::runs::{certified, commands, crews, independence, journals, random, upgrades};
 use gp_rows::Answer;
 use std::alloc::Global;
 use std::sync::Wait;
@@ -20,6 +20,8 @@ pub(crate) enum Kind {
     Upgraded,
     Certified,
     Derivations,
+    Independence,
+    Pairs,
     Replays,
     Parts,
     Commands,
@@ -27,7 +29,7 @@ pub(crate) enum Kind {
 }
 
 /// The files of rows, `NAME.rows`, and the kind of each.
-pub(crate) const FILES: [(&'static str, Kind); 14] = [
+pub(crate) const FILES: [(&'static str, Kind); 16] = [
     ("edits", Kind::Edits),
     ("leads", Kind::Leads),
     ("walks", Kind::Walks),
@@ -38,6 +40,8 @@ pub(crate) const FILES: [(&'static str, Kind); 14] = [
     ("upgraded", Kind::Upgraded),
     ("certified", Kind::Certified),
     ("derivations", Kind::Derivations),
+    ("independence", Kind::Independence),
+    ("pairs", Kind::Pairs),
     ("replays", Kind::Replays),
     ("parts", Kind::Parts),
     ("commands", Kind::Commands),
@@ -63,6 +67,8 @@ pub(crate) fn answer<R: Threads + Wait + Sync>(
         Kind::Upgraded => upgrades::graph(alloc, fields, out),
         Kind::Certified => certified::answer(alloc, fields, out),
         Kind::Derivations => certified::derivation(alloc, fields, out),
+        Kind::Independence => independence::answer(alloc, fields, out),
+        Kind::Pairs => independence::pairs(alloc, fields, out),
         Kind::Replays => random::replays(alloc, fields, out),
         Kind::Parts => random::parts(alloc, fields, out),
         Kind::Commands => commands::answer(rt, alloc, fields, out),

@@ -4,6 +4,7 @@ mod bits;
 pub(crate) mod certified;
 pub(crate) mod commands;
 pub(crate) mod crews;
+pub(crate) mod independence;
 pub(crate) mod journals;
 pub(crate) mod random;
 mod replay;

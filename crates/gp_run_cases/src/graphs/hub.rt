@@ -9,8 +9,8 @@ use gp_rows::{Answer, field, number};
 use gp_values::{EdgeMark, NodeMark};
 use std::alloc::Global;
 
-// Two nodes, and so many edges from the first to the second and back, in turns.
-fn hub(alloc: Global, edges: u64) -> Result<Graph, NoMemory> {
+/// Two nodes, and so many edges from the first to the second and back, in turns.
+pub(crate) fn hub(alloc: Global, edges: u64) -> Result<Graph, NoMemory> {
     let mut graph = Graph::new(alloc);
     for _ in 0..2 {
         let list = label(alloc, 0)?;

@@ -1,0 +1,12 @@
+pub mod Frames
+pub mod Values
+pub mod Second
+pub mod Kept
+pub mod Exchange
+pub mod Halves
+pub mod Orders
+pub mod Lists
+pub mod Written
+pub mod Asked
+pub mod Sizes
+pub mod Deciding

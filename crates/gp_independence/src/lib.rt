@@ -1,0 +1,15 @@
+//! Independent matches: neither step takes away or changes what the other match needs, so that their steps may be made in
+//! either order, or at the same time.
+//!
+//! `independent` tells it of two matches that apply, without a step. `specs/Independent` says what it means. The laws, in
+//! `laws`, hold of every two such matches, and of more: each still applies after the other's step, both orders lead to one
+//! graph but for the numbers of what is new, and pairwise independent matches are a derivation in every order.
+#![tactic(auto)]
+
+mod independence;
+pub mod laws;
+mod looks;
+mod preserved;
+mod shared;
+
+pub use independence::independent;

@@ -1,0 +1,4 @@
+pub mod Moves
+pub mod Stacks
+pub mod Standings
+pub mod Unique

@@ -1,0 +1,3 @@
+pub mod Stepper
+pub mod Laws
+pub mod inside

@@ -1,0 +1,4 @@
+-- What only bodies and proofs need.
+pub mod Code
+pub mod Stands
+pub mod Held
