@@ -23,6 +23,8 @@ pub(crate) enum Said<'a> {
     /// The trace and the result that are checked are a derivation, or are none.
     Derivation,
     NoDerivation,
+    /// What a script comes to over the items of a run.
+    Walked(Vec<u8>),
     Usage,
     LongProgram,
     BadProgram(ProgramFault),
@@ -32,6 +34,9 @@ pub(crate) enum Said<'a> {
     /// The first line that is not of the form of its place.
     BadTrace(u64),
     LongResult,
+    LongScript,
+    /// The first line that is none of the words of scripts.
+    BadScript(u64),
     /// The bound that is spent.
     Bound(u64),
     /// The name of the rule that has a faulty match.
@@ -48,6 +53,7 @@ impl Drop for Said<'_> {
             Said::BadProgram(fault) => drop(fault),
             Said::BadHost(fault) => drop(fault),
             Said::Number(name, _) => drop(name),
+            Said::Walked(text) => drop(text),
             Said::Derivation
             | Said::NoDerivation
             | Said::Usage
@@ -56,6 +62,8 @@ impl Drop for Said<'_> {
             | Said::LongTrace
             | Said::BadTrace(_)
             | Said::LongResult
+            | Said::LongScript
+            | Said::BadScript(_)
             | Said::Bound(_)
             | Said::Unread(_) => {}
         }
