@@ -36,14 +36,14 @@ fn told(alloc: Global, fields: &[Vec<u8>]) -> Result<bool, Wrong> {
     if !are_independent(alloc, rules.as_slice(), &host, &first, &second)? {
         return Ok(false);
     }
-    let one = made(
+    let one = make_both(
         alloc,
         rules.as_slice(),
         &host,
         first.copy(alloc)?,
         second.copy(alloc)?,
     )?;
-    let other = made(alloc, rules.as_slice(), &host, second, first)?;
+    let other = make_both(alloc, rules.as_slice(), &host, second, first)?;
     if !are_same(&one, &other) {
         return Err(Wrong::new("the two orders lead to different graphs"));
     }
@@ -101,7 +101,7 @@ impl Drop for Made {
     }
 }
 
-fn made(
+fn make_both(
     alloc: Global,
     rules: &[Rule],
     host: &Graph,

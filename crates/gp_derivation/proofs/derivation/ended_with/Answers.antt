@@ -1,5 +1,4 @@
 use Rattle.std.proofs.Common.{rules, ◌∙◌, map, ap}
-use Rattle.gp_syntax.specs.declared.rule.RuleParts.{RuleParts}
 use Rattle.gp_syntax.specs.declared.command.ProgramParts.{ProgramParts}
 use Rattle.gp_syntax.specs.Tree.{program_of_tree, rule_of_tree, item_of}
 use Rattle.gp_step.proofs.Afters.{numbered}
