@@ -7,8 +7,11 @@ use Rattle.gp_hostfile.specs.Host.{IsRefusal}
 use Rattle.gp_reader.specs.declared.fault.ProgramFault.{ProgramFault}
 use Rattle.gp_reader.specs.declared.fault.ProgramFault.TheVariants as faulty
 use Rattle.gp_reader.specs.Program as program
-use Rattle.gp_cli.specs.inside.Parts.{HostsOrFaults, TellsOrFaults}
-use Rattle.gp_cli.specs.inside.Told.{host_refused, program_refused}
+use Rattle.gp_trace.specs.declared.fault.TraceFault.{TraceFault}
+use Rattle.gp_trace.specs.declared.fault.TraceFault.TheVariants as breaks
+use Rattle.gp_trace.specs.Reading.{HasFault}
+use Rattle.gp_cli.specs.inside.Parts.{HostsOrFaults, TellsOrFaults, TracesOrFaults}
+use Rattle.gp_cli.specs.inside.Told.{host_refused, program_refused, trace_refused}
 
 -- ---- what is refused
 
@@ -30,3 +33,7 @@ program_faults bytes (faulty.NumberRange k) h = (faulty.NumberRange k, refl, h)
 program_faults bytes (faulty.Scope x) h = (faulty.Scope x, refl, h)
 program_faults bytes (faulty.Rule n x) h = (faulty.Rule n x, refl, h)
 program_faults bytes faulty.NoMemory h = tt
+
+pub trace_faults : (bytes : List ℕ) (e : TraceFault) → HasFault bytes e → TracesOrFaults bytes (Err (trace_refused e))
+trace_faults bytes (breaks.Line k) h = (k, refl, h)
+trace_faults bytes breaks.NoMemory h = tt

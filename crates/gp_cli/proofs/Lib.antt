@@ -1,9 +1,14 @@
 pub mod Bits
+pub mod Causes
+pub mod Commands
 pub mod Completeness
 pub mod Counting
 pub mod Depths
 pub mod Faults
+pub mod Held
 pub mod Loads
 pub mod Pieces
+pub mod Ran
 pub mod Runs
+pub mod Shown
 pub mod Written

@@ -1,96 +1,141 @@
 -- From what is read of the files to what is answered.
 use Rattle.std.proofs.Common.{◌≡◌, ℕ, ◌≤◌, List, sym, subst, arith, inl, inr}
-use Rattle.std.specs.Prelude.{◌⊎◌, Option, Some, Result, Ok, Err}
+use Rattle.std.specs.Prelude.{◌⊎◌, Option, Result, Ok, Err}
+use Rattle.std.specs.declared.vec.Vec.{Vec}
+use Rattle.std.specs.declared.alloc.Global.{Global}
+use Rattle.gp_memory.specs.Free.{Free}
 use Rattle.gp_io.specs.Outside.{Content, KnownFiles, Rose, LacksFile}
 use Rattle.gp_values.specs.Names.{Name}
+use Rattle.gp_values.specs.Graph.{Graph as AnyGraph}
+use Rattle.gp_syntax.specs.declared.found.Item.{Item}
 use Rattle.gp_syntax.specs.declared.command.ProgramParts.{ProgramParts}
-use Rattle.gp_syntax.specs.Tree.{program_of_tree}
-use Rattle.gp_words.specs.CommandLine.{RunCommand, DemoCommand, run, demo, command_of}
+use Rattle.gp_syntax.specs.Run as meant
+use Rattle.gp_trace.specs.declared.version.Version.{Version}
+use Rattle.gp_reader.specs.declared.fault.ProgramFault.{ProgramFault}
+use Rattle.gp_reader.specs.Program.{IsFaultyText}
+use Rattle.gp_hostfile.specs.declared.fault.HostFault.{HostFault}
+use Rattle.gp_hostfile.specs.Host.{IsHostFault}
+use Rattle.gp_words.specs.CommandLine.{DemoCommand, CheckCommand}
 use Rattle.gp_graph.specs.declared.graph.Graph.{Graph}
 use Rattle.gp_cli.specs.declared.said.Said.{Said}
 use Rattle.gp_cli.specs.declared.said.Stop.{Stop}
 use Rattle.gp_cli.specs.declared.said.Stop.TheVariants as stops
 use Rattle.gp_cli.specs.Texts as texts
-use Rattle.gp_cli.specs.Answer.{HasBytes, HasLongFile, TellsProgram, HasProgram, CannotRead, risen, lacking, StopsAtProgram, program_is_long, program_is_bad, program_is_unread, StopsAtHost, host_is_long, host_is_bad, host_is_unread, RunAnswers, at_program, at_host, demo_program, demo_host, DemoAnswers, demo_program_is_bad, demo_host_is_bad, IsTrue, of_run, of_demo}
-use Rattle.gp_cli.specs.inside.Parts.{StopsAtFile, too_long, unread, ReadsFile, TellsOrFaults, HostsOrFaults, LoadsProgram, LoadsHost, names_of, RunsFiles, RunsDemo}
-use Rattle.gp_cli.specs.inside.Told.{IsAnswer}
+use Rattle.gp_cli.specs.Answer.{HasBytes, HasLongFile, HasTrace, TellsProgram, demo_program, demo_host, DemoAnswers, demo_program_is_bad, demo_host_is_bad, CannotRead, risen, lacking, StopsAtProgram, program_is_long, program_is_bad, program_is_unread, StopsAtHost, host_is_long, host_is_bad, host_is_unread, StopsAtTrace, trace_is_long, trace_is_bad, trace_is_unread, StopsAtResult, result_is_long, result_is_unread, Checks, at_trace, at_result, is_derivation, is_none}
+use Rattle.gp_cli.specs.inside.Parts.{StopsAtFile, too_long, unread, TellsOrFaults, HostsOrFaults, TracesOrFaults, LoadsProgram, LoadsHost, LoadsTrace}
+use Rattle.gp_cli.specs.inside.Told.{said_of, IsAnswer}
 
 pub read_cause : (old new : KnownFiles) (name : Name) → Rose old.faults new.faults ⊎ (LacksFile old.content name × (new.faults ≡ old.faults)) → CannotRead old new name
 read_cause old new name (inl r) = risen r
 read_cause old new name (inr l) = lacking l.0
 
+-- ---- what holds of an answer, where memory is not refused
+
+abbrev pub IfStopped : (texts.Said → Type 0) → Stop → Type 0
+IfStopped P (stops.Said s) = P (said_of s)
+IfStopped P stops.NoMemory = Free
+
+abbrev pub IfSettled : (texts.Said → Type 0) → Result Said Stop → Type 0
+IfSettled P (Ok s) = P (said_of s)
+IfSettled P (Err (stops.Said s)) = P (said_of s)
+IfSettled P (Err stops.NoMemory) = Free
+
+module _ (P Q : texts.Said → Type 0) (so : (said : texts.Said) → P said → Q said) where
+  pub stopped_so : (e : Stop) → IfStopped P e → IfStopped Q e
+  stopped_so (stops.Said s) h = so (said_of s) h
+  stopped_so stops.NoMemory h = tt
+
+  pub settled_so : (r : Result Said Stop) → IfSettled P r → IfSettled Q r
+  settled_so (Ok s) h = so (said_of s) h
+  settled_so (Err e) h = stopped_so e h
+
+pub answered : (P : texts.Said → Type 0) {said : texts.Said} (r : Result Said Stop) → IfSettled P r → IsAnswer r said → P said
+answered P (Ok s) h is = subst P is h
+answered P (Err (stops.Said s)) h is = subst P is h
+answered P (Err stops.NoMemory) h is = absurd is
+
 -- ---- what stops at a file stops at what it is read for
 
-program_stop : {old new : KnownFiles} {name : Name} {said : texts.Said} → StopsAtFile old new name texts.long_program said → StopsAtProgram old new name said
-program_stop (too_long f) = program_is_long f
-program_stop (unread u) = program_is_unread u
+module _ {old new : KnownFiles} {name : Name} where
+  pub program_stop : (said : texts.Said) → StopsAtFile old new name texts.long_program said → StopsAtProgram old new name said
+  program_stop _ (too_long f) = program_is_long f
+  program_stop _ (unread u) = program_is_unread u
 
-pub program_stops : (old new : KnownFiles) (name : Name) (e : Stop) → ReadsFile old new name texts.long_program (Err e) → LoadsProgram old new name (Err e)
-program_stops old new name (stops.Said s) h = program_stop h
-program_stops old new name stops.NoMemory h = tt
+  pub host_stop : (said : texts.Said) → StopsAtFile old new name texts.long_host said → StopsAtHost old new name said
+  host_stop _ (too_long f) = host_is_long f
+  host_stop _ (unread u) = host_is_unread u
 
-host_stop : {old new : KnownFiles} {name : Name} {said : texts.Said} → StopsAtFile old new name texts.long_host said → StopsAtHost old new name said
-host_stop (too_long f) = host_is_long f
-host_stop (unread u) = host_is_unread u
+  pub trace_stop : (said : texts.Said) → StopsAtFile old new name texts.long_trace said → StopsAtTrace old new name said
+  trace_stop _ (too_long f) = trace_is_long f
+  trace_stop _ (unread u) = trace_is_unread u
 
-pub host_stops : (old new : KnownFiles) (name : Name) (e : Stop) → ReadsFile old new name texts.long_host (Err e) → LoadsHost old new name (Err e)
-host_stops old new name (stops.Said s) h = host_stop h
-host_stops old new name stops.NoMemory h = tt
+  pub result_stop : (said : texts.Said) → StopsAtFile old new name texts.long_result said → StopsAtResult old new name said
+  result_stop _ (too_long f) = result_is_long f
+  result_stop _ (unread u) = result_is_unread u
 
--- ---- a count that rose since a later time has risen since an earlier one, and the content is the same at both
+-- ---- and so does a fault of a demo's text
 
-cannot_since : {name : Name} (old mid new : KnownFiles) → mid.content ≡ old.content → old.faults ≤ mid.faults → CannotRead mid new name → CannotRead old new name
-cannot_since old mid new s h (risen r) = risen (omega arith)
-cannot_since {name} old mid new s h (lacking l) = lacking (subst (λ (t : Option Content). LacksFile t name) s l)
+module _ {k : DemoCommand} where
+  pub demo_program_stop : (said : texts.Said) → (f : ProgramFault) × (said ≡ texts.bad_program f) × IsFaultyText (demo_program k) f → DemoAnswers k said
+  demo_program_stop _ h = subst (DemoAnswers k) (sym h.1) (demo_program_is_bad h.2)
 
-host_since : {name : Name} {said : texts.Said} (old mid new : KnownFiles) → mid.content ≡ old.content → old.faults ≤ mid.faults → StopsAtHost mid new name said → StopsAtHost old new name said
-host_since {name} old mid new s h (host_is_long f) = host_is_long (subst (λ (t : Option Content). HasLongFile t name) s f)
-host_since {name} old mid new s h (host_is_bad {bytes} b x) = host_is_bad (subst (λ (t : Option Content). HasBytes t name bytes) s b) x
-host_since old mid new s h (host_is_unread u) = host_is_unread (cannot_since old mid new s h u)
+  pub demo_host_stop : {p : meant.Program} {names : List Name} → TellsProgram (demo_program k) p names → (said : texts.Said) → (f : HostFault) × (said ≡ texts.bad_host f) × IsHostFault (demo_host k) f → DemoAnswers k said
+  demo_host_stop t _ h = subst (DemoAnswers k) (sym h.1) (demo_host_is_bad t h.2)
 
 -- ---- what was read of a file is understood
 
-pub program_loads : (old new : KnownFiles) (name : Name) (bytes : List ℕ) (r : Result ProgramParts Stop) → HasBytes old.content name bytes → TellsOrFaults bytes r → LoadsProgram old new name r
-program_loads old new name bytes (Ok p) has t = record { bytes = bytes; has = has; tells = t }
-program_loads old new name bytes (Err (stops.Said s)) has t = subst (StopsAtProgram old new name) (sym t.1) (program_is_bad has t.2)
-program_loads old new name bytes (Err stops.NoMemory) has t = tt
+module _ (old new : KnownFiles) (name : Name) (bytes : List ℕ) where
+  pub program_loads : (r : Result ProgramParts Stop) → HasBytes old.content name bytes → TellsOrFaults bytes r → LoadsProgram old new name r
+  program_loads (Ok p) has t = record { bytes = bytes; has = has; tells = t }
+  program_loads (Err (stops.Said s)) has t = subst (StopsAtProgram old new name) (sym t.1) (program_is_bad has t.2)
+  program_loads (Err stops.NoMemory) has t = tt
 
-pub host_loads : (old new : KnownFiles) (name : Name) (bytes : List ℕ) (r : Result Graph Stop) → HasBytes old.content name bytes → HostsOrFaults bytes r → LoadsHost old new name r
-host_loads old new name bytes (Ok g) has t = record { bytes = bytes; has = has; text = t }
-host_loads old new name bytes (Err (stops.Said s)) has t = subst (StopsAtHost old new name) (sym t.1) (host_is_bad has t.2)
-host_loads old new name bytes (Err stops.NoMemory) has t = tt
+  pub host_loads : (r : Result Graph Stop) → HasBytes old.content name bytes → HostsOrFaults bytes r → LoadsHost old new name r
+  host_loads (Ok g) has t = record { bytes = bytes; has = has; text = t }
+  host_loads (Err (stops.Said s)) has t = subst (StopsAtHost old new name) (sym t.1) (host_is_bad has t.2)
+  host_loads (Err stops.NoMemory) has t = tt
 
--- ---- the two files
+  pub trace_loads : (r : Result (Version × Vec Item Global) Stop) → HasBytes old.content name bytes → TracesOrFaults bytes r → LoadsTrace old new name r
+  trace_loads (Ok x) has t = record { bytes = bytes; has = has; text = t }
+  trace_loads (Err (stops.Said s)) has t = subst (StopsAtTrace old new name) (sym t.1) (trace_is_bad has t.2)
+  trace_loads (Err stops.NoMemory) has t = tt
 
-pub program_stops_all : (old new : KnownFiles) (k : RunCommand) (e : Stop) → LoadsProgram old new k.program (Err e) → RunsFiles old new k (Err e)
-program_stops_all old new k (stops.Said s) h = at_program h
-program_stops_all old new k stops.NoMemory h = tt
+-- ---- a count that rose since a later time has risen since an earlier one, and the content is the same at both
 
-pub host_stops_all : (old mid new : KnownFiles) (k : RunCommand) (p : ProgramParts) (e : Stop) → mid.content ≡ old.content → old.faults ≤ mid.faults →
-    HasProgram old.content k.program (program_of_tree p) (names_of p) → LoadsHost mid new k.host (Err e) → RunsFiles old new k (Err e)
-host_stops_all old mid new k p (stops.Said x) s h has l = at_host has (host_since old mid new s h l)
-host_stops_all old mid new k p stops.NoMemory s h has l = tt
+lacks_since : {before now : Option Content} (same : now ≡ before) (name : Name) → LacksFile now name → LacksFile before name
+lacks_since same name l = subst (λ (t : Option Content). LacksFile t name) same l
 
--- ---- a demo
+module _ {before now : Option Content} (same : now ≡ before) {name : Name} where
+  long_since : HasLongFile now name → HasLongFile before name
+  long_since f = subst (λ (t : Option Content). HasLongFile t name) same f
 
-pub demo_program_stops : (k : DemoCommand) (e : Stop) → TellsOrFaults (demo_program k) (Err e) → RunsDemo k (Err e)
-demo_program_stops k (stops.Said s) h = subst (DemoAnswers k) (sym h.1) (demo_program_is_bad h.2)
-demo_program_stops k stops.NoMemory h = tt
+  pub bytes_since : {bytes : List ℕ} → HasBytes now name bytes → HasBytes before name bytes
+  bytes_since {bytes} b = subst (λ (t : Option Content). HasBytes t name bytes) same b
 
-pub demo_host_stops : (k : DemoCommand) (p : ProgramParts) (e : Stop) → TellsProgram (demo_program k) (program_of_tree p) (names_of p) → HostsOrFaults (demo_host k) (Err e) → RunsDemo k (Err e)
-demo_host_stops k p (stops.Said s) t h = subst (DemoAnswers k) (sym h.1) (demo_host_is_bad t h.2)
-demo_host_stops k p stops.NoMemory t h = tt
+  has_trace_since : {version : Version} {items : List meant.Item} → HasTrace now name version items → HasTrace before name version items
+  has_trace_since {version} {items} h = subst (λ (t : Option Content). HasTrace t name version items) same h
 
--- ---- what commands come to is true of the words
+module _ {old mid new : KnownFiles} (same : mid.content ≡ old.content) (later : old.faults ≤ mid.faults) where
+  cannot_since : {name : Name} → CannotRead mid new name → CannotRead old new name
+  cannot_since (risen r) = risen (omega arith)
+  cannot_since {name} (lacking l) = lacking (lacks_since same name l)
 
-pub runs_true : {words : List Name} {old new : KnownFiles} {k : RunCommand} {said : texts.Said} (r : Result Said Stop) → command_of words ≡ Some (run k) →
-    RunsFiles old new k r → IsAnswer r said → IsTrue words old new said
-runs_true {old = old} {new = new} {k = k} (Ok s) w h is = of_run w (subst (RunAnswers old new k) is h)
-runs_true {old = old} {new = new} {k = k} (Err (stops.Said s)) w h is = of_run w (subst (RunAnswers old new k) is h)
-runs_true (Err stops.NoMemory) w h is = absurd is
+  pub host_since : {name : Name} (said : texts.Said) → StopsAtHost mid new name said → StopsAtHost old new name said
+  host_since _ (host_is_long f) = host_is_long (long_since same f)
+  host_since _ (host_is_bad b x) = host_is_bad (bytes_since same b) x
+  host_since _ (host_is_unread u) = host_is_unread (cannot_since u)
 
-pub demo_true : {words : List Name} {old new : KnownFiles} {k : DemoCommand} {said : texts.Said} (r : Result Said Stop) → command_of words ≡ Some (demo k) →
-    RunsDemo k r → IsAnswer r said → IsTrue words old new said
-demo_true {k = k} (Ok s) w h is = of_demo w (subst (DemoAnswers k) is h)
-demo_true {k = k} (Err (stops.Said s)) w h is = of_demo w (subst (DemoAnswers k) is h)
-demo_true (Err stops.NoMemory) w h is = absurd is
+  trace_since : {name : Name} {said : texts.Said} → StopsAtTrace mid new name said → StopsAtTrace old new name said
+  trace_since (trace_is_long f) = trace_is_long (long_since same f)
+  trace_since (trace_is_bad b x) = trace_is_bad (bytes_since same b) x
+  trace_since (trace_is_unread u) = trace_is_unread (cannot_since u)
+
+  pub result_since : {name : Name} (said : texts.Said) → StopsAtResult mid new name said → StopsAtResult old new name said
+  result_since _ (result_is_long f) = result_is_long (long_since same f)
+  result_since _ (result_is_unread u) = result_is_unread (cannot_since u)
+
+  pub checks_since : {k : CheckCommand} {p : meant.Program} {g : AnyGraph} (said : texts.Said) → Checks mid new k p g said → Checks old new k p g said
+  checks_since _ (at_trace x) = at_trace (trace_since x)
+  checks_since _ (at_result h x) = at_result (has_trace_since same h) (result_since _ x)
+  checks_since _ (is_derivation h b d) = is_derivation (has_trace_since same h) (bytes_since same b) d
+  checks_since _ (is_none h b n) = is_none (has_trace_since same h) (bytes_since same b) n

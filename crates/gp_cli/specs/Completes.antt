@@ -1,5 +1,5 @@
 -- From the cause to the status of the top call.
-use Rattle.std.specs.Prelude.{◌≡◌, ◌⊎◌, ℕ, ◌<◌, Bool, true, List, [], ◌∷◌, Option, Some, None, option_and_then}
+use Rattle.std.specs.Prelude.{◌≡◌, ◌⊎◌, ℕ, ◌<◌, true, List, [], ◌∷◌, Option, Some, None, option_and_then}
 use Rattle.gp_io.specs.Outside.{Content, KnownFiles, KnownSink, Rose}
 use Rattle.gp_values.specs.Names.{Name}
 use Rattle.gp_values.specs.Graph.{Graph}

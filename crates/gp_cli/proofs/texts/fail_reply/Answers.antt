@@ -1,7 +1,6 @@
 use Rattle.gp_cli.specs.Texts.{fail_shown}
+use Rattle.gp_cli.proofs.Shown.{on_out_shown}
 use Rattle.gp_cli.proofs.texts.fail_reply.Goals as goal
 
 pub returns : goal.returns
-returns c =
-    let r = c.on_out.ensures in
-    rw (r.status, r.journal, r.text, r.err, c.in_ok-trace.ensures, c.in_ok-text.ensures.items) fail_shown
+returns c = on_out_shown (fail_shown c.in_ok-trace.ensures) (rw c.in_ok-text.ensures.items at c.on_out.ensures)

@@ -6,10 +6,10 @@ pub returns-in-Ok-clause-answered : goal.returns-in-Ok-clause-answered
 returns-in-Ok-clause-answered g c = delivered c.in-Ok.ensures.replies c.deliver.ensures
 
 pub returns-in-Ok-clause-complete : goal.returns-in-Ok-clause-complete
-returns-in-Ok-clause-complete g c = completes c.texts_have_one_fault.ensures.none (delivered c.in-Ok.ensures.replies c.deliver.ensures)
+returns-in-Ok-clause-complete g c = completes c.texts_have_one_fault.ensures.none c.texts_have_one_program.ensures (delivered c.in-Ok.ensures.replies c.deliver.ensures)
 
 pub returns-in-Err-clause-answered : goal.returns-in-Err-clause-answered
 returns-in-Err-clause-answered g c = rw c.code.ensures (silent _ _)
 
 pub returns-in-Err-clause-complete : goal.returns-in-Err-clause-complete
-returns-in-Err-clause-complete g c = rw c.code.ensures (completes c.texts_have_one_fault.ensures.none (silent _ _))
+returns-in-Err-clause-complete g c = rw c.code.ensures (completes c.texts_have_one_fault.ensures.none c.texts_have_one_program.ensures (silent _ _))

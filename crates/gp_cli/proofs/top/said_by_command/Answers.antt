@@ -1,14 +1,26 @@
 use Rattle.std.proofs.lemmas.Result.{IfOk-weaker}
-use Rattle.gp_cli.proofs.Loads.{runs_true, demo_true}
+use Rattle.gp_words.specs.Told.{run_now, demo_now, check_now}
+use Rattle.gp_cli.specs.Answer.{RunAnswers, DemoAnswers, CheckAnswers, of_run, of_demo, of_check}
+use Rattle.gp_cli.proofs.Loads.{answered}
 use Rattle.gp_cli.proofs.top.said_by_command.Goals as goal
 
 pub returns-in-Run-clause-answer : goal.returns-in-Run-clause-answer
 returns-in-Run-clause-answer g c =
-    IfOk-weaker c.settled.result _ _ (λ s is words e. runs_true c.said_by_files.result (rw c.in-Run.is at e) c.said_by_files.ensures is) c.settled.ensures
+    let k = run_now c.in-Run.command in
+    IfOk-weaker c.settled.result _ _ (λ s is words e. of_run {k = k} (rw c.in-Run.is at e) (answered (RunAnswers _ _ k) c.said_by_files.result c.said_by_files.ensures is)) c.settled.ensures
 
 pub returns-in-Run-clause-unread : goal.returns-in-Run-clause-unread
 returns-in-Run-clause-unread g c = λ none. absurd (rw c.in-Run.is at none)
 
 pub returns-in-Demo-clause-answer : goal.returns-in-Demo-clause-answer
 returns-in-Demo-clause-answer g c =
-    IfOk-weaker c.settled-in-Demo.result _ _ (λ s is words e. demo_true c.demo.result (rw c.in-Demo.is at e) c.demo.ensures is) c.settled-in-Demo.ensures
+    let k = demo_now c.in-Demo.command in
+    IfOk-weaker c.settled-in-Demo.result _ _ (λ s is words e. of_demo {k = k} (rw c.in-Demo.is at e) (answered (DemoAnswers k) c.demo.result c.demo.ensures is)) c.settled-in-Demo.ensures
+
+pub returns-in-Check-clause-answer : goal.returns-in-Check-clause-answer
+returns-in-Check-clause-answer g c =
+    let k = check_now c.in-Check.command in
+    IfOk-weaker c.settled-in-Check.result _ _ (λ s is words e. of_check {k = k} (rw c.in-Check.is at e) (answered (CheckAnswers _ _ k) c.check.result c.check.ensures is)) c.settled-in-Check.ensures
+
+pub returns-in-Check-clause-unread : goal.returns-in-Check-clause-unread
+returns-in-Check-clause-unread g c = λ none. absurd (rw c.in-Check.is at none)
