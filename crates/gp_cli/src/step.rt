@@ -1,40 +1,18 @@
 //! What a walk of a script comes to.
 
-ghost use Rattle.std.specs.Prelude.{◌≡◌, IfOk, map};
-ghost use Rattle.gp_syntax.specs.Tree.{rule_of_tree};
 ghost use Rattle.gp_words.specs.Told.{step_now};
-ghost use Rattle.gp_cli.specs.inside.Parts.{HasJournal, WalksSaid, StepsFiles};
+ghost use Rattle.gp_cli.specs.inside.Parts.{StepsFiles};
 
 use crate::files::{load_host, load_program, load_script};
 use crate::run::run;
 use crate::said::{Said, Stop};
 use gp_io::Files;
-use gp_memory::NoMemory;
-use gp_script::{Line, walk};
-use gp_syntax::Rule;
 use gp_system::Crew;
 use gp_words::StepCommand;
 use opt_worker::Pacing;
 use std::alloc::Global;
 use std::sync::Wait;
 use std::thread::Threads;
-
-// What the script comes to over the items of a run that has ended. Any other answer stays.
-fn walked<'a>(
-    alloc: Global,
-    rules: &[Rule],
-    said: Said<'a>,
-    script: &[Line],
-) -> Result<Said<'a>, NoMemory>
-    requires { HasJournal (map rule_of_tree rules.now) said }
-    ensures { IfOk result (WalksSaid (map rule_of_tree rules.now) script.now said.entry) }
-{
-    match said {
-        Said::Graph(journal) => Ok(Said::Walked(walk(alloc, journal, rules, script)?)),
-        Said::Fail(journal) => Ok(Said::Walked(walk(alloc, journal, rules, script)?)),
-        other => Ok(other),
-    }
-}
 
 /// What the three files of a walk come to. One worker runs the program.
 pub(crate) fn step<'a, F: Files, R: Threads + Wait + Sync>(
@@ -56,5 +34,5 @@ pub(crate) fn step<'a, F: Files, R: Threads + Wait + Sync>(
     };
     let said = run(rt, alloc, &program, graph, crew, command.seed, pace)?;
     let rules = program.parts().rules.as_slice();
-    Ok(walked(alloc, rules, said, &script)?)
+    Ok(said.into_walked(alloc, rules, &script)?)
 }
