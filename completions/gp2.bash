@@ -6,7 +6,7 @@ _gp2() {
     --bound | --seed | --workers | --fan) return ;;
   esac
   if [ "$COMP_CWORD" -eq 1 ]; then
-    mapfile -t COMPREPLY < <(compgen -W "run demo check" -- "$word")
+    mapfile -t COMPREPLY < <(compgen -W "run demo check step" -- "$word")
     return
   fi
   if [ "${COMP_WORDS[1]}" = demo ]; then
@@ -17,6 +17,10 @@ _gp2() {
   if [ "${COMP_WORDS[1]}" = check ] && [ "$COMP_CWORD" -gt 3 ]; then # the trace and the result: any file
     compopt -o filenames 2>/dev/null
     mapfile -t COMPREPLY < <([ "$COMP_CWORD" -gt 5 ] || compgen -f -- "$word")
+    return
+  fi
+  if [[ $word == -* ]] && [ "${COMP_WORDS[1]}" = step ]; then
+    mapfile -t COMPREPLY < <(compgen -W "--bound --seed" -- "$word")
     return
   fi
   if [[ $word == -* ]]; then
@@ -34,6 +38,8 @@ _gp2() {
   case $files in
     0) pattern='*.gp2' ;;
     1) pattern='*.host' ;;
+    2) [ "${COMP_WORDS[1]}" = step ] && { compopt -o filenames 2>/dev/null; mapfile -t COMPREPLY < <(compgen -f -- "$word"); return; }
+      mapfile -t COMPREPLY < <(compgen -W "--bound --seed --journal --workers --fan" -- "$word"); return ;;
     *) mapfile -t COMPREPLY < <(compgen -W "--bound --seed --journal --workers --fan" -- "$word"); return ;;
   esac
   compopt -o filenames 2>/dev/null

@@ -13,11 +13,12 @@ use Rattle.gp_hostfile.specs.Host.{IsHostFault}
 use Rattle.gp_hostfile.proofs.Hosts.{no_fault}
 use Rattle.gp_trace.specs.declared.version.Version.{Version}
 use Rattle.gp_derivation.specs.Derivation.{IsDerivation}
-use Rattle.gp_words.specs.CommandLine.{DemoCommand, CheckCommand}
-use Rattle.gp_cli.specs.Texts.{Said, graph, failed, demo_done, derivation, no_derivation, usage, long_program, bad_program, long_host, bad_host, long_trace, bad_trace, long_result, bound_spent, number_fault, unread, Shows, graph_shown, fail_shown, demo_shown, derivation_shown, no_derivation_shown, usage_shown, long_program_shown, bad_program_shown, long_host_shown, bad_host_shown, long_trace_shown, bad_trace_shown, long_result_shown, bound_shown, number_shown, unread_shown}
-use Rattle.gp_cli.specs.Answer.{HasBytes, HasLongFile, CannotRead, HasProgram, HasHost, HasTrace, HasFaultyProgram, has_long_program, has_bad_program, HasFaultyHost, has_long_host, has_bad_host, HasFaultyTrace, has_long_trace, has_bad_trace, Comes, gives, fails, is_spent, is_faulty, StopsAtProgram, program_is_long, program_is_bad, program_is_unread, StopsAtHost, host_is_long, host_is_bad, host_is_unread, StopsAtTrace, trace_is_long, trace_is_bad, trace_is_unread, StopsAtResult, result_is_long, result_is_unread, OfBoth, at_program, at_host, behind_both, Checks, at_trace, at_result, is_derivation, is_none, of_demo_run, demo_program, demo_host, DemoAnswers, demo_program_is_bad, demo_host_is_bad, demo_runs}
+use Rattle.gp_script.specs.declared.line.Line.{Line}
+use Rattle.gp_words.specs.CommandLine.{DemoCommand, CheckCommand, StepCommand}
+use Rattle.gp_cli.specs.Texts.{Said, graph, failed, demo_done, derivation, no_derivation, walked, usage, long_program, bad_program, long_host, bad_host, long_trace, bad_trace, long_result, long_script, bad_script, bound_spent, number_fault, unread, Shows, graph_shown, fail_shown, demo_shown, derivation_shown, no_derivation_shown, walked_shown, usage_shown, long_program_shown, bad_program_shown, long_host_shown, bad_host_shown, long_trace_shown, bad_trace_shown, long_result_shown, long_script_shown, bad_script_shown, bound_shown, number_shown, unread_shown}
+use Rattle.gp_cli.specs.Answer.{HasBytes, HasLongFile, CannotRead, HasProgram, HasHost, HasTrace, HasScript, HasFaultyProgram, has_long_program, has_bad_program, HasFaultyHost, has_long_host, has_bad_host, HasFaultyTrace, has_long_trace, has_bad_trace, HasFaultyScript, has_long_script, has_bad_script, Comes, gives, fails, is_spent, is_faulty, StopsAtProgram, program_is_long, program_is_bad, program_is_unread, StopsAtHost, host_is_long, host_is_bad, host_is_unread, StopsAtTrace, trace_is_long, trace_is_bad, trace_is_unread, StopsAtResult, result_is_long, result_is_unread, StopsAtScript, script_is_long, script_is_bad, script_is_unread, OfBoth, at_program, at_host, behind_both, Checks, at_trace, at_result, is_derivation, is_none, IsEndless, Steps, at_script, walks, is_endless, of_demo_run, demo_program, demo_host, DemoAnswers, demo_program_is_bad, demo_host_is_bad, demo_runs}
 use Rattle.gp_cli.specs.Completes.{IsOneOf, Stays}
-use Rattle.gp_cli.proofs.Held.{can_read, same_bytes, program_bytes, host_bytes, trace_bytes, too_long, same_trace, sound_program, sound_host, sound_trace}
+use Rattle.gp_cli.proofs.Held.{can_read, same_bytes, program_bytes, host_bytes, trace_bytes, script_bytes, too_long, same_trace, sound_program, sound_host, sound_trace, sound_script}
 
 abbrev pub status_of : Said → ℕ
 status_of (graph t h) = 0
@@ -25,6 +26,7 @@ status_of (failed t) = 1
 status_of (demo_done kind size t h) = 0
 status_of derivation = 0
 status_of no_derivation = 1
+status_of (walked text) = 0
 status_of usage = 2
 status_of long_program = 3
 status_of (bad_program f) = 3
@@ -33,6 +35,8 @@ status_of (bad_host f) = 4
 status_of long_trace = 10
 status_of (bad_trace line) = 10
 status_of long_result = 10
+status_of long_script = 11
+status_of (bad_script line) = 11
 status_of (bound_spent bound) = 5
 status_of (number_fault rule kind) = 6
 status_of (unread name) = 8
@@ -43,6 +47,7 @@ shown (fail_shown _) = refl
 shown demo_shown = refl
 shown derivation_shown = refl
 shown no_derivation_shown = refl
+shown walked_shown = refl
 shown usage_shown = refl
 shown long_program_shown = refl
 shown bad_program_shown = refl
@@ -51,6 +56,8 @@ shown bad_host_shown = refl
 shown long_trace_shown = refl
 shown bad_trace_shown = refl
 shown long_result_shown = refl
+shown long_script_shown = refl
+shown bad_script_shown = refl
 shown bound_shown = refl
 shown number_shown = refl
 shown unread_shown = refl
@@ -75,6 +82,12 @@ module _ {bound seed : ℕ} {p : Program} {names : List Name} {g : Graph} where
   of_its_run k (fails _) = inr (inl refl)
   of_its_run k (is_spent _ _ _ _) = inr (inr (inr (inr (inl refl))))
   of_its_run k (is_faulty _ _ _) = inr (inr (inr (inr (inr (inl refl)))))
+
+  of_endless : (Good : ℕ → Type 0) {said : Said} → Good 5 → Good 6 → Comes bound seed p names g said → IsEndless said → Good (status_of said)
+  of_endless Good five six (gives _) e = absurd e
+  of_endless Good five six (fails _) e = absurd e
+  of_endless Good five six (is_spent _ _ _ _) e = five
+  of_endless Good five six (is_faulty _ _ _) e = six
 
 module _ {k : DemoCommand} where
   pub of_demo_answer : {said : Said} → DemoAnswers k said → OfDemo (status_of said)
@@ -121,6 +134,11 @@ module _ {old new : KnownFiles} {held : Content} (known : old.content ≡ Some h
   result_passes h (result_is_long l) = absurd (too_long known h l)
   result_passes {bytes = bytes} h (result_is_unread u) = unread_well _ bytes h.file u
 
+  script_passes : {name : Name} {lines : List Line} {said : Said} → HasScript old.content name lines → StopsAtScript old new name said → Good (status_of said)
+  script_passes h (script_is_long l) = absurd (sound_script known h (has_long_script l))
+  script_passes h (script_is_bad b x) = absurd (sound_script known h (has_bad_script b x))
+  script_passes h (script_is_unread u) = unread_well _ h.bytes h.has.file u
+
   -- what is at fault has its own status
   program_stops : {name : Name} {said : Said} → Good 3 → HasFaultyProgram old.content name → StopsAtProgram old new name said → Good (status_of said)
   program_stops three f (program_is_long _) = three
@@ -140,6 +158,11 @@ module _ {old new : KnownFiles} {held : Content} (known : old.content ≡ Some h
   result_stops : {name : Name} {said : Said} → Good 10 → HasLongFile old.content name → StopsAtResult old new name said → Good (status_of said)
   result_stops ten f (result_is_long _) = ten
   result_stops ten f (result_is_unread u) = unread_well _ f.bytes f.file u
+
+  script_stops : {name : Name} {said : Said} → Good 11 → HasFaultyScript old.content name → StopsAtScript old new name said → Good (status_of said)
+  script_stops eleven f (script_is_long _) = eleven
+  script_stops eleven f (script_is_bad _ _) = eleven
+  script_stops eleven f (script_is_unread u) = let b = script_bytes f in unread_well _ b.0 b.1 u
 
   -- ---- a program and a host, and then the rest
 
@@ -186,3 +209,16 @@ module _ {old new : KnownFiles} {held : Content} (known : old.content ≡ Some h
     of_long_result ten h f (at_result _ x) = result_stops ten f x
     of_long_result ten h f (is_derivation _ b _) = absurd (too_long known b f)
     of_long_result ten h f (is_none _ b _) = absurd (too_long known b f)
+
+  -- ---- a script, and then the run
+
+  module _ {k : StepCommand} {p : Program} {names : List Name} {g : Graph} where
+    pub of_step : {lines : List Line} {said : Said} → HasScript old.content k.script lines → Good 0 → Good 5 → Good 6 → Steps old new k p names g said → Good (status_of said)
+    of_step hs good five six (at_script x) = script_passes hs x
+    of_step hs good five six (walks _ _ _ _) = good
+    of_step hs good five six (is_endless _ c e) = of_endless Good five six c e
+
+    pub of_faulty_script : {said : Said} → Good 11 → HasFaultyScript old.content k.script → Steps old new k p names g said → Good (status_of said)
+    of_faulty_script eleven f (at_script x) = script_stops eleven f x
+    of_faulty_script eleven f (walks h _ _ _) = absurd (sound_script known h f)
+    of_faulty_script eleven f (is_endless h _ _) = absurd (sound_script known h f)

@@ -8,13 +8,13 @@ use Rattle.gp_syntax.specs.Run.{Program}
 use Rattle.gp_reader.specs.Laws.{TextsHaveNoFault, TextsHaveOneProgram}
 use Rattle.gp_derivation.specs.Derivation.{IsDerivation}
 use Rattle.gp_trace.specs.declared.version.Version.TheVariants.{Two}
-use Rattle.gp_words.specs.CommandLine.{run, demo, check, command_of}
+use Rattle.gp_words.specs.CommandLine.{run, demo, check, step, command_of}
 use Rattle.gp_cli.specs.Texts.{Said}
 use Rattle.gp_cli.specs.Answer.{HasProgram, HasHost, HasTrace, IsTrue, Answered, replied, no_memory, out_fault, err_fault}
-use Rattle.gp_cli.specs.Completes.{IsOneOf, Stays, NoSinkFails, NothingFails, Refuses, RunCompletes, CheckCompletes, ChecksRuns, DemoCompletes, RefusesWords, files_of, RefusesProgram, RefusesHost, RefusesTrace, RefusesResult, RefusesDemoProgram, RefusesDemoHost, TellsFaults, Completes}
+use Rattle.gp_cli.specs.Completes.{IsOneOf, Stays, NoSinkFails, NothingFails, Refuses, RunCompletes, CheckCompletes, ChecksRuns, StepCompletes, DemoCompletes, RefusesWords, files_of, RefusesProgram, RefusesHost, RefusesTrace, RefusesResult, RefusesScript, RefusesDemoProgram, RefusesDemoHost, TellsFaults, Completes}
 use Rattle.gp_cli.specs.Written.{TakesAll}
 use Rattle.gp_cli.proofs.Held.{same_program, same_host}
-use Rattle.gp_cli.proofs.Causes.{status_of, shown, OfRun, OfDemo, of_run, of_demo_answer, of_demo_program, of_demo_host, MayBeUnread, never_unread, of_both, of_faulty_program, of_faulty_host, of_check, of_faulty_trace, of_long_result}
+use Rattle.gp_cli.proofs.Causes.{status_of, shown, OfRun, OfDemo, of_run, of_demo_answer, of_demo_program, of_demo_host, MayBeUnread, never_unread, of_both, of_faulty_program, of_faulty_host, of_check, of_faulty_trace, of_long_result, of_step, of_faulty_script}
 use Rattle.gp_cli.proofs.Commands.{by_command, no_command, both_of_command}
 use Rattle.gp_cli.proofs.Ran.{derived}
 
@@ -23,6 +23,9 @@ stayed t h = let e = t.faultless in omega arith
 
 abbrev OfCheck : ℕ → Type 0
 OfCheck = IsOneOf (0 ∷ 1 ∷ 7 ∷ [])
+
+abbrev OfStep : ℕ → Type 0
+OfStep = IsOneOf (0 ∷ 5 ∷ 6 ∷ 7 ∷ [])
 
 module _ {words : List Name} {old new : KnownFiles} {out_old out_new err_old err_new : KnownSink} where
   -- ---- what is written: a reply, want of memory, or a failed write
@@ -83,6 +86,12 @@ module _ {words : List Name} {old new : KnownFiles} {out_old out_new err_old err
       (subst (λ (q : Program). IsDerivation q d.g Two d.items result) (same_program known one_program hp kp) d.derivation)))) x)
       (by_command (check k) w is)) not_out not_err a
 
+  steps_complete : {s : ℕ} → TextsHaveNoFault → Answered words old new out_old out_new err_old err_new s → StepCompletes words old new out_old out_new err_old err_new s
+  steps_complete faultless a held k p names g lines known w hp hh hs n not_out not_err =
+      let never = never_unread OfStep n in
+      answers_well OfStep (inr (inr (inr (inl refl))))
+      (λ said is. of_both known OfStep never faultless hp hh (λ q others h kp kh x. of_step known OfStep never hs (inl refl) (inr (inl refl)) (inr (inr (inl refl))) x) (by_command (step k) w is)) not_out not_err a
+
   demos_complete : {s : ℕ} → Answered words old new out_old out_new err_old err_new s → DemoCompletes words out_old out_new err_old err_new s
   demos_complete a k w not_out not_err =
       answers_well OfDemo (inr (inr (inr (inr (inr (inr (inl refl))))))) (λ said is. of_demo_answer (by_command (demo k) w is)) not_out not_err a
@@ -110,6 +119,10 @@ module _ {words : List Name} {old new : KnownFiles} {out_old out_new err_old err
   results_refuse faultless a held k p names g version items known w hp hh ht f =
       refuses_unread 10 (λ Good ten unread said is. of_both known Good unread faultless hp hh (λ q others h kp kh x. of_long_result known Good unread ten ht f x) (by_command (check k) w is)) a
 
+  scripts_refuse : {s : ℕ} → TextsHaveNoFault → Answered words old new out_old out_new err_old err_new s → RefusesScript words old new out_old out_new err_old err_new s
+  scripts_refuse faultless a held k p names g known w hp hh f =
+      refuses_unread 11 (λ Good eleven unread said is. of_both known Good unread faultless hp hh (λ q others h kp kh x. of_faulty_script known Good unread eleven f x) (by_command (step k) w is)) a
+
   demo_programs_refuse : {s : ℕ} → TextsHaveNoFault → Answered words old new out_old out_new err_old err_new s → RefusesDemoProgram words out_old out_new err_old err_new s
   demo_programs_refuse faultless a k f w x = refuses_surely 3 (λ said is. of_demo_program faultless x (by_command (demo k) w is)) a
 
@@ -135,12 +148,14 @@ module _ {words : List Name} {old new : KnownFiles} {out_old out_new err_old err
     runs = runs_complete faultless a;
     checks = checks_complete faultless a;
     checks_runs = checks_run faultless one_program a;
+    steps = steps_complete faultless a;
     demos = demos_complete a;
     words_refused = words_refuse a;
     program_refused = programs_refuse faultless a;
     host_refused = hosts_refuse faultless a;
     trace_refused = traces_refuse faultless a;
     result_refused = results_refuse faultless a;
+    script_refused = scripts_refuse faultless a;
     demo_program_refused = demo_programs_refuse faultless a;
     demo_host_refused = demo_hosts_refuse faultless a;
     out_faults = out_tells a;

@@ -10,8 +10,11 @@ use Rattle.gp_reader.specs.Program as program
 use Rattle.gp_trace.specs.declared.fault.TraceFault.{TraceFault}
 use Rattle.gp_trace.specs.declared.fault.TraceFault.TheVariants as breaks
 use Rattle.gp_trace.specs.Reading.{HasFault}
-use Rattle.gp_cli.specs.inside.Parts.{HostsOrFaults, TellsOrFaults, TracesOrFaults}
-use Rattle.gp_cli.specs.inside.Told.{host_refused, program_refused, trace_refused}
+use Rattle.gp_script.specs.declared.fault.ScriptFault.{ScriptFault}
+use Rattle.gp_script.specs.declared.fault.ScriptFault.TheVariants as unread
+use Rattle.gp_script.specs.Script as script
+use Rattle.gp_cli.specs.inside.Parts.{HostsOrFaults, TellsOrFaults, TracesOrFaults, ScriptsOrFaults}
+use Rattle.gp_cli.specs.inside.Told.{host_refused, program_refused, trace_refused, script_refused}
 
 -- ---- what is refused
 
@@ -37,3 +40,7 @@ program_faults bytes faulty.NoMemory h = tt
 pub trace_faults : (bytes : List ℕ) (e : TraceFault) → HasFault bytes e → TracesOrFaults bytes (Err (trace_refused e))
 trace_faults bytes (breaks.Line k) h = (k, refl, h)
 trace_faults bytes breaks.NoMemory h = tt
+
+pub script_faults : (bytes : List ℕ) (e : ScriptFault) → script.HasFault bytes e → ScriptsOrFaults bytes (Err (script_refused e))
+script_faults bytes (unread.Line k) h = (k, refl, h)
+script_faults bytes unread.NoMemory h = tt

@@ -13,7 +13,10 @@ use Rattle.gp_hostfile.proofs.Hosts.{one_host, no_fault}
 use Rattle.gp_trace.specs.declared.version.Version.{Version}
 use Rattle.gp_trace.specs.Reading.{IsTraceOf}
 use Rattle.gp_trace.proofs.Told.{told, breaks_told}
-use Rattle.gp_cli.specs.Answer.{HasBytes, HasLongFile, CannotRead, risen, lacking, HasProgram, HasHost, HasTrace, HasFaultyProgram, has_long_program, has_bad_program, HasFaultyHost, has_long_host, has_bad_host, HasFaultyTrace, has_long_trace, has_bad_trace}
+use Rattle.gp_script.specs.declared.line.Line.{Line}
+use Rattle.gp_script.specs.Script.{IsScript}
+use Rattle.gp_script.proofs.Words.{breaks_once}
+use Rattle.gp_cli.specs.Answer.{HasBytes, HasLongFile, CannotRead, risen, lacking, HasProgram, HasHost, HasTrace, HasScript, HasFaultyProgram, has_long_program, has_bad_program, HasFaultyHost, has_long_host, has_bad_host, HasFaultyTrace, has_long_trace, has_bad_trace, HasFaultyScript, has_long_script, has_bad_script}
 use Rattle.gp_cli.specs.Completes.{Stays}
 
 pub same_bytes : {held : Content} (content : Option Content) (name : Name) (a b : List ℕ) → content ≡ Some held → HasFile content name a → HasFile content name b → a ≡ b
@@ -49,6 +52,10 @@ module _ {content : Option Content} {name : Name} where
   trace_bytes (has_long_trace f) = (f.bytes, f.file)
   trace_bytes (has_bad_trace {bytes} b x) = (bytes, b.file)
 
+  pub script_bytes : HasFaultyScript content name → (bytes : List ℕ) × HasFile content name bytes
+  script_bytes (has_long_script f) = (f.bytes, f.file)
+  script_bytes (has_bad_script {bytes} b x) = (bytes, b.file)
+
 module _ {content : Option Content} {held : Content} (known : content ≡ Some held) {name : Name} where
   pub too_long : {bytes : List ℕ} → HasBytes content name bytes → HasLongFile content name → ⊥
   too_long {bytes} h l =
@@ -57,7 +64,7 @@ module _ {content : Option Content} {held : Content} (known : content ≡ Some h
       let b = l.long in
       omega arith
 
-  -- ---- a text is of one program, of one host, and of one trace
+  -- ---- a text is of one program, of one host, of one trace, and of one script
 
   pub program_again : {p : Program} {names : List Name} (bytes : List ℕ) → HasFile content name bytes → HasProgram content name p names → IsProgramText bytes p
   program_again {p} bytes f h = subst (λ (b : List ℕ). IsProgramText b p) (same_bytes content name h.bytes bytes known h.has.file f) h.tells.text
@@ -67,6 +74,9 @@ module _ {content : Option Content} {held : Content} (known : content ≡ Some h
 
   trace_again : {version : Version} {t : List Item} (bytes : List ℕ) → HasFile content name bytes → HasTrace content name version t → IsTraceOf bytes version t
   trace_again {version} {t} bytes f h = subst (λ (b : List ℕ). IsTraceOf b version t) (same_bytes content name h.bytes bytes known h.has.file f) h.text
+
+  script_again : {lines : List Line} (bytes : List ℕ) → HasFile content name bytes → HasScript content name lines → IsScript bytes lines
+  script_again {lines} bytes f h = subst (λ (b : List ℕ). IsScript b lines) (same_bytes content name h.bytes bytes known h.has.file f) h.text
 
   pub same_program : {p q : Program} {names others : List Name} → TextsHaveOneProgram → HasProgram content name p names → HasProgram content name q others → p ≡ q
   same_program {p} {q} one h k = one h.bytes p q h.tells.text (program_again h.bytes h.has.file k)
@@ -90,3 +100,7 @@ module _ {content : Option Content} {held : Content} (known : content ≡ Some h
   pub sound_trace : {version : Version} {t : List Item} → HasTrace content name version t → HasFaultyTrace content name → ⊥
   sound_trace h (has_long_trace f) = too_long h.has f
   sound_trace {version} {t} h (has_bad_trace {bytes} {line} b x) = (breaks_told bytes).none version t line (trace_again bytes b.file h) x
+
+  pub sound_script : {lines : List Line} → HasScript content name lines → HasFaultyScript content name → ⊥
+  sound_script h (has_long_script f) = too_long h.has f
+  sound_script {lines} h (has_bad_script {bytes} {line} b x) = (breaks_once bytes).none lines line (script_again bytes b.file h) x

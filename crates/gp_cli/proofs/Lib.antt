@@ -11,4 +11,5 @@ pub mod Pieces
 pub mod Ran
 pub mod Runs
 pub mod Shown
+pub mod Stepped
 pub mod Written

@@ -15,14 +15,15 @@ use Rattle.gp_reader.specs.declared.fault.ProgramFault.{ProgramFault}
 use Rattle.gp_reader.specs.Program.{IsFaultyText}
 use Rattle.gp_hostfile.specs.declared.fault.HostFault.{HostFault}
 use Rattle.gp_hostfile.specs.Host.{IsHostFault}
+use Rattle.gp_script.specs.declared.line.Line.{Line}
 use Rattle.gp_words.specs.CommandLine.{DemoCommand, CheckCommand}
 use Rattle.gp_graph.specs.declared.graph.Graph.{Graph}
 use Rattle.gp_cli.specs.declared.said.Said.{Said}
 use Rattle.gp_cli.specs.declared.said.Stop.{Stop}
 use Rattle.gp_cli.specs.declared.said.Stop.TheVariants as stops
 use Rattle.gp_cli.specs.Texts as texts
-use Rattle.gp_cli.specs.Answer.{HasBytes, HasLongFile, HasTrace, TellsProgram, demo_program, demo_host, DemoAnswers, demo_program_is_bad, demo_host_is_bad, CannotRead, risen, lacking, StopsAtProgram, program_is_long, program_is_bad, program_is_unread, StopsAtHost, host_is_long, host_is_bad, host_is_unread, StopsAtTrace, trace_is_long, trace_is_bad, trace_is_unread, StopsAtResult, result_is_long, result_is_unread, Checks, at_trace, at_result, is_derivation, is_none}
-use Rattle.gp_cli.specs.inside.Parts.{StopsAtFile, too_long, unread, TellsOrFaults, HostsOrFaults, TracesOrFaults, LoadsProgram, LoadsHost, LoadsTrace}
+use Rattle.gp_cli.specs.Answer.{HasBytes, HasLongFile, HasTrace, HasScript, TellsProgram, demo_program, demo_host, DemoAnswers, demo_program_is_bad, demo_host_is_bad, CannotRead, risen, lacking, StopsAtProgram, program_is_long, program_is_bad, program_is_unread, StopsAtHost, host_is_long, host_is_bad, host_is_unread, StopsAtTrace, trace_is_long, trace_is_bad, trace_is_unread, StopsAtResult, result_is_long, result_is_unread, StopsAtScript, script_is_long, script_is_bad, script_is_unread, Checks, at_trace, at_result, is_derivation, is_none}
+use Rattle.gp_cli.specs.inside.Parts.{StopsAtFile, too_long, unread, TellsOrFaults, HostsOrFaults, TracesOrFaults, ScriptsOrFaults, LoadsProgram, LoadsHost, LoadsTrace, LoadsScript}
 use Rattle.gp_cli.specs.inside.Told.{said_of, IsAnswer}
 
 pub read_cause : (old new : KnownFiles) (name : Name) → Rose old.faults new.faults ⊎ (LacksFile old.content name × (new.faults ≡ old.faults)) → CannotRead old new name
@@ -73,6 +74,10 @@ module _ {old new : KnownFiles} {name : Name} where
   result_stop _ (too_long f) = result_is_long f
   result_stop _ (unread u) = result_is_unread u
 
+  pub script_stop : (said : texts.Said) → StopsAtFile old new name texts.long_script said → StopsAtScript old new name said
+  script_stop _ (too_long f) = script_is_long f
+  script_stop _ (unread u) = script_is_unread u
+
 -- ---- and so does a fault of a demo's text
 
 module _ {k : DemoCommand} where
@@ -100,6 +105,11 @@ module _ (old new : KnownFiles) (name : Name) (bytes : List ℕ) where
   trace_loads (Err (stops.Said s)) has t = subst (StopsAtTrace old new name) (sym t.1) (trace_is_bad has t.2)
   trace_loads (Err stops.NoMemory) has t = tt
 
+  pub script_loads : (r : Result (Vec Line Global) Stop) → HasBytes old.content name bytes → ScriptsOrFaults bytes r → LoadsScript old new name r
+  script_loads (Ok v) has t = record { bytes = bytes; has = has; text = t }
+  script_loads (Err (stops.Said s)) has t = subst (StopsAtScript old new name) (sym t.1) (script_is_bad has t.2)
+  script_loads (Err stops.NoMemory) has t = tt
+
 -- ---- a count that rose since a later time has risen since an earlier one, and the content is the same at both
 
 lacks_since : {before now : Option Content} (same : now ≡ before) (name : Name) → LacksFile now name → LacksFile before name
@@ -114,6 +124,9 @@ module _ {before now : Option Content} (same : now ≡ before) {name : Name} whe
 
   has_trace_since : {version : Version} {items : List meant.Item} → HasTrace now name version items → HasTrace before name version items
   has_trace_since {version} {items} h = subst (λ (t : Option Content). HasTrace t name version items) same h
+
+  pub has_script_since : {lines : List Line} → HasScript now name lines → HasScript before name lines
+  has_script_since {lines} h = subst (λ (t : Option Content). HasScript t name lines) same h
 
 module _ {old mid new : KnownFiles} (same : mid.content ≡ old.content) (later : old.faults ≤ mid.faults) where
   cannot_since : {name : Name} → CannotRead mid new name → CannotRead old new name
@@ -133,6 +146,11 @@ module _ {old mid new : KnownFiles} (same : mid.content ≡ old.content) (later 
   pub result_since : {name : Name} (said : texts.Said) → StopsAtResult mid new name said → StopsAtResult old new name said
   result_since _ (result_is_long f) = result_is_long (long_since same f)
   result_since _ (result_is_unread u) = result_is_unread (cannot_since u)
+
+  pub script_since : {name : Name} (said : texts.Said) → StopsAtScript mid new name said → StopsAtScript old new name said
+  script_since _ (script_is_long f) = script_is_long (long_since same f)
+  script_since _ (script_is_bad b x) = script_is_bad (bytes_since same b) x
+  script_since _ (script_is_unread u) = script_is_unread (cannot_since u)
 
   pub checks_since : {k : CheckCommand} {p : meant.Program} {g : AnyGraph} (said : texts.Said) → Checks mid new k p g said → Checks old new k p g said
   checks_since _ (at_trace x) = at_trace (trace_since x)

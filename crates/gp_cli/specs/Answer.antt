@@ -14,10 +14,14 @@ use Rattle.gp_hostfile.specs.Host.{IsHostText, IsHostFault}
 use Rattle.gp_trace.specs.declared.version.Version.{Version}
 use Rattle.gp_trace.specs.Reading.{IsTraceOf, BreaksAt}
 use Rattle.gp_derivation.specs.Derivation.{IsDerivation}
+use Rattle.gp_script.specs.declared.line.Line.{Line}
+use Rattle.gp_script.specs.Script.{IsScript}
+use Rattle.gp_script.specs.Script as script
+use Rattle.gp_script.specs.Walk.{Walks}
 use Rattle.gp_gen.specs.Texts.{program_text, host_text}
-use Rattle.gp_words.specs.CommandLine.{RunCommand, DemoCommand, CheckCommand, Command, run, demo, check, command_of}
+use Rattle.gp_words.specs.CommandLine.{RunCommand, DemoCommand, CheckCommand, StepCommand, Command, run, demo, check, step, command_of}
 use Rattle.gp_cli.specs.Choices.{AreSeeded}
-use Rattle.gp_cli.specs.Texts.{Said, graph, failed, demo_done, derivation, no_derivation, usage, long_program, bad_program, long_host, bad_host, long_trace, bad_trace, long_result, bound_spent, number_fault, unread, Shows}
+use Rattle.gp_cli.specs.Texts.{Said, graph, failed, demo_done, derivation, no_derivation, walked, usage, long_program, bad_program, long_host, bad_host, long_trace, bad_trace, long_result, long_script, bad_script, bound_spent, number_fault, unread, Shows}
 use Rattle.gp_cli.specs.Written.{out_pieces, TakesAll, IsCutShort}
 
 -- the greatest number of bytes of a file
@@ -67,6 +71,12 @@ pub record HasTrace (content : Option Content) (name : Name) (version : Version)
   pub has : HasBytes content name bytes
   pub text : IsTraceOf bytes version items
 
+-- its bytes are the script of these lines
+pub record HasScript (content : Option Content) (name : Name) (lines : List Line) : Type 0 where
+  pub bytes : List ℕ
+  pub has : HasBytes content name bytes
+  pub text : IsScript bytes lines
+
 -- it is longer than the limit, or its bytes have a fault of a program's text
 pub data HasFaultyProgram (content : Option Content) (name : Name) : Type 0 where
   has_long_program : HasLongFile content name → HasFaultyProgram content name
@@ -81,6 +91,11 @@ pub data HasFaultyHost (content : Option Content) (name : Name) : Type 0 where
 pub data HasFaultyTrace (content : Option Content) (name : Name) : Type 0 where
   has_long_trace : HasLongFile content name → HasFaultyTrace content name
   has_bad_trace : {bytes : List ℕ} {line : ℕ} → HasBytes content name bytes → BreaksAt bytes line → HasFaultyTrace content name
+
+-- it is longer than the limit, or a line of it is none of the words of scripts
+pub data HasFaultyScript (content : Option Content) (name : Name) : Type 0 where
+  has_long_script : HasLongFile content name → HasFaultyScript content name
+  has_bad_script : {bytes : List ℕ} {line : ℕ} → HasBytes content name bytes → script.BreaksAt bytes line → HasFaultyScript content name
 
 -- ---- what a program comes to on a host
 
@@ -129,6 +144,12 @@ pub data StopsAtResult (old new : KnownFiles) (name : Name) : Said → Type 0 wh
   result_is_long : HasLongFile old.content name → StopsAtResult old new name long_result
   result_is_unread : CannotRead old new name → StopsAtResult old new name (unread name)
 
+-- of a script
+pub data StopsAtScript (old new : KnownFiles) (name : Name) : Said → Type 0 where
+  script_is_long : HasLongFile old.content name → StopsAtScript old new name long_script
+  script_is_bad : {bytes : List ℕ} {line : ℕ} → HasBytes old.content name bytes → script.BreaksAt bytes line → StopsAtScript old new name (bad_script line)
+  script_is_unread : CannotRead old new name → StopsAtScript old new name (unread name)
+
 -- A program and a host are read, and then comes what is done with both. The order is: program read, program, host read,
 -- host, the rest.
 pub data OfBoth (old new : KnownFiles) (program host : Name) (Rest : Program → List Name → Graph → Said → Type 0) : Said → Type 0 where
@@ -159,6 +180,32 @@ pub data Checks (old new : KnownFiles) (k : CheckCommand) (p : Program) (g : Gra
 -- the trace and the result are checked against the program and the host
 abbrev pub CheckAnswers : KnownFiles → KnownFiles → CheckCommand → Said → Type 0
 CheckAnswers old new k = OfBoth old new k.program k.host (λ p rule_names g. Checks old new k p g)
+
+-- ---- `step`
+
+-- the run has ended
+abbrev pub HasEnded : Ending → Type 0
+HasEnded (Gives h) = Unit {0}
+HasEnded (Fails h) = Unit {0}
+HasEnded other = ⊥
+
+-- a run that has no end is answered so
+abbrev pub IsEndless : Said → Type 0
+IsEndless (bound_spent n) = Unit {0}
+IsEndless (number_fault name kind) = Unit {0}
+IsEndless other = ⊥
+
+-- The order is: script read, script, run. Where the run ends, in place of its end the script is walked over its items.
+pub data Steps (old new : KnownFiles) (k : StepCommand) (p : Program) (rule_names : List Name) (g : Graph) : Said → Type 0 where
+  at_script : {said : Said} → StopsAtScript old new k.script said → Steps old new k p rule_names g said
+  walks : {lines : List Line} {t : List Item} {x : Ending} {text : List ℕ} → HasScript old.content k.script lines → RunsTo k.bound k.seed p g t x → HasEnded x →
+      Walks p.rules g t 0 lines text → Steps old new k p rule_names g (walked text)
+  is_endless : {lines : List Line} {said : Said} → HasScript old.content k.script lines → Comes k.bound k.seed p rule_names g said → IsEndless said →
+      Steps old new k p rule_names g said
+
+-- a script is walked over a run of the program on the host
+abbrev pub StepAnswers : KnownFiles → KnownFiles → StepCommand → Said → Type 0
+StepAnswers old new k = OfBoth old new k.program k.host (Steps old new k)
 
 -- ---- `demo`
 
@@ -196,6 +243,7 @@ pub data IsTrue (words : List Name) (old new : KnownFiles) : Said → Type 0 whe
   of_run : {k : RunCommand} {said : Said} → command_of words ≡ Some (run k) → RunAnswers old new k said → IsTrue words old new said
   of_demo : {k : DemoCommand} {said : Said} → command_of words ≡ Some (demo k) → DemoAnswers k said → IsTrue words old new said
   of_check : {k : CheckCommand} {said : Said} → command_of words ≡ Some (check k) → CheckAnswers old new k said → IsTrue words old new said
+  of_step : {k : StepCommand} {said : Said} → command_of words ≡ Some (step k) → StepAnswers old new k said → IsTrue words old new said
 
 -- ---- what is written
 
@@ -204,6 +252,7 @@ abbrev pub wants_journal : Command → Bool
 wants_journal (run k) = k.journal
 wants_journal (demo k) = false
 wants_journal (check k) = false
+wants_journal (step k) = false
 
 -- the words ask for it
 abbrev pub asks_journal : List Name → Bool
@@ -240,3 +289,4 @@ ReadsNone None = Unit {0}
 ReadsNone (Some (run k)) = ⊥
 ReadsNone (Some (demo k)) = Unit {0}
 ReadsNone (Some (check k)) = ⊥
+ReadsNone (Some (step k)) = ⊥

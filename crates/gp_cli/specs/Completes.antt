@@ -9,8 +9,9 @@ use Rattle.gp_reader.specs.Program.{IsProgramText, IsFaultyText}
 use Rattle.gp_hostfile.specs.declared.fault.HostFault.{HostFault}
 use Rattle.gp_hostfile.specs.Host.{IsHostFault}
 use Rattle.gp_trace.specs.declared.version.Version.{Version}
-use Rattle.gp_words.specs.CommandLine.{RunCommand, DemoCommand, CheckCommand, Command, run, demo, check, command_of}
-use Rattle.gp_cli.specs.Answer.{HasBytes, HasLongFile, HasProgram, HasHost, HasTrace, HasFaultyProgram, HasFaultyHost, HasFaultyTrace, demo_program, demo_host, asks_journal, Replies}
+use Rattle.gp_script.specs.declared.line.Line.{Line}
+use Rattle.gp_words.specs.CommandLine.{RunCommand, DemoCommand, CheckCommand, StepCommand, Command, run, demo, check, step, command_of}
+use Rattle.gp_cli.specs.Answer.{HasBytes, HasLongFile, HasProgram, HasHost, HasTrace, HasScript, HasFaultyProgram, HasFaultyHost, HasFaultyTrace, HasFaultyScript, demo_program, demo_host, asks_journal, Replies}
 
 abbrev pub IsOneOf : List ℕ → ℕ → Type 0
 IsOneOf [] status = ⊥
@@ -62,6 +63,14 @@ ChecksRuns words old new out_old out_new err_old err_new status =
     HasBytes old.content k.program program → HasBytes old.content k.host host → HasBytes old.content k.trace journal → HasBytes old.content k.result result →
     Stays old.faults new.faults → Stays out_old.faults out_new.faults → Stays err_old.faults err_new.faults → IsOneOf (0 ∷ 7 ∷ []) status
 
+-- `step` of a program, a host and a script gives what the script comes to, the spent bound or a number fault.
+abbrev pub StepCompletes : List Name → KnownFiles → KnownFiles → KnownSink → KnownSink → KnownSink → KnownSink → ℕ → Type 0
+StepCompletes words old new out_old out_new err_old err_new status =
+    (held : Content) (k : StepCommand) (p : Program) (rule_names : List Name) (g : Graph) (lines : List Line) →
+    old.content ≡ Some held → command_of words ≡ Some (step k) → HasProgram old.content k.program p rule_names → HasHost old.content k.host g →
+    HasScript old.content k.script lines →
+    Stays old.faults new.faults → Stays out_old.faults out_new.faults → Stays err_old.faults err_new.faults → IsOneOf (0 ∷ 5 ∷ 6 ∷ 7 ∷ []) status
+
 -- Where no sink fails, `demo` gives its summary, or what its texts come to: the fault of one, fail, the spent bound or a
 -- number fault; or want of memory.
 abbrev pub DemoCompletes : List Name → KnownSink → KnownSink → KnownSink → KnownSink → ℕ → Type 0
@@ -91,12 +100,13 @@ abbrev pub files_of : Command → Option (Name × Name)
 files_of (run k) = Some (k.program, k.host)
 files_of (demo k) = None
 files_of (check k) = Some (k.program, k.host)
+files_of (step k) = Some (k.program, k.host)
 
 -- those of the words
 abbrev pub both_files : List Name → Option (Name × Name)
 both_files words = option_and_then files_of (command_of words)
 
--- Where the files' content is known, a faulty program of `run` or `check` is refused.
+-- Where the files' content is known, a faulty program of `run`, `check` or `step` is refused.
 abbrev pub RefusesProgram : List Name → KnownFiles → KnownFiles → KnownSink → KnownSink → KnownSink → KnownSink → ℕ → Type 0
 RefusesProgram words old new out_old out_new err_old err_new status =
     (held : Content) (program host : Name) → old.content ≡ Some held → both_files words ≡ Some (program, host) → HasFaultyProgram old.content program →
@@ -123,6 +133,13 @@ RefusesResult words old new out_old out_new err_old err_new status =
     HasTrace old.content k.trace version items → HasLongFile old.content k.result →
     Refuses 10 (8 ∷ 9 ∷ []) (NothingFails old new out_old out_new err_old err_new) status
 
+-- and a faulty script of `step`
+abbrev pub RefusesScript : List Name → KnownFiles → KnownFiles → KnownSink → KnownSink → KnownSink → KnownSink → ℕ → Type 0
+RefusesScript words old new out_old out_new err_old err_new status =
+    (held : Content) (k : StepCommand) (p : Program) (rule_names : List Name) (g : Graph) → old.content ≡ Some held → command_of words ≡ Some (step k) →
+    HasProgram old.content k.program p rule_names → HasHost old.content k.host g → HasFaultyScript old.content k.script →
+    Refuses 11 (8 ∷ 9 ∷ []) (NothingFails old new out_old out_new err_old err_new) status
+
 -- A faulty text of `demo` is refused.
 abbrev pub RefusesDemoProgram : List Name → KnownSink → KnownSink → KnownSink → KnownSink → ℕ → Type 0
 RefusesDemoProgram words out_old out_new err_old err_new status =
@@ -142,12 +159,14 @@ pub record Completes (words : List Name) (old new : KnownFiles) (out_old out_new
   pub runs : RunCompletes words old new out_old out_new err_old err_new status
   pub checks : CheckCompletes words old new out_old out_new err_old err_new status
   pub checks_runs : ChecksRuns words old new out_old out_new err_old err_new status
+  pub steps : StepCompletes words old new out_old out_new err_old err_new status
   pub demos : DemoCompletes words out_old out_new err_old err_new status
   pub words_refused : RefusesWords words out_old out_new err_old err_new status
   pub program_refused : RefusesProgram words old new out_old out_new err_old err_new status
   pub host_refused : RefusesHost words old new out_old out_new err_old err_new status
   pub trace_refused : RefusesTrace words old new out_old out_new err_old err_new status
   pub result_refused : RefusesResult words old new out_old out_new err_old err_new status
+  pub script_refused : RefusesScript words old new out_old out_new err_old err_new status
   pub demo_program_refused : RefusesDemoProgram words out_old out_new err_old err_new status
   pub demo_host_refused : RefusesDemoHost words out_old out_new err_old err_new status
   pub out_faults : TellsFaults out_old out_new status

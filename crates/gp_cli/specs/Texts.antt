@@ -27,6 +27,8 @@ pub data Said : Type 0 where
   -- the trace and the result that are checked are a derivation, or are none
   derivation : Said
   no_derivation : Said
+  -- what a script comes to over the items of a run
+  walked : List ℕ → Said
   usage : Said
   long_program : Said
   bad_program : ProgramFault → Said
@@ -36,6 +38,9 @@ pub data Said : Type 0 where
   -- the first line that is not of the form of its place
   bad_trace : ℕ → Said
   long_result : Said
+  long_script : Said
+  -- the first line that is none of the words of scripts
+  bad_script : ℕ → Said
   bound_spent : ℕ → Said
   -- the name of the rule
   number_fault : Name → NumberKind → Said
@@ -46,7 +51,8 @@ abbrev pub usage_text : List ℕ
 usage_text =
     codes "usage: gp2 run PROGRAM HOST [--workers N] [--bound N] [--fan N] [--seed N] [--journal]\n"
     ++ (codes "       gp2 demo KIND SIZE SEED [--workers N] [--fan N]\n"
-    ++ codes "       gp2 check PROGRAM HOST TRACE RESULT\n")
+    ++ (codes "       gp2 check PROGRAM HOST TRACE RESULT\n"
+    ++ codes "       gp2 step PROGRAM HOST SCRIPT [--bound N] [--seed N]\n"))
 
 abbrev pub derivation_text : List ℕ
 derivation_text = codes "derivation\n"
@@ -68,6 +74,12 @@ trace_line line = codes "trace: Line " ++ decimal line ++ codes "\n"
 
 abbrev pub result_too_long : List ℕ
 result_too_long = codes "result: TooLong\n"
+
+abbrev pub script_too_long : List ℕ
+script_too_long = codes "script: TooLong\n"
+
+abbrev pub script_line : ℕ → List ℕ
+script_line line = codes "script: Line " ++ decimal line ++ codes "\n"
 
 abbrev pub bound_text : ℕ → List ℕ
 bound_text bound = codes "bound " ++ decimal bound ++ codes "\n"
@@ -94,6 +106,7 @@ pub data Shows (asked : Bool) : Said → ℕ → List ℕ → List ℕ → List 
   demo_shown : {kind : Kind} {size : ℕ} {t : List Item} {h : Graph} → Shows asked (demo_done kind size t h) 0 [] (summary_text kind size h t) []
   derivation_shown : Shows asked derivation 0 [] derivation_text []
   no_derivation_shown : Shows asked no_derivation 1 [] no_derivation_text []
+  walked_shown : {text : List ℕ} → Shows asked (walked text) 0 [] text []
   usage_shown : Shows asked usage 2 [] [] usage_text
   long_program_shown : Shows asked long_program 3 [] [] program_too_long
   bad_program_shown : {f : ProgramFault} → Shows asked (bad_program f) 3 [] [] (line_of f)
@@ -102,6 +115,8 @@ pub data Shows (asked : Bool) : Said → ℕ → List ℕ → List ℕ → List 
   long_trace_shown : Shows asked long_trace 10 [] [] trace_too_long
   bad_trace_shown : {line : ℕ} → Shows asked (bad_trace line) 10 [] [] (trace_line line)
   long_result_shown : Shows asked long_result 10 [] [] result_too_long
+  long_script_shown : Shows asked long_script 11 [] [] script_too_long
+  bad_script_shown : {line : ℕ} → Shows asked (bad_script line) 11 [] [] (script_line line)
   bound_shown : {bound : ℕ} → Shows asked (bound_spent bound) 5 [] [] (bound_text bound)
   number_shown : {rule : Name} {kind : NumberKind} → Shows asked (number_fault rule kind) 6 [] [] (number_text rule kind)
   unread_shown : {name : Name} → Shows asked (unread name) 8 [] [] (read_text name)

@@ -1,14 +1,15 @@
 //! The files of a command, read and understood, or the answer that says why not.
 
 ghost use Rattle.std.specs.Prelude.{◌≡◌, ◌≤◌};
-ghost use Rattle.gp_cli.specs.inside.Parts.{ReadsFile, LoadsProgram, LoadsHost, LoadsTrace};
+ghost use Rattle.gp_cli.specs.inside.Parts.{ReadsFile, LoadsProgram, LoadsHost, LoadsTrace, LoadsScript};
 ghost use Rattle.gp_cli.specs.Texts.{long_result};
 ghost use Rattle.gp_cli.specs.inside.Told.{said_of};
 
-use crate::parsed::{host_of, program_of, trace_of};
+use crate::parsed::{host_of, program_of, script_of, trace_of};
 use crate::said::{Said, Stop};
 use gp_graph::Graph;
 use gp_io::{Files, ReadRefusal};
+use gp_script::Line;
 use gp_syntax::{Item, Program};
 use gp_trace::Version;
 use std::alloc::Global;
@@ -88,4 +89,18 @@ pub(crate) fn load_result<'a, F: Files>(
     ensures same { (F.known files.new).content ≡ (F.known files.old).content }
 {
     read_file(alloc, files, name, Said::LongResult)
+}
+
+/// The lines of the script's file.
+pub(crate) fn load_script<'a, F: Files>(
+    alloc: Global,
+    files: &mut F,
+    name: &'a str,
+) -> Result<Vec<Line>, Stop<'a>>
+    ensures loads { LoadsScript (F.known files.old) (F.known files.new) name.entry.now result }
+    ensures later { (F.known files.old).faults ≤ (F.known files.new).faults }
+    ensures same { (F.known files.new).content ≡ (F.known files.old).content }
+{
+    let text = read_file(alloc, files, name, Said::LongScript)?;
+    script_of(alloc, &text)
 }

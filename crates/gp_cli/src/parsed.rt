@@ -1,13 +1,14 @@
-//! The program, the host and the trace of texts, or the answer that says why not.
+//! The program, the host, the trace and the script of texts, or the answer that says why not.
 
 ghost use Rattle.std.specs.Prelude.{◌≡◌};
-ghost use Rattle.gp_cli.specs.inside.Parts.{TellsOrFaults, HostsOrFaults, TracesOrFaults};
-ghost use Rattle.gp_cli.specs.inside.Told.{program_refused, host_refused, trace_refused};
+ghost use Rattle.gp_cli.specs.inside.Parts.{TellsOrFaults, HostsOrFaults, TracesOrFaults, ScriptsOrFaults};
+ghost use Rattle.gp_cli.specs.inside.Told.{program_refused, host_refused, trace_refused, script_refused};
 
 use crate::said::{Said, Stop};
 use gp_graph::Graph;
 use gp_hostfile::{HostFault, read_host};
 use gp_reader::{ProgramFault, read_program};
+use gp_script::{Line, ScriptFault, read_script};
 use gp_syntax::{Item, Program};
 use gp_trace::{TraceFault, Version, read_trace};
 use std::alloc::Global;
@@ -42,6 +43,16 @@ fn trace_refused<'a>(fault: TraceFault) -> Stop<'a>
     }
 }
 
+// The same of a script.
+fn script_refused<'a>(fault: ScriptFault) -> Stop<'a>
+    ensures { result ≡ script_refused fault }
+{
+    match fault {
+        ScriptFault::Line(line) => Stop::Said(Said::BadScript(line)),
+        ScriptFault::NoMemory => Stop::NoMemory,
+    }
+}
+
 /// The program of a text.
 pub(crate) fn program_of<'a>(alloc: Global, text: &[u8]) -> Result<Program, Stop<'a>>
     ensures { TellsOrFaults text.now result }
@@ -69,5 +80,15 @@ pub(crate) fn trace_of<'a>(alloc: Global, text: &[u8]) -> Result<(Version, Vec<I
     match read_trace(alloc, text) {
         Ok(trace) => Ok(trace),
         Err(fault) => Err(trace_refused(fault)),
+    }
+}
+
+/// The lines of the text of a script.
+pub(crate) fn script_of<'a>(alloc: Global, text: &[u8]) -> Result<Vec<Line>, Stop<'a>>
+    ensures { ScriptsOrFaults text.now result }
+{
+    match read_script(alloc, text) {
+        Ok(lines) => Ok(lines),
+        Err(fault) => Err(script_refused(fault)),
     }
 }

@@ -5,7 +5,7 @@ ghost use Rattle.gp_syntax.specs.Tree.{program_of_tree};
 ghost use Rattle.gp_cli.specs.Answer.{Comes};
 ghost use Rattle.gp_values.specs.Names.{Name as AnyName};
 ghost use Rattle.gp_cli.specs.Texts.{number_fault as number_said};
-ghost use Rattle.gp_cli.specs.inside.Parts.{names_of};
+ghost use Rattle.gp_cli.specs.inside.Parts.{names_of, HasJournal, BeginsAt};
 ghost use Rattle.gp_cli.specs.inside.Told.{said_of};
 
 use crate::choices::Choices;
@@ -44,7 +44,9 @@ pub(crate) fn run<'a, R: Threads + Wait + Sync>(
     seed: u64,
     pace: &Pacing,
 ) -> Result<Said<'a>, NoMemory>
-    ensures { IfOk result (λ s. Comes crew.bound seed (program_of_tree program.now) (names_of program.now) graph.graph (said_of s)) }
+    ensures comes { IfOk result (λ s. Comes crew.bound seed (program_of_tree program.now) (names_of program.now) graph.graph (said_of s)) }
+    ensures journal { IfOk result (HasJournal (program_of_tree program.now).rules) }
+    ensures begins { IfOk result (BeginsAt graph.graph) }
 {
     let mut choices = Choices::of_seed(seed);
     match execute(rt, alloc, program, graph, crew, &mut choices, pace) {

@@ -1,8 +1,10 @@
 //! What is answered, before it has a text.
 
-ghost use Rattle.std.specs.Prelude.{◌≡◌, IfOk};
+ghost use Rattle.std.specs.Prelude.{◌≡◌, IfOk, map};
+ghost use Rattle.gp_syntax.specs.Tree.{rule_of_tree};
 ghost use Rattle.gp_words.specs.Told.{demo_now};
 ghost use Rattle.gp_cli.specs.Answer.{of_demo_run};
+ghost use Rattle.gp_cli.specs.inside.Parts.{HasJournal, WalksSaid};
 ghost use Rattle.gp_cli.specs.inside.Told.{said_of, IsAnswer};
 
 use gp_gen::Kind;
@@ -10,8 +12,10 @@ use gp_hostfile::HostFault;
 use gp_journal::Journal;
 use gp_memory::NoMemory;
 use gp_reader::ProgramFault;
-use gp_syntax::{Name, NumberKind};
+use gp_script::{Line, walk};
+use gp_syntax::{Name, NumberKind, Rule};
 use gp_words::DemoCommand;
+use std::alloc::Global;
 
 /// An answer: what the program comes to on the host, or why it does not run.
 pub(crate) enum Said<'a> {
@@ -23,6 +27,8 @@ pub(crate) enum Said<'a> {
     /// The trace and the result that are checked are a derivation, or are none.
     Derivation,
     NoDerivation,
+    /// What a script comes to over the items of a run.
+    Walked(Vec<u8>),
     Usage,
     LongProgram,
     BadProgram(ProgramFault),
@@ -32,6 +38,9 @@ pub(crate) enum Said<'a> {
     /// The first line that is not of the form of its place.
     BadTrace(u64),
     LongResult,
+    LongScript,
+    /// The first line that is none of the words of scripts.
+    BadScript(u64),
     /// The bound that is spent.
     Bound(u64),
     /// The name of the rule that has a faulty match.
@@ -48,6 +57,7 @@ impl Drop for Said<'_> {
             Said::BadProgram(fault) => drop(fault),
             Said::BadHost(fault) => drop(fault),
             Said::Number(name, _) => drop(name),
+            Said::Walked(text) => drop(text),
             Said::Derivation
             | Said::NoDerivation
             | Said::Usage
@@ -56,6 +66,8 @@ impl Drop for Said<'_> {
             | Said::LongTrace
             | Said::BadTrace(_)
             | Said::LongResult
+            | Said::LongScript
+            | Said::BadScript(_)
             | Said::Bound(_)
             | Said::Unread(_) => {}
         }
@@ -70,6 +82,23 @@ impl<'a> Said<'a> {
         match self {
             Said::Graph(journal) => Said::Demo(command.kind, command.size, journal),
             other => other,
+        }
+    }
+
+    /// In place of the end of a run comes what the script comes to over its items. Any other answer stays.
+    pub(crate) fn into_walked(
+        self,
+        alloc: Global,
+        rules: &[Rule],
+        script: &[Line],
+    ) -> Result<Said<'a>, NoMemory>
+        requires { HasJournal (map rule_of_tree rules.now) self }
+        ensures { IfOk result (WalksSaid (map rule_of_tree rules.now) script.now self.entry) }
+    {
+        match self {
+            Said::Graph(journal) => Ok(Said::Walked(walk(alloc, journal, rules, script)?)),
+            Said::Fail(journal) => Ok(Said::Walked(walk(alloc, journal, rules, script)?)),
+            other => Ok(other),
         }
     }
 }

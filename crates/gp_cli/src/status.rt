@@ -14,6 +14,8 @@ pub(crate) enum Status {
     Derivation,
     /// It is none.
     NoDerivation,
+    /// A script was walked over a run.
+    Walked,
     /// The words are no command.
     Words,
     /// The program is refused.
@@ -32,6 +34,8 @@ pub(crate) enum Status {
     Write,
     /// The trace or the result is refused.
     Trace,
+    /// The script is refused.
+    Script,
 }
 
 impl Status {
@@ -44,6 +48,7 @@ impl Status {
             Status::Fail => 1,
             Status::Derivation => 0,
             Status::NoDerivation => 1,
+            Status::Walked => 0,
             Status::Words => 2,
             Status::Program => 3,
             Status::Host => 4,
@@ -53,6 +58,7 @@ impl Status {
             Status::Read => 8,
             Status::Write => 9,
             Status::Trace => 10,
+            Status::Script => 11,
         }
     }
 }

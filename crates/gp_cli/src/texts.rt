@@ -5,7 +5,7 @@ ghost use Rattle.std.specs.Fmt.{decimal};
 ghost use Rattle.gp_hostfile.specs.GraphText.{IsGraphText};
 ghost use Rattle.gp_hostfile.specs.FaultLines.{line_of as host_line};
 ghost use Rattle.gp_reader.specs.FaultLines.{line_of};
-ghost use Rattle.gp_cli.specs.Texts.{Shows, graph, failed, demo_done, kind_text, number_text, bound_text, read_text, trace_line, IsJournal};
+ghost use Rattle.gp_cli.specs.Texts.{Shows, graph, failed, demo_done, kind_text, number_text, bound_text, read_text, trace_line, script_line, IsJournal};
 ghost use Rattle.gp_cli.specs.inside.Parts.{IsOnErr, IsOnOut};
 ghost use Rattle.gp_cli.specs.inside.Statuses.{status_code};
 ghost use Rattle.gp_cli.specs.inside.Told.{said_of};
@@ -27,7 +27,7 @@ use itoa::Buffer;
 use std::alloc::Global;
 
 const USAGE: &[u8] =
-    b"usage: gp2 run PROGRAM HOST [--workers N] [--bound N] [--fan N] [--seed N] [--journal]\n       gp2 demo KIND SIZE SEED [--workers N] [--fan N]\n       gp2 check PROGRAM HOST TRACE RESULT\n";
+    b"usage: gp2 run PROGRAM HOST [--workers N] [--bound N] [--fan N] [--seed N] [--journal]\n       gp2 demo KIND SIZE SEED [--workers N] [--fan N]\n       gp2 check PROGRAM HOST TRACE RESULT\n       gp2 step PROGRAM HOST SCRIPT [--bound N] [--seed N]\n";
 
 fn bound_text(alloc: Global, bound: u64) -> Result<Vec<u8>, NoMemory>
     ensures { IfOk result (λ v. v.items ≡ bound_text bound) }
@@ -71,6 +71,15 @@ fn trace_line(alloc: Global, line: u64) -> Result<Vec<u8>, NoMemory>
     ensures { IfOk result (λ v. v.items ≡ trace_line line) }
 {
     let mut text = Vec::from_slice(alloc, b"trace: Line ")?;
+    text.extend_from_slice(Buffer::new().format(line).as_bytes())?;
+    text.push(b'\n')?;
+    Ok(text)
+}
+
+fn script_line(alloc: Global, line: u64) -> Result<Vec<u8>, NoMemory>
+    ensures { IfOk result (λ v. v.items ≡ script_line line) }
+{
+    let mut text = Vec::from_slice(alloc, b"script: Line ")?;
     text.extend_from_slice(Buffer::new().format(line).as_bytes())?;
     text.push(b'\n')?;
     Ok(text)
@@ -160,7 +169,7 @@ fn demo_reply(alloc: Global, kind: Kind, size: u64, journal: &Journal) -> Result
     Ok(on_out(alloc, Status::Graph, Vec::new(alloc), text))
 }
 
-// What a check says, on standard output.
+// What a check or a walk says, on standard output.
 fn verdict(alloc: Global, status: Status, text: &[u8]) -> Result<Reply, NoMemory>
     ensures { IfOk result (IsOnOut status [] text.now) }
 {
@@ -185,6 +194,7 @@ pub(crate) fn reply_of(alloc: Global, asked: bool, said: &Said<'_>) -> Result<Re
         Said::Demo(kind, size, journal) => demo_reply(alloc, *kind, *size, journal),
         Said::Derivation => verdict(alloc, Status::Derivation, b"derivation\n"),
         Said::NoDerivation => verdict(alloc, Status::NoDerivation, b"no derivation\n"),
+        Said::Walked(text) => verdict(alloc, Status::Walked, text),
         Said::Usage => refusal(alloc, Status::Words, USAGE),
         Said::LongProgram => refusal(alloc, Status::Program, b"program: TooLong\n"),
         Said::BadProgram(fault) => Ok(on_err(alloc, Status::Program, program_line(alloc, fault)?)),
@@ -193,6 +203,8 @@ pub(crate) fn reply_of(alloc: Global, asked: bool, said: &Said<'_>) -> Result<Re
         Said::LongTrace => refusal(alloc, Status::Trace, b"trace: TooLong\n"),
         Said::BadTrace(line) => Ok(on_err(alloc, Status::Trace, trace_line(alloc, *line)?)),
         Said::LongResult => refusal(alloc, Status::Trace, b"result: TooLong\n"),
+        Said::LongScript => refusal(alloc, Status::Script, b"script: TooLong\n"),
+        Said::BadScript(line) => Ok(on_err(alloc, Status::Script, script_line(alloc, *line)?)),
         Said::Bound(bound) => Ok(on_err(alloc, Status::Bound, bound_text(alloc, *bound)?)),
         Said::Number(rule, kind) => {
             let text = number_text(alloc, rule, *kind)?;

@@ -20,6 +20,7 @@ use crate::reply::Reply;
 use crate::run::run;
 use crate::said::{Said, Stop, settled};
 use crate::status::Status;
+use crate::step::step;
 use crate::texts::reply_of;
 use gp_io::{Files, Sink};
 use gp_memory::NoMemory;
@@ -68,6 +69,7 @@ fn said_by_command<'a, F: Files, R: Threads + Wait + Sync>(
         Command::Run(command) => settled(said_by_files(rt, alloc, command, files, pace)),
         Command::Demo(command) => settled(demo(rt, alloc, command, pace)),
         Command::Check(command) => settled(check(alloc, command, files)),
+        Command::Step(command) => settled(step(rt, alloc, command, files, pace)),
     }
 }
 
@@ -147,7 +149,7 @@ fn answer_words<F: Files, O: Sink, E: Sink, R: Threads + Wait + Sync>(
     }
 }
 
-/// Runs the program's file on the host's, or a demo, or checks a trace and a result, as the words say, and writes what comes of it. The answer is the
+/// Runs the program's file on the host's, or a demo, checks a trace and a result, or walks a script over a run, as the words say, and writes what comes of it. The answer is the
 /// status of the process. The words are those behind the program's name, or that memory was refused for them. With two
 /// workers or more the call starts threads, and the pace may hold them; it may wait then.
 pub fn gp2_main<R: AllocGlobal + Threads + Wait + Sync, F: Files, O: Sink, E: Sink>(

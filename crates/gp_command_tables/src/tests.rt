@@ -9,5 +9,6 @@ mod devices;
 mod outside;
 mod refusals;
 mod runs;
+mod steps;
 mod texts;
 mod words;

@@ -35,10 +35,20 @@ pub record CheckCommand : Type 0 where
   pub trace : Name
   pub result : Name
 
+-- `step`: the names of the files of the program, of the host and of the script, how many items may be counted, and with
+-- what the choices of `or` begin
+pub record StepCommand : Type 0 where
+  pub program : Name
+  pub host : Name
+  pub script : Name
+  pub bound : ℕ
+  pub seed : ℕ
+
 pub data Command : Type 0 where
   run : RunCommand → Command
   demo : DemoCommand → Command
   check : CheckCommand → Command
+  step : StepCommand → Command
 
 -- ---- as clap reads them
 
@@ -70,12 +80,16 @@ demo_app = with_crew (with_rule (with_rule (with_rule (new_app (codes "demo")) (
 abbrev pub check_app : App
 check_app = with_rule (with_rule (with_rule (with_rule (new_app (codes "check")) (place (codes "program"))) (place (codes "host"))) (place (codes "trace"))) (place (codes "result"))
 
+-- `step PROGRAM HOST SCRIPT`, with its options in any order
+abbrev pub step_app : App
+step_app = with_rule (with_rule (with_rule (with_rule (with_rule (new_app (codes "step")) (place (codes "program"))) (place (codes "host"))) (place (codes "script"))) (option (codes "bound"))) (option (codes "seed"))
+
 -- one level of commands, read behind the name of the program
 abbrev pub top : App
 top = record { top = record (new_app (codes "gp2")).top { no_binary_name = true; subcommand_required = true }; subs = [] }
 
 abbrev pub gp2 : App
-gp2 = with_subcommand (with_subcommand (with_subcommand top run_app.top) demo_app.top) check_app.top
+gp2 = with_subcommand (with_subcommand (with_subcommand (with_subcommand top run_app.top) demo_app.top) check_app.top) step_app.top
 
 -- ---- numbers
 
@@ -145,6 +159,12 @@ workers_of rows = value_or usual_workers 1 greatest_workers (first_of (codes "wo
 abbrev pub fan_of : List Row → Option ℕ
 fan_of rows = value_or usual_fan 1 greatest_fan (first_of (codes "fan") rows)
 
+abbrev pub bound_of : List Row → Option ℕ
+bound_of rows = value_or usual_bound 0 greatest_bound (first_of (codes "bound") rows)
+
+abbrev pub seed_of : List Row → Option ℕ
+seed_of rows = value_or usual_seed 0 greatest_seed (first_of (codes "seed") rows)
+
 -- ---- the command
 
 abbrev pub run_with : Name → Name → Bool → Option ℕ → Option ℕ → Option ℕ → Option ℕ → Option Command
@@ -154,9 +174,7 @@ run_with program host journal bound seed workers fan = None
 
 abbrev pub run_files : List Row → Option Name → Option Name → Option Command
 run_files rows (Some program) (Some host) =
-    run_with program host (is_set (first_of (codes "journal") rows))
-    (value_or usual_bound 0 greatest_bound (first_of (codes "bound") rows)) (value_or usual_seed 0 greatest_seed (first_of (codes "seed") rows))
-    (workers_of rows) (fan_of rows)
+    run_with program host (is_set (first_of (codes "journal") rows)) (bound_of rows) (seed_of rows) (workers_of rows) (fan_of rows)
 run_files rows program host = None
 
 -- what clap found at `run`
@@ -184,12 +202,25 @@ check_files program host trace result = None
 abbrev pub check_of : List Row → Option Command
 check_of rows = check_files (first_of (codes "program") rows) (first_of (codes "host") rows) (first_of (codes "trace") rows) (first_of (codes "result") rows)
 
+abbrev pub step_with : Name → Name → Name → Option ℕ → Option ℕ → Option Command
+step_with program host script (Some bound) (Some seed) = Some (step (record { program = program; host = host; script = script; bound = bound; seed = seed }))
+step_with program host script bound seed = None
+
+abbrev pub step_files : List Row → Option Name → Option Name → Option Name → Option Command
+step_files rows (Some program) (Some host) (Some script) = step_with program host script (bound_of rows) (seed_of rows)
+step_files rows program host script = None
+
+-- what clap found at `step`
+abbrev pub step_of : List Row → Option Command
+step_of rows = step_files rows (first_of (codes "program") rows) (first_of (codes "host") rows) (first_of (codes "script") rows)
+
 -- what clap found at the command of this name
 abbrev pub command_at : Name × List Row → Option Command
 command_at p =
     if same_name p.0 (codes "run") then run_of p.1 else
     (if same_name p.0 (codes "demo") then demo_of p.1 else
-    (if same_name p.0 (codes "check") then check_of p.1 else None))
+    (if same_name p.0 (codes "check") then check_of p.1 else
+    (if same_name p.0 (codes "step") then step_of p.1 else None)))
 
 abbrev pub command_if : Bool → List Name → Option Command
 command_if refused words = if refused then None else option_and_then command_at (subcommand_of gp2 words)

@@ -44,6 +44,14 @@ const CHECK: [(Form, &'static str); 4] = [
     (Form::Place, "result"),
 ];
 
+const STEP: [(Form, &'static str); 5] = [
+    (Form::Place, "program"),
+    (Form::Place, "host"),
+    (Form::Place, "script"),
+    (Form::Option, "bound"),
+    (Form::Option, "seed"),
+];
+
 fn argument<'a>(alloc: Global, form: Form, id: &'a str) -> Arg<'a>
     ensures rule { rule_of result ≡ rule_at form id.entry.now }
     ensures own { result.global ≡ false }
@@ -97,5 +105,6 @@ pub(crate) fn top_command<'a>(alloc: Global) -> Result<Command<'a>, AllocError>
 {
     let above_run = above(alloc, plain_top(alloc), "run", &RUN)?;
     let above_demo = above(alloc, above_run, "demo", &DEMO)?;
-    above(alloc, above_demo, "check", &CHECK)
+    let above_check = above(alloc, above_demo, "check", &CHECK)?;
+    above(alloc, above_check, "step", &STEP)
 }

@@ -35,10 +35,21 @@ pub struct CheckCommand<'a> {
     pub result: &'a str,
 }
 
+/// `step PROGRAM HOST SCRIPT` with its options: the names of the files, and the bound and the seed as for `run`.
+#[derive(Clone, Copy)]
+pub struct StepCommand<'a> {
+    pub program: &'a str,
+    pub host: &'a str,
+    pub script: &'a str,
+    pub bound: u64,
+    pub seed: u64,
+}
+
 /// What the words ask for.
 #[derive(Clone, Copy)]
 pub enum Command<'a> {
     Run(RunCommand<'a>),
     Demo(DemoCommand),
     Check(CheckCommand<'a>),
+    Step(StepCommand<'a>),
 }

@@ -6,7 +6,7 @@ ghost use Rattle.gp_gen.specs.Host.{largest};
 ghost use Rattle.gp_words.specs.CommandLine as spec;
 ghost use Rattle.gp_words.specs.Told.{command_now, HasSize};
 
-use crate::command::{CheckCommand, Command, DemoCommand, RunCommand};
+use crate::command::{CheckCommand, Command, DemoCommand, RunCommand, StepCommand};
 use crate::number::{number_between, value_or};
 use clap::ArgMatches;
 use gp_gen::Kind;
@@ -61,15 +61,30 @@ fn fan_of(matches: &ArgMatches<'_>) -> Option<u32>
     }
 }
 
+fn bound_of(matches: &ArgMatches<'_>) -> Option<u64>
+    ensures { result ≡ spec.bound_of (rows_of (found_of matches.now)) }
+{
+    value_or(USUAL_BOUND, 0, GREATEST_BOUND, text_of(matches, "bound"))
+}
+
+fn seed_of(matches: &ArgMatches<'_>) -> Option<u64>
+    ensures { result ≡ spec.seed_of (rows_of (found_of matches.now)) }
+{
+    value_or(0, 0, u64::MAX, text_of(matches, "seed"))
+}
+
 // The run of these files, with the values that clap found.
 fn run_files<'a>(matches: &ArgMatches<'a>, program: &'a str, host: &'a str) -> Option<Command<'a>>
     ensures run { option_map command_now result ≡ spec.run_files (rows_of (found_of matches.now)) (Some program.entry.now) (Some host.entry.now) }
     ensures size { IfSome result HasSize }
 {
     let journal = is_set(text_of(matches, "journal"));
-    let bound = value_or(USUAL_BOUND, 0, GREATEST_BOUND, text_of(matches, "bound"));
-    let seed = value_or(0, 0, u64::MAX, text_of(matches, "seed"));
-    match (bound, seed, workers_of(matches), fan_of(matches)) {
+    match (
+        bound_of(matches),
+        seed_of(matches),
+        workers_of(matches),
+        fan_of(matches),
+    ) {
         (Some(bound), Some(seed), Some(workers), Some(fan)) => Some(Command::Run(RunCommand {
             program,
             host,
@@ -180,6 +195,42 @@ fn check_of<'a>(matches: &ArgMatches<'a>) -> Option<Command<'a>>
     }
 }
 
+// The walk of a script through the run of these files, with the values that clap found.
+fn step_files<'a>(
+    matches: &ArgMatches<'a>,
+    program: &'a str,
+    host: &'a str,
+    script: &'a str,
+) -> Option<Command<'a>>
+    ensures step { option_map command_now result ≡ spec.step_files (rows_of (found_of matches.now)) (Some program.entry.now) (Some host.entry.now) (Some script.entry.now) }
+    ensures size { IfSome result HasSize }
+{
+    match (bound_of(matches), seed_of(matches)) {
+        (Some(bound), Some(seed)) => Some(Command::Step(StepCommand {
+            program,
+            host,
+            script,
+            bound,
+            seed,
+        })),
+        _ => None,
+    }
+}
+
+fn step_of<'a>(matches: &ArgMatches<'a>) -> Option<Command<'a>>
+    ensures step { option_map command_now result ≡ spec.step_of (rows_of (found_of matches.now)) }
+    ensures size { IfSome result HasSize }
+{
+    match (
+        text_of(matches, "program"),
+        text_of(matches, "host"),
+        text_of(matches, "script"),
+    ) {
+        (Some(program), Some(host), Some(script)) => step_files(matches, program, host, script),
+        _ => None,
+    }
+}
+
 /// The command of that name at which clap found these matches.
 pub(crate) fn command_at<'a>(name: &str, matches: &ArgMatches<'a>) -> Option<Command<'a>>
     ensures command { option_map command_now result ≡ spec.command_at (name.now, rows_of (found_of matches.now)) }
@@ -191,6 +242,8 @@ pub(crate) fn command_at<'a>(name: &str, matches: &ArgMatches<'a>) -> Option<Com
         demo_of(matches)
     } else if name == "check" {
         check_of(matches)
+    } else if name == "step" {
+        step_of(matches)
     } else {
         None
     }

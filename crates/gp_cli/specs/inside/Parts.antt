@@ -11,22 +11,30 @@ use Rattle.gp_syntax.specs.declared.found.Item.{Item}
 use Rattle.gp_syntax.specs.declared.command.ProgramParts.{ProgramParts}
 use Rattle.gp_syntax.specs.declared.rule.RuleParts.{RuleParts}
 use Rattle.gp_syntax.specs.Tree.{program_of_tree, item_of}
+use Rattle.gp_syntax.specs.Rule.{Rule}
 use Rattle.gp_syntax.specs.Run.{Program}
+use Rattle.gp_journal.specs.Trail.{root_of}
+use Rattle.gp_journal.specs.Journal.{items_of, IsJournalOf}
+use Rattle.gp_script.specs.Walk.{Walks}
 use Rattle.gp_reader.specs.declared.fault.ProgramFault.{ProgramFault}
 use Rattle.gp_reader.specs.Program.{IsFaultyText}
 use Rattle.gp_hostfile.specs.declared.fault.HostFault.{HostFault}
 use Rattle.gp_hostfile.specs.Host.{IsHostText, IsHostFault}
 use Rattle.gp_trace.specs.declared.version.Version.{Version}
 use Rattle.gp_trace.specs.Reading.{IsTraceOf, BreaksAt}
+use Rattle.gp_script.specs.declared.line.Line.{Line}
+use Rattle.gp_script.specs.Script.{IsScript}
+use Rattle.gp_script.specs.Script as script
 use Rattle.gp_values.specs.Graph.{Graph as AnyGraph}
-use Rattle.gp_words.specs.CommandLine.{RunCommand, DemoCommand, CheckCommand}
+use Rattle.gp_words.specs.CommandLine.{RunCommand, DemoCommand, CheckCommand, StepCommand}
 use Rattle.gp_cli.specs.declared.said.Stop.{Stop}
 use Rattle.gp_cli.specs.declared.said.Stop.TheVariants as stops
 use Rattle.gp_cli.specs.declared.said.Said.{Said}
+use Rattle.gp_cli.specs.declared.said.Said.TheVariants as code
 use Rattle.gp_cli.specs.declared.status.Status.{Status}
 use Rattle.gp_cli.specs.declared.reply.Reply.{Reply}
 use Rattle.gp_cli.specs.Texts as texts
-use Rattle.gp_cli.specs.Answer.{HasBytes, HasLongFile, CannotRead, TellsProgram, HasProgram, HasHost, HasTrace, StopsAtProgram, StopsAtHost, StopsAtTrace, RunAnswers, DemoAnswers, Checks, CheckAnswers}
+use Rattle.gp_cli.specs.Answer.{HasBytes, HasLongFile, CannotRead, TellsProgram, HasProgram, HasHost, HasTrace, HasScript, StopsAtProgram, StopsAtHost, StopsAtTrace, StopsAtScript, RunAnswers, DemoAnswers, Checks, CheckAnswers, StepAnswers}
 use Rattle.gp_cli.specs.Written.{TakesAll, IsCutShort}
 use Rattle.gp_cli.specs.inside.Told.{said_of}
 
@@ -78,6 +86,17 @@ LoadsTrace old new name (Ok t) = HasTrace old.content name t.0 (map item_of t.1.
 LoadsTrace old new name (Err (stops.Said s)) = StopsAtTrace old new name (said_of s)
 LoadsTrace old new name (Err stops.NoMemory) = Free
 
+-- the lines of the bytes, or the first that is no word of scripts
+abbrev pub ScriptsOrFaults : List ℕ → Result (Vec Line Global) Stop → Type 0
+ScriptsOrFaults bytes (Ok v) = IsScript bytes v.items
+ScriptsOrFaults bytes (Err (stops.Said s)) = (line : ℕ) × (said_of s ≡ texts.bad_script line) × script.BreaksAt bytes line
+ScriptsOrFaults bytes (Err stops.NoMemory) = Free
+
+abbrev pub LoadsScript : KnownFiles → KnownFiles → Name → Result (Vec Line Global) Stop → Type 0
+LoadsScript old new name (Ok v) = HasScript old.content name v.items
+LoadsScript old new name (Err (stops.Said s)) = StopsAtScript old new name (said_of s)
+LoadsScript old new name (Err stops.NoMemory) = Free
+
 -- ---- what commands come to
 
 abbrev pub RunsFiles : KnownFiles → KnownFiles → RunCommand → Result Said Stop → Type 0
@@ -99,6 +118,29 @@ abbrev pub ChecksFiles : KnownFiles → KnownFiles → CheckCommand → Result S
 ChecksFiles old new k (Ok s) = CheckAnswers old new k (said_of s)
 ChecksFiles old new k (Err (stops.Said s)) = CheckAnswers old new k (said_of s)
 ChecksFiles old new k (Err stops.NoMemory) = Free
+
+abbrev pub StepsFiles : KnownFiles → KnownFiles → StepCommand → Result Said Stop → Type 0
+StepsFiles old new k (Ok s) = StepAnswers old new k (said_of s)
+StepsFiles old new k (Err (stops.Said s)) = StepAnswers old new k (said_of s)
+StepsFiles old new k (Err stops.NoMemory) = Free
+
+-- the journal of an answer that has one is of these rules
+abbrev pub HasJournal : List Rule → Said → Type 0
+HasJournal rules (code.Graph j) = IsJournalOf rules j
+HasJournal rules (code.Fail j) = IsJournalOf rules j
+HasJournal rules other = Unit {0}
+
+-- and begins at this graph
+abbrev pub BeginsAt : AnyGraph → Said → Type 0
+BeginsAt g (code.Graph j) = root_of j.trail ≡ g
+BeginsAt g (code.Fail j) = root_of j.trail ≡ g
+BeginsAt g other = Unit {0}
+
+-- in place of an answer with a journal comes what the script comes to over its items; any other stays
+abbrev pub WalksSaid : List Rule → List Line → Said → Said → Type 0
+WalksSaid rules lines (code.Graph j) s = (text : List ℕ) × (said_of s ≡ texts.walked text) × Walks rules (root_of j.trail) (items_of j.items) 0 lines text
+WalksSaid rules lines (code.Fail j) s = (text : List ℕ) × (said_of s ≡ texts.walked text) × Walks rules (root_of j.trail) (items_of j.items) 0 lines text
+WalksSaid rules lines other s = said_of s ≡ said_of other
 
 -- ---- texts
 

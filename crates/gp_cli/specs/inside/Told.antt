@@ -10,6 +10,8 @@ use Rattle.gp_hostfile.specs.declared.fault.HostFault.{HostFault}
 use Rattle.gp_hostfile.specs.declared.fault.HostFault.TheVariants as host
 use Rattle.gp_trace.specs.declared.fault.TraceFault.{TraceFault}
 use Rattle.gp_trace.specs.declared.fault.TraceFault.TheVariants as trace
+use Rattle.gp_script.specs.declared.fault.ScriptFault.{ScriptFault}
+use Rattle.gp_script.specs.declared.fault.ScriptFault.TheVariants as script
 use Rattle.gp_cli.specs.declared.said.Stop.{Stop}
 use Rattle.gp_cli.specs.declared.said.Stop.TheVariants as stops
 
@@ -19,6 +21,7 @@ said_of (code.Fail j) = texts.failed (items_of j.items)
 said_of (code.Demo kind size j) = texts.demo_done kind size (items_of j.items) j.trail.graph
 said_of code.Derivation = texts.derivation
 said_of code.NoDerivation = texts.no_derivation
+said_of (code.Walked text) = texts.walked text.items
 said_of code.Usage = texts.usage
 said_of code.LongProgram = texts.long_program
 said_of (code.BadProgram f) = texts.bad_program f
@@ -27,6 +30,8 @@ said_of (code.BadHost f) = texts.bad_host f
 said_of code.LongTrace = texts.long_trace
 said_of (code.BadTrace line) = texts.bad_trace line
 said_of code.LongResult = texts.long_result
+said_of code.LongScript = texts.long_script
+said_of (code.BadScript line) = texts.bad_script line
 said_of (code.Bound n) = texts.bound_spent n
 said_of (code.Number name kind) = texts.number_fault name kind
 said_of (code.Unread name) = texts.unread name.now
@@ -56,6 +61,11 @@ host_refused host.NoMemory = stops.NoMemory
 abbrev pub trace_refused : TraceFault → Stop
 trace_refused (trace.Line line) = stops.Said (code.BadTrace line)
 trace_refused trace.NoMemory = stops.NoMemory
+
+-- of a script
+abbrev pub script_refused : ScriptFault → Stop
+script_refused (script.Line line) = stops.Said (code.BadScript line)
+script_refused script.NoMemory = stops.NoMemory
 
 -- this is answered, and not want of memory
 abbrev pub IsAnswer : Result Said Stop → texts.Said → Type 0

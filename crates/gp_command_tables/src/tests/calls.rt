@@ -56,8 +56,8 @@ impl<'a> Call<'a> {
     }
 }
 
-/// Adds a file of that name and text, unless memory is refused for it.
-pub(crate) fn add(alloc: Global, files: &mut Vec<(String, Vec<u8>)>, name: &str, text: &[u8]) {
+// Adds a file of that name and text, unless memory is refused for it.
+fn add(alloc: Global, files: &mut Vec<(String, Vec<u8>)>, name: &str, text: &[u8]) {
     if let Ok(name) = String::from_str(alloc, name) {
         if let Ok(text) = Vec::from_slice(alloc, text) {
             let _ = files.push((name, text));
@@ -146,6 +146,54 @@ pub(crate) fn check_rows<R: AllocGlobal + Threads + Wait + Sync>(
     for row in table.split("\n\n") {
         let call = Call::new(part_at(row, 0), part_at(row, 1), (part_at(row, 2), crew));
         expect_line(rt, &call, part_at(row, 3), row)?;
+    }
+    Ok(())
+}
+
+// Files of these names, whose texts are the parts of a row behind the first. A part has no newline at its end, so each file but
+// the first gets one.
+fn files_of(alloc: Global, row: &str, names: &[&str]) -> MemFiles {
+    let mut files = Vec::new(alloc);
+    for (place, name) in names.iter().enumerate() {
+        let mut text = Answer::new(alloc);
+        text.put(part_at(row, place.saturating_add(1)).as_bytes());
+        if place > 0 {
+            text.put(b"\n");
+        }
+        add(alloc, &mut files, name, text.text());
+    }
+    MemFiles::new(files, Vec::new(alloc))
+}
+
+// What the words of a row come to on its files.
+fn told_of_files<R: AllocGlobal + Threads + Wait + Sync>(
+    rt: &R,
+    row: &str,
+    names: &[&str],
+) -> Answer {
+    let alloc = rt.alloc();
+    let mut told = Answer::new(alloc);
+    let mut files = files_of(alloc, row, names);
+    let words = words_of(alloc, (part_at(row, 0), ""));
+    if let Ok(mut out) = sink(alloc, 4096, 0, None) {
+        if let Ok(mut err) = sink(alloc, 4096, 0, None) {
+            let status = gp2_main(rt, words, &mut files, &mut out, &mut err, &Pacing::Free);
+            put_shown(status, out.bytes(), err.bytes(), &mut told);
+        }
+    }
+    told
+}
+
+/// Each row shows what it says. A row is words, files of these names, and what they come to, with a percent sign at the head
+/// of each behind the first; rows have an empty line between each two.
+pub(crate) fn check_files<R: AllocGlobal + Threads + Wait + Sync>(
+    rt: &R,
+    table: &str,
+    names: &[&str],
+) -> Result<(), Fail> {
+    for row in table.split("\n\n") {
+        let wanted = part_at(row, names.len().saturating_add(1));
+        expect(told_of_files(rt, row, names).is_line(wanted), row)?;
     }
     Ok(())
 }

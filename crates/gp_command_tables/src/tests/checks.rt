@@ -1,14 +1,7 @@
 //! Journals and results that are checked by the top call.
 
-use crate::tests::answers::{Answer, expect, part_at};
-use crate::tests::calls::{add, put_shown, sink, words_of};
-use gp_cli::gp2_main;
-use gp_io::MemFiles;
-use opt_worker::Pacing;
-use std::alloc::{AllocGlobal, Global};
-use std::sync::Wait;
+use crate::tests::calls::check_files;
 use std::test::Fail;
-use std::thread::Threads;
 
 // Each row: the words; the files p, h, t and r, each but the first with a newline behind it; and what is answered. The first
 // two rows are of one journal, the third has a failed body that is not taken back; then either part of an `or`; a trace of
@@ -175,38 +168,7 @@ end
 % 8 err
 read: q";
 
-// The files of a row. A part of a row has no newline at its end, so each but the program gets one.
-fn files_of(alloc: Global, row: &str) -> MemFiles {
-    let mut files = Vec::new(alloc);
-    add(alloc, &mut files, "p", part_at(row, 1).as_bytes());
-    for (name, place) in &[("h", 2), ("t", 3), ("r", 4)] {
-        let mut text = Answer::new(alloc);
-        text.put(part_at(row, *place).as_bytes());
-        text.put(b"\n");
-        add(alloc, &mut files, name, text.text());
-    }
-    MemFiles::new(files, Vec::new(alloc))
-}
-
-// What the words of a row come to on its files.
-fn told_of_row<R: AllocGlobal + Threads + Wait + Sync>(rt: &R, row: &str) -> Answer {
-    let alloc = rt.alloc();
-    let mut told = Answer::new(alloc);
-    let mut files = files_of(alloc, row);
-    let words = words_of(alloc, (part_at(row, 0), ""));
-    if let Ok(mut out) = sink(alloc, 4096, 0, None) {
-        if let Ok(mut err) = sink(alloc, 4096, 0, None) {
-            let status = gp2_main(rt, words, &mut files, &mut out, &mut err, &Pacing::Free);
-            put_shown(status, out.bytes(), err.bytes(), &mut told);
-        }
-    }
-    told
-}
-
 #[test]
 fn journals_and_results_are_checked(rt: HostRuntime) -> Result<(), Fail> {
-    for row in CHECKS.split("\n\n") {
-        expect(told_of_row(&rt, row).is_line(part_at(row, 5)), row)?;
-    }
-    Ok(())
+    check_files(&rt, CHECKS, &["p", "h", "t", "r"])
 }

@@ -236,7 +236,8 @@ fn refused_hosts_have_their_lines(rt: HostRuntime) -> Result<(), Fail> {
 const USAGE: &str = "2 err
 usage: gp2 run PROGRAM HOST [--workers N] [--bound N] [--fan N] [--seed N] [--journal]
        gp2 demo KIND SIZE SEED [--workers N] [--fan N]
-       gp2 check PROGRAM HOST TRACE RESULT";
+       gp2 check PROGRAM HOST TRACE RESULT
+       gp2 step PROGRAM HOST SCRIPT [--bound N] [--seed N]";
 
 #[test]
 fn other_words_are_refused(rt: HostRuntime) -> Result<(), Fail> {

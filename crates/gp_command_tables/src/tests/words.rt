@@ -4,12 +4,13 @@ use crate::tests::answers::{Answer, expect};
 use crate::tests::calls::words_of;
 use gp_gen::Kind;
 use gp_memory::NoMemory;
-use gp_words::{CheckCommand, Command, DemoCommand, RunCommand, command_of};
+use gp_words::{CheckCommand, Command, DemoCommand, RunCommand, StepCommand, command_of};
 use std::alloc::Global;
 use std::test::Fail;
 
 // Words, and the parts of their command: its names, and then its numbers, where a run has its workers, its bound, its fan,
-// its seed, and 1 for the journal, a demo its size, its seed, its workers and its fan, and a check none.
+// its seed, and 1 for the journal, a demo its size, its seed, its workers and its fan, a check none, and a step its bound and its
+// seed.
 const COMMANDS: &str = "run p h => p h 1 1000000 64 0 0
 run p h --bound 10 => p h 1 10 64 0 0
 run --bound=007 p h => p h 1 7 64 0 0
@@ -29,7 +30,10 @@ demo --fan 2 --workers 3 tree 1 9 => tree 1 9 3 2
 demo closure 500 18446744073709551615 => closure 500 18446744073709551615 1 64
 check p h t r => p h t r
 check -- -p --h t -r => -p --h t -r
-check p  t r => p  t r";
+check p  t r => p  t r
+step p h s => p h s 1000000 0
+step --seed 7 p h --bound 5 s => p h s 5 7
+step -- -p --h s => -p --h s 1000000 0";
 
 /// Words that are no command, a line each; the first line has none.
 pub(crate) const OTHER_WORDS: &str = "
@@ -67,6 +71,11 @@ check p h t
 check p h t r x
 check p h t r --journal
 check p h t r --workers 2
+step p h
+step p h s x
+step p h s --journal
+step p h s --workers 2
+step p h s --bound 1099511627777
 --help
 help";
 
@@ -103,6 +112,16 @@ fn put_check(c: &CheckCommand<'_>, told: &mut Answer) {
     }
 }
 
+// Tells the parts of a step.
+fn put_step(c: &StepCommand<'_>, told: &mut Answer) {
+    told.put(c.program.as_bytes());
+    for name in &[c.host, c.script] {
+        told.put(b" ");
+        told.put(name.as_bytes());
+    }
+    told.numbers(&[c.bound, c.seed]);
+}
+
 // What the command of a line of words is.
 fn told_of(alloc: Global, line: &str) -> Result<Answer, NoMemory> {
     let mut told = Answer::new(alloc);
@@ -111,6 +130,7 @@ fn told_of(alloc: Global, line: &str) -> Result<Answer, NoMemory> {
         Some(Command::Run(command)) => put_run(&command, &mut told),
         Some(Command::Demo(command)) => put_demo(&command, &mut told),
         Some(Command::Check(command)) => put_check(&command, &mut told),
+        Some(Command::Step(command)) => put_step(&command, &mut told),
         None => told.word("none"),
     }
     Ok(told)

@@ -24,4 +24,4 @@ pub returns : goal.returns
 returns g c =
     let t = rw (c.deref.ensures.value, c.in_ok-texts.ensures.program) at c.in_ok-program.ensures in
     let h = rw (c.deref-2.ensures.value, c.in_ok-texts.ensures.host) at c.in_ok-graph.ensures in
-    subst (DemoAnswers (demo_now c.args.command)) (sym c.into_demo.ensures) (demo_runs t h c.in_ok-said.ensures)
+    subst (DemoAnswers (demo_now c.args.command)) (sym c.into_demo.ensures) (demo_runs t h c.in_ok-said.ensures.comes)

@@ -1,6 +1,6 @@
 use Rattle.std.proofs.lemmas.Result.{IfOk-weaker}
-use Rattle.gp_words.specs.Told.{run_now, demo_now, check_now}
-use Rattle.gp_cli.specs.Answer.{RunAnswers, DemoAnswers, CheckAnswers, of_run, of_demo, of_check}
+use Rattle.gp_words.specs.Told.{run_now, demo_now, check_now, step_now}
+use Rattle.gp_cli.specs.Answer.{RunAnswers, DemoAnswers, CheckAnswers, StepAnswers, of_run, of_demo, of_check, of_step}
 use Rattle.gp_cli.proofs.Loads.{answered}
 use Rattle.gp_cli.proofs.top.said_by_command.Goals as goal
 
@@ -24,3 +24,11 @@ returns-in-Check-clause-answer g c =
 
 pub returns-in-Check-clause-unread : goal.returns-in-Check-clause-unread
 returns-in-Check-clause-unread g c = λ none. absurd (rw c.in-Check.is at none)
+
+pub returns-in-Step-clause-answer : goal.returns-in-Step-clause-answer
+returns-in-Step-clause-answer g c =
+    let k = step_now c.in-Step.command in
+    IfOk-weaker c.settled-in-Step.result _ _ (λ s is words e. of_step {k = k} (rw c.in-Step.is at e) (answered (StepAnswers _ _ k) c.step.result c.step.ensures is)) c.settled-in-Step.ensures
+
+pub returns-in-Step-clause-unread : goal.returns-in-Step-clause-unread
+returns-in-Step-clause-unread g c = λ none. absurd (rw c.in-Step.is at none)

@@ -18,4 +18,4 @@ returns-in_err-graph g c =
 pub returns : goal.returns
 returns g c =
     let h = rw c.in_ok-program.ensures.same at c.in_ok-graph.ensures.loads in
-    behind_both c.in_ok-program.ensures.loads h c.in_ok-run.ensures
+    behind_both c.in_ok-program.ensures.loads h c.in_ok-run.ensures.comes

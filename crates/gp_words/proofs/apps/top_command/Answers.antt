@@ -7,4 +7,5 @@ pub returns : goal.returns
 returns c =
     let above_run = c.in_ok-above_run.ensures refl ∙ ap₂ with_subcommand c.plain_top.ensures refl in
     let above_demo = c.in_ok-above_demo.ensures refl ∙ ap₂ with_subcommand above_run refl in
-    IfOk-weaker c.above-3.result _ _ (λ r h. h refl ∙ ap₂ with_subcommand above_demo refl) c.above-3.ensures
+    let above_check = c.in_ok-above_check.ensures refl ∙ ap₂ with_subcommand above_demo refl in
+    IfOk-weaker c.above-4.result _ _ (λ r h. h refl ∙ ap₂ with_subcommand above_check refl) c.above-4.ensures

@@ -1,0 +1,38 @@
+//! What a walk of a script comes to.
+
+ghost use Rattle.gp_words.specs.Told.{step_now};
+ghost use Rattle.gp_cli.specs.inside.Parts.{StepsFiles};
+
+use crate::files::{load_host, load_program, load_script};
+use crate::run::run;
+use crate::said::{Said, Stop};
+use gp_io::Files;
+use gp_system::Crew;
+use gp_words::StepCommand;
+use opt_worker::Pacing;
+use std::alloc::Global;
+use std::sync::Wait;
+use std::thread::Threads;
+
+/// What the three files of a walk come to. One worker runs the program.
+pub(crate) fn step<'a, F: Files, R: Threads + Wait + Sync>(
+    rt: &R,
+    alloc: Global,
+    command: StepCommand<'a>,
+    files: &mut F,
+    pace: &Pacing,
+) -> Result<Said<'a>, Stop<'a>>
+    ensures { StepsFiles (F.known files.old) (F.known files.new) (step_now command.entry) result }
+{
+    let program = load_program(alloc, files, command.program)?;
+    let graph = load_host(alloc, files, command.host)?;
+    let script = load_script(alloc, files, command.script)?;
+    let crew = Crew {
+        workers: 1,
+        fan: 1,
+        bound: command.bound,
+    };
+    let said = run(rt, alloc, &program, graph, crew, command.seed, pace)?;
+    let rules = program.parts().rules.as_slice();
+    Ok(said.into_walked(alloc, rules, &script)?)
+}

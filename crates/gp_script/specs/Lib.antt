@@ -1,0 +1,4 @@
+pub mod Script
+pub mod Walk
+pub mod Laws
+pub mod inside
