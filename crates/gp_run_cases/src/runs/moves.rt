@@ -63,7 +63,14 @@ fn is_right(
     note_more(alloc, rules, &mut journal, number(fields, 3), random)?;
     let graphs = graphs_of(alloc, rules, host, journal.items())?;
     let mut stepper = Stepper::new(alloc, journal);
-    walk_on(alloc, rules, &mut stepper, &graphs, number(fields, 5), random)
+    walk_on(
+        alloc,
+        rules,
+        &mut stepper,
+        &graphs,
+        number(fields, 5),
+        random,
+    )
 }
 
 // The graphs that the items lead to from the host: before the first item, and after each.
@@ -142,9 +149,11 @@ fn stands_at(
 ) -> Result<bool, Wrong> {
     let graph = stepper.graph();
     match graphs.get(place) {
-        Some(wanted) => Ok(stepper.place() == place
-            && graph.next_numbers() == wanted.next_numbers()
-            && are_alike(alloc, graph, wanted)?),
+        Some(wanted) => Ok(
+            stepper.place() == place
+                && graph.next_numbers() == wanted.next_numbers()
+                && are_alike(alloc, graph, wanted)?,
+        ),
         None => Ok(false),
     }
 }
