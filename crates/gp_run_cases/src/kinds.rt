@@ -1,7 +1,7 @@
 //! The kinds of rows.
 
 use crate::graphs::{beside, edits, hub};
-use crate::runs::{certified, commands, crews, independence, journals, random, upgrades};
+use crate::runs::{certified, commands, crews, independence, journals, moves, random, upgrades};
 use gp_rows::Answer;
 use std::alloc::Global;
 use std::sync::Wait;
@@ -24,12 +24,14 @@ pub(crate) enum Kind {
     Pairs,
     Replays,
     Parts,
+    Moves,
+    Scripts,
     Commands,
     Crews,
 }
 
 /// The files of rows, `NAME.rows`, and the kind of each.
-pub(crate) const FILES: [(&'static str, Kind); 16] = [
+pub(crate) const FILES: [(&'static str, Kind); 18] = [
     ("edits", Kind::Edits),
     ("leads", Kind::Leads),
     ("walks", Kind::Walks),
@@ -44,6 +46,8 @@ pub(crate) const FILES: [(&'static str, Kind); 16] = [
     ("pairs", Kind::Pairs),
     ("replays", Kind::Replays),
     ("parts", Kind::Parts),
+    ("moves", Kind::Moves),
+    ("scripts", Kind::Scripts),
     ("commands", Kind::Commands),
     ("crews", Kind::Crews),
 ];
@@ -71,6 +75,8 @@ pub(crate) fn answer<R: Threads + Wait + Sync>(
         Kind::Pairs => independence::pairs(alloc, fields, out),
         Kind::Replays => random::replays(alloc, fields, out),
         Kind::Parts => random::parts(alloc, fields, out),
+        Kind::Moves => moves::answer(alloc, fields, out),
+        Kind::Scripts => moves::scripts(rt, alloc, fields, out),
         Kind::Commands => commands::answer(rt, alloc, fields, out),
         Kind::Crews => crews::answer(rt, alloc, fields, out),
     }

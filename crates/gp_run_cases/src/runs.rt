@@ -6,6 +6,7 @@ pub(crate) mod commands;
 pub(crate) mod crews;
 pub(crate) mod independence;
 pub(crate) mod journals;
+pub(crate) mod moves;
 pub(crate) mod random;
 mod replay;
 pub(crate) mod upgrades;

@@ -1,5 +1,10 @@
 //! Journals of items by chance, which are made again.
 
+ghost use Rattle.std.specs.Prelude.{List, map};
+ghost use Rattle.gp_syntax.specs.Rule.{Rule as AnyRule};
+ghost use Rattle.gp_syntax.specs.Tree.{rule_of_tree};
+ghost use Rattle.gp_journal.specs.Journal.{IsJournalOf};
+
 use crate::runs::replay::{applies, are_alike, catch_up, go, rules_of};
 use gp_graph::Graph;
 use gp_hostfile::read_host;
@@ -142,13 +147,31 @@ fn note_all(
     Ok(())
 }
 
+/// So many items more.
+pub(crate) fn note_more(
+    alloc: Global,
+    rules: &[Rule],
+    journal: &mut Journal,
+    count: u64,
+    random: &mut Lcg64Xsh32,
+) -> Result<(), Wrong>
+    ensures of_rules { IsJournalOf (map rule_of_tree rules.now) journal.old → IsJournalOf (map rule_of_tree rules.now) journal.new }
+{
+    for _ in 0..count {
+        note(alloc, rules, journal, random)?;
+    }
+    Ok(())
+}
+
 // One more item.
 fn note(
     alloc: Global,
     rules: &[Rule],
     journal: &mut Journal,
     random: &mut Lcg64Xsh32,
-) -> Result<(), Wrong> {
+) -> Result<(), Wrong>
+    ensures of_rules { IsJournalOf (map rule_of_tree rules.now) journal.old → IsJournalOf (map rule_of_tree rules.now) journal.new }
+{
     match below(random, 8) {
         0 => Ok(journal.turn()?),
         1 | 2 => Ok(back(journal, random)?),
@@ -157,7 +180,9 @@ fn note(
 }
 
 // Takes back some of the last steps.
-fn back(journal: &mut Journal, random: &mut Lcg64Xsh32) -> Result<(), NoMemory> {
+fn back(journal: &mut Journal, random: &mut Lcg64Xsh32) -> Result<(), NoMemory>
+    ensures of_rules { (rules : List AnyRule) → IsJournalOf rules journal.old → IsJournalOf rules journal.new }
+{
     let live = journal.mark()?;
     let most = if live < 4 { live } else { 4 };
     let count = below(random, most + 1);
@@ -173,7 +198,9 @@ fn step(
     rules: &[Rule],
     journal: &mut Journal,
     random: &mut Lcg64Xsh32,
-) -> Result<(), Wrong> {
+) -> Result<(), Wrong>
+    ensures of_rules { IsJournalOf (map rule_of_tree rules.now) journal.old → IsJournalOf (map rule_of_tree rules.now) journal.new }
+{
     for _ in 0..1000 {
         let found = guess(alloc, rules, journal.graph(), random)?;
         if applies(alloc, rules, journal.graph(), &found) {
@@ -221,7 +248,8 @@ fn guess_edge(
     Ok(())
 }
 
-fn below(random: &mut Lcg64Xsh32, count: u64) -> u64 {
+/// A number below another one that is drawn; 0, if that is 0.
+pub(crate) fn below(random: &mut Lcg64Xsh32, count: u64) -> u64 {
     u64::from(random.next_word())
         .checked_rem(count)
         .unwrap_or(0)
