@@ -6,9 +6,9 @@
 //! of `specs/Texts`; which status comes of which cause is `specs/Completes`.
 //! Inside it: `gp_words` reads the words, `files` the files, or `demo` makes what stands in their place, `parsed`
 //! understands them, `run` runs the program, or `check` asks whether a trace and a result are a derivation of it
-//! (`gp_derivation`), `step` walks a script over its items (`gp_script`), `texts` makes the texts of the answer, and `deliver` writes. All text is made
-//! before the first write. Of a demo `summary` makes the text: what `counts` counts of the graph that it ends with and of
-//! its trace, in the seven lines of `specs/Summary`.
+//! (`gp_derivation`), `step` walks a script over its items (`gp_script`), `texts` makes the texts of the answer, and
+//! `deliver` writes. All text is made before the first write. Of a demo `summary` makes the text: what `counts` counts of
+//! the graph that it ends with and of its trace, in the seven lines of `specs/Summary`.
 #![tactic(auto)]
 
 mod check;

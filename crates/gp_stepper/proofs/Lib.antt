@@ -1,3 +1,4 @@
+pub mod Counted
 pub mod Moves
 pub mod Stacks
 pub mod Standings

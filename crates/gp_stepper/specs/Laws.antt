@@ -1,11 +1,12 @@
--- What holds of steppers: their graphs are what the items before their places lead to, and the place tells the trail.
-use Rattle.std.specs.Prelude.{◌≡◌, ℕ, List, take, All}
+-- What holds of steppers: their graphs are what the items before their places lead to, the place tells the trail, and the
+-- moves tell the place.
+use Rattle.std.specs.Prelude.{◌≡◌, ℕ, ◌+◌, List, [], ◌∷◌, length, take, All}
 use Rattle.gp_syntax.specs.Rule.{Rule}
 use Rattle.gp_syntax.specs.Replay.{Replays}
 use Rattle.gp_syntax.specs.WellFormed.{IsWellFormed}
 use Rattle.gp_journal.specs.Trail.{root_of}
 use Rattle.gp_journal.specs.Journal.{items_of}
-use Rattle.gp_stepper.specs.Stepper.{Stepper, IsStepperOf, IsMoved}
+use Rattle.gp_stepper.specs.Stepper.{Stepper, IsStepperOf, IsMoved, Move, forward, back, moved_by}
 
 -- the items before the place replay to the graph
 abbrev pub SteppersReplay : Type 0
@@ -25,3 +26,26 @@ pub record MovesAreInverse (rules : List Rule) : Type 0 where
 
 abbrev pub WellFormedMovesAreInverse : Type 0
 WellFormedMovesAreInverse = (rules : List Rule) → All IsWellFormed rules → MovesAreInverse rules
+
+-- ---- moves one after another
+
+-- a move that was not refused: it was made, or there is none further
+pub data Moves (rules : List Rule) (s : Stepper) : Move → Stepper → Type 0 where
+  goes_on : {t : Stepper} → IsMoved rules s t (s.place + 1) → Moves rules s forward t
+  is_at_end : s.place ≡ length s.items → Moves rules s forward s
+  goes_back : {t : Stepper} → t.place + 1 ≡ s.place → IsMoved rules s t t.place → Moves rules s back t
+  is_at_start : s.place ≡ 0 → Moves rules s back s
+
+-- some, one after another
+abbrev pub MovesBy : List Rule → Stepper → List Move → Stepper → Type 0
+MovesBy rules s [] u = u ≡ s
+MovesBy rules s (m ∷ ms) u = (t : Stepper) × Moves rules s m t × MovesBy rules t ms u
+
+-- the place is that of the moves, and just the items before it replay to the graph
+pub record StandsAfter (rules : List Rule) (s : Stepper) (ms : List Move) (u : Stepper) : Type 0 where
+  pub place : u.place ≡ moved_by (length s.items) ms s.place
+  pub replays : Replays rules (root_of s.trail) (take u.place (items_of s.items)) u.trail.graph
+
+-- after each list of moves
+abbrev pub MovesAreCounted : Type 0
+MovesAreCounted = (rules : List Rule) (s u : Stepper) (ms : List Move) → IsStepperOf rules s → MovesBy rules s ms u → StandsAfter rules s ms u

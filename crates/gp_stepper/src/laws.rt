@@ -1,6 +1,6 @@
 //! What holds of steppers. Each function does nothing: its contract is the law.
 
-ghost use Rattle.gp_stepper.specs.Laws.{SteppersReplay, WellFormedMovesAreInverse};
+ghost use Rattle.gp_stepper.specs.Laws.{SteppersReplay, WellFormedMovesAreInverse, MovesAreCounted};
 
 /// The items before the place of a stepper replay from its root graph to its graph.
 pub fn steppers_replay()
@@ -11,4 +11,10 @@ pub fn steppers_replay()
 /// identity, and so are one back and then one forward.
 pub fn moves_are_inverse()
     ensures { WellFormedMovesAreInverse }
+{}
+
+/// After a list of moves, of which none was refused, the place is that of the moves, and the items before it replay to
+/// the graph.
+pub fn moves_are_counted()
+    ensures { MovesAreCounted }
 {}
