@@ -1,0 +1,6 @@
+//! The canonical text of a program's tree.
+#![tactic(auto)]
+
+mod piece;
+
+pub use piece::Piece;
