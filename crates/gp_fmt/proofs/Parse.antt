@@ -1,2 +1,12 @@
 pub mod Printed
 pub mod Gives
+pub mod Names
+pub mod Rooms
+pub mod Ranges
+pub mod Chains
+pub mod Groups
+pub mod Levels
+pub mod Spelling
+pub mod Leaves
+pub mod Parts
+pub mod Expressions

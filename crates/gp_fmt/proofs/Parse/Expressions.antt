@@ -1,0 +1,1 @@
+-- What is read of the tokens of a text is read again.
