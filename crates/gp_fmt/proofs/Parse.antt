@@ -9,4 +9,8 @@ pub mod Levels
 pub mod Spelling
 pub mod Leaves
 pub mod Parts
+pub mod Sums
 pub mod Expressions
+pub mod Labels
+pub mod Tests
+pub mod Conditions
