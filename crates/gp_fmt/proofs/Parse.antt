@@ -13,4 +13,6 @@ pub mod Sums
 pub mod Expressions
 pub mod Labels
 pub mod Tests
+pub mod ConditionParts
 pub mod Conditions
+pub mod Lists

@@ -139,7 +139,7 @@ good_negative v h = good_by (alone (p.Negation ∷ p.Number (suc v) ∷ [])) (e.
 
 -- ---- parts in parentheses
 
-as_list : (x : Part) (e : Tree) (n : ℕ) → Reads x.pieces (shape_of (grammar_at x.level n)) (whole e) → Reads x.pieces (shape_of (list n)) (whole e)
+pub as_list : (x : Part) (e : Tree) (n : ℕ) → Reads x.pieces (shape_of (grammar_at x.level n)) (whole e) → Reads x.pieces (shape_of (list n)) (whole e)
 as_list x e n h ts rest q = at_looser n ts rest e x.level 0 (omega arith) (h ts rest q)
 
 in_range_operand : (x : Part) (e : Tree) → IsGoodPart x e → Roomy (λ m n. Reads (in_parentheses x.pieces) (shape_of (operand n)) (whole e))

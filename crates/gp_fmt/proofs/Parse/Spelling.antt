@@ -59,3 +59,51 @@ star_well = (20, omega arith, refl)
 
 pub slash_well : IsWellSpelled (p.Sign k.Slash)
 slash_well = (21, omega arith, refl)
+
+pub comma_well : IsWellSpelled (p.Sign k.Comma)
+comma_well = (14, omega arith, refl)
+
+pub hash_well : IsWellSpelled (p.Sign k.Hash)
+hash_well = (22, omega arith, refl)
+
+pub less_equal_well : IsWellSpelled (p.Sign k.LessEqual)
+less_equal_well = (0, omega arith, refl)
+
+pub greater_equal_well : IsWellSpelled (p.Sign k.GreaterEqual)
+greater_equal_well = (1, omega arith, refl)
+
+pub not_equal_well : IsWellSpelled (p.Sign k.NotEqual)
+not_equal_well = (2, omega arith, refl)
+
+pub arrow_well : IsWellSpelled (p.Sign k.Arrow)
+arrow_well = (3, omega arith, refl)
+
+pub less_well : IsWellSpelled (p.Sign k.Less)
+less_well = (4, omega arith, refl)
+
+pub greater_well : IsWellSpelled (p.Sign k.Greater)
+greater_well = (5, omega arith, refl)
+
+pub exclamation_well : IsWellSpelled (p.Sign k.Exclamation)
+exclamation_well = (6, omega arith, refl)
+
+pub equal_well : IsWellSpelled (p.Sign k.Equal)
+equal_well = (7, omega arith, refl)
+
+pub open_bracket_well : IsWellSpelled (p.Sign k.OpenBracket)
+open_bracket_well = (10, omega arith, refl)
+
+pub close_bracket_well : IsWellSpelled (p.Sign k.CloseBracket)
+close_bracket_well = (11, omega arith, refl)
+
+pub open_brace_well : IsWellSpelled (p.Sign k.OpenBrace)
+open_brace_well = (12, omega arith, refl)
+
+pub close_brace_well : IsWellSpelled (p.Sign k.CloseBrace)
+close_brace_well = (13, omega arith, refl)
+
+pub semicolon_well : IsWellSpelled (p.Sign k.Semicolon)
+semicolon_well = (15, omega arith, refl)
+
+pub bar_well : IsWellSpelled (p.Sign k.Bar)
+bar_well = (23, omega arith, refl)
