@@ -16,3 +16,8 @@ pub mod Tests
 pub mod ConditionParts
 pub mod Conditions
 pub mod Lists
+pub mod CommandParts
+pub mod CommandChains
+pub mod Commands
+pub mod RuleParts
+pub mod Rules

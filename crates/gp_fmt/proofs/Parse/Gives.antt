@@ -8,6 +8,8 @@ use Rattle.gp_values.specs.Texts.{IsText}
 use Rattle.gp_grammar.specs.declared.want.Want.{Want}
 use Rattle.gp_grammar.specs.declared.want.Want.TheVariants as wants
 use Rattle.gp_grammar.specs.Wants.{meets}
+use Rattle.gp_grammar.specs.Grammar.{Grammar, shape_of}
+use Rattle.gp_grammar.specs.Grammar as grammar
 use Rattle.gp_grammar.specs.Shape.{Shape, Is, IsNumberAt, IsString, ◌then◌, Made, Either, one, other, Absent, absent, Many, none, more, Separated, second_of, list_of}
 use Rattle.gp_fmt.specs.inside.Spelled.{IsSpelledToken}
 
@@ -67,3 +69,26 @@ pub separated_gives : {A : Type 0} (want : Want) (R : Shape A) (P : A → Type 0
 separated_gives {A} want R P f =
     made_gives list_of _ (λ (x : A × List A). P x.0 × AllByRecursion P x.1) (AllOfSome P) (λ x h. h)
     (then_gives R _ P (AllByRecursion P) f (many_gives _ P (made_gives second_of _ (λ (x : Token × A). P x.1) P (λ x h. h) (behind_gives want R P f))))
+
+some_all : {A : Type 0} (P : A → Type 0) (xs : List A) → AllOfSome P xs → AllByRecursion P xs
+some_all P [] h = tt
+some_all P (x ∷ xs) h = h
+
+pub gives_all : {A : Type 0} (R : Shape (List A)) (P : A → Type 0) → Gives R (AllOfSome P) → Gives R (AllByRecursion P)
+gives_all R P g ts rest xs s h = let a = g ts rest xs s h in (some_all P xs a.0, a.1)
+
+-- ---- parts of which nothing is kept
+
+pub leaves_spelled : {A : Type 0} (g : Grammar A) → Gives (shape_of g) Anything
+leaves_spelled (grammar.One want) = any_token want
+leaves_spelled grammar.Number = λ ts rest x s h. any_token _ ts rest h.token s h.is
+leaves_spelled grammar.NumberAt = λ ts rest x s h. any_token _ ts rest h.token s h.is
+leaves_spelled grammar.String = λ ts rest x s h. any_token _ ts rest h.token s h.is
+leaves_spelled (grammar.Then g h) = λ ts rest x s d. leaves_spelled h d.mid rest x.1 (leaves_spelled g ts d.mid x.0 s d.first).1 d.second
+leaves_spelled (grammar.Made f g) = λ ts rest x s d. leaves_spelled g ts rest d.of s d.shape
+leaves_spelled (grammar.At want g h) = either_gives _ _ Anything (leaves_spelled g) (leaves_spelled h)
+leaves_spelled (grammar.If p g h) = either_gives _ _ Anything (leaves_spelled g) (leaves_spelled h)
+leaves_spelled (grammar.Absent x) = absent_gives x Anything tt
+leaves_spelled (grammar.Repeated want g) = λ ts rest x s d. (tt, (many_gives (shape_of g) Anything (leaves_spelled g) ts rest x s d).1)
+leaves_spelled (grammar.Separated sign g) = λ ts rest x s d. (tt, (separated_gives sign (shape_of g) Anything (leaves_spelled g) ts rest x s d).1)
+leaves_spelled grammar.Never = λ ts rest x s h. absurd h
