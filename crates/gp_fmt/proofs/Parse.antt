@@ -21,3 +21,4 @@ pub mod CommandChains
 pub mod Commands
 pub mod RuleParts
 pub mod Rules
+pub mod ReadRules

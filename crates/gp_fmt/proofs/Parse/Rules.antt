@@ -1,5 +1,5 @@
 -- A rule is read again where its parts are.
-use Rattle.std.proofs.Common.{◌≡◌, ℕ, true, List, [], ◌∷◌, ◌++◌, append_assoc, Option, Some, None, refl, ap, subst}
+use Rattle.std.proofs.Common.{◌≡◌, ℕ, true, List, [], ◌∷◌, ◌++◌, append_assoc, Option, Some, None, refl, sym, ap, subst, ◌∙◌}
 use Rattle.std.specs.Option.{option_or}
 use Rattle.std.specs.List.{AllByRecursion}
 use Rattle.gp_tokens.specs.declared.keyword.Keyword.TheVariants as words
@@ -110,10 +110,16 @@ module _ (r : RuleDecl) where
   abbrev rule_pieces : List Piece
   rule_pieces = p.Name r.name ∷ p.Sign k.OpenParenthesis ∷ from_variables
 
+to_the_right : (a b c d e f : List Piece) → a ++ b ++ c ++ d ++ e ++ f ≡ a ++ (b ++ (c ++ (d ++ (e ++ f))))
+to_the_right a b c d e f = simp append_assoc
+
 regroup : (n : Piece) (v l r s w : List Piece)
     → (n ∷ p.Sign k.OpenParenthesis ∷ (v ++ (p.Sign k.CloseParenthesis ∷ (l ++ (p.Sign k.Arrow ∷ (r ++ (p.Word words.Interface ∷ p.Sign k.Equal ∷ p.Sign k.OpenBrace ∷ (s ++ (p.Sign k.CloseBrace ∷ w)))))))))
     ≡ (n ∷ in_parentheses v ++ l ++ p.Sign k.Arrow ∷ r ++ p.Word words.Interface ∷ p.Sign k.Equal ∷ in_braces s ++ w)
-regroup n v l r s w = simp append_assoc
+regroup n v l r s w =
+    ap (λ (t : List Piece). n ∷ p.Sign k.OpenParenthesis ∷ t)
+    (ap (λ (t : List Piece). v ++ (p.Sign k.CloseParenthesis ∷ (l ++ (p.Sign k.Arrow ∷ (r ++ (p.Word words.Interface ∷ p.Sign k.Equal ∷ p.Sign k.OpenBrace ∷ t)))))) (sym (append_assoc s (p.Sign k.CloseBrace ∷ []) w))
+    ∙ sym (to_the_right v (p.Sign k.CloseParenthesis ∷ []) l (p.Sign k.Arrow ∷ r) (p.Word words.Interface ∷ p.Sign k.Equal ∷ in_braces s) w))
 
 rule_is : (r : RuleDecl) → rule_pieces r ≡ printed.rule r
 rule_is r = regroup (p.Name r.name) (printed.variables r.variables) (printed.graph r.left) (printed.graph r.right) (names r.interface) (printed.where_part r.condition)
