@@ -22,3 +22,5 @@ pub mod Commands
 pub mod RuleParts
 pub mod Rules
 pub mod ReadRules
+pub mod Declarations
+pub mod Whole
