@@ -1,14 +1,14 @@
 -- A chain of one operator is read again.
-use Rattle.std.proofs.Common.{◌≡◌, ℕ, true, List, [], ◌∷◌, ◌++◌, map, flat_map, refl, ap, subst}
+use Rattle.std.proofs.Common.{◌≡◌, ℕ, true, List, [], ◌∷◌, ◌++◌, map, flat_map, refl, subst}
 use Rattle.std.specs.List.{AllByRecursion}
 use Rattle.gp_tokens.specs.declared.token.Token.{Token}
 use Rattle.gp_grammar.specs.declared.want.Want.{Want}
 use Rattle.gp_grammar.specs.Wants.{meets}
-use Rattle.gp_grammar.specs.Shape.{Shape, Is, ◌then◌, Made, Many, none, more, Separated, second_of, list_of}
+use Rattle.gp_grammar.specs.Shape.{Shape, Is, ◌then◌, Made, Many, none, Separated, second_of, list_of}
 use Rattle.gp_expressions.specs.declared.ranged.Ranged.{Ranged}
 use Rattle.gp_expressions.specs.Ranges.{whole, both, gathered, chained}
 use Rattle.gp_fmt.specs.declared.piece.Piece.{Piece}
-use Rattle.gp_fmt.proofs.Parse.Printed.{token_at, Reads, Takes, some, made_into, made_reads, behind_takes, none_reads, more_reads, then_reads}
+use Rattle.gp_fmt.proofs.Parse.Printed.{token_at, Reads, some, made_into, made_reads, behind_takes, none_reads, more_reads, then_reads}
 use Rattle.gp_fmt.proofs.Parse.Ranges.{gathered_whole}
 
 pub one_alone : {A : Type 0} (want : Want) (R : Shape A) (ts rest : List Token) (x : A) → R ts rest x → Separated want R ts rest (x ∷ [])

@@ -1,5 +1,5 @@
 -- Each form of command is read again where its parts are.
-use Rattle.std.proofs.Common.{◌≡◌, ℕ, zero, suc, ◌+◌, ◌-◌, ◌<◌, ◌≤◌, Bool, true, false, List, [], ◌∷◌, ◌++◌, map, flat_map, refl, sym, ap, subst, ◌∙◌, arith, ltb-false}
+use Rattle.std.proofs.Common.{◌≡◌, ℕ, zero, suc, ◌≤◌, Bool, true, false, List, [], ◌∷◌, refl, sym, ap, subst, ◌∙◌, arith, ltb-false}
 use Rattle.std.specs.Prelude.{nat_lt, if◌then◌else◌}
 use Rattle.std.specs.List.{AllByRecursion}
 use Rattle.gp_tokens.specs.declared.keyword.Keyword.{Keyword}
@@ -11,27 +11,28 @@ use Rattle.gp_values.specs.Names.{Name}
 use Rattle.gp_grammar.specs.declared.want.Want.TheVariants as wants
 use Rattle.gp_grammar.specs.Wants.{meets}
 use Rattle.gp_grammar.specs.Grammar.{Grammar, shape_of}
-use Rattle.gp_grammar.specs.Shape.{Made, other, absent, second_of}
-use Rattle.gp_grammar.specs.Signs.{open_brace, close_brace, comma, semicolon, exclamation}
+use Rattle.gp_grammar.specs.Shape.{other, absent, second_of}
+use Rattle.gp_grammar.specs.Signs.{open_brace, close_brace, semicolon}
 use Rattle.gp_syntax.specs.declared.tree.CommandTree.{CommandTree}
 use Rattle.gp_syntax.specs.declared.tree.CommandTree.TheVariants as commands
 use Rattle.gp_syntax.specs.declared.tree.CommandTree.TheOpen.{CommandTree-F}
 use Rattle.gp_syntax.specs.declared.tree.CommandTree.TheFolds.{fold-roll-CommandTree}
-use Rattle.gp_expressions.specs.Signs.{or_word, if_word, then_word, else_word, try_word, skip_word, fail_word, break_word}
-use Rattle.gp_expressions.specs.Expressions.{name, inner, behind}
+use Rattle.gp_expressions.specs.Signs.{or_word, skip_word, fail_word, break_word}
+use Rattle.gp_expressions.specs.Expressions.{inner, behind}
 use Rattle.gp_expressions.specs.Conditions.{means}
-use Rattle.gp_program.specs.Commands.{grouped, rule_names, call_of, call_of_one, procedure_call, bang, looped, repeatable, simple_in, if_of, try_of, block, part, command, sequence, simple, commands_of}
+use Rattle.gp_program.specs.Commands.{rule_names, call_of, call_of_one, procedure_call, bang, repeatable, simple_in, block, part, command, sequence, simple, commands_of}
 use Rattle.gp_fmt.specs.declared.piece.Piece.{Piece}
 use Rattle.gp_fmt.specs.declared.piece.Piece.TheVariants as p
 use Rattle.gp_fmt.specs.Expressions.{in_parentheses, in_parentheses_if}
 use Rattle.gp_fmt.specs.Commands.{Form, CommandPart, level, is_call, is_nothing, in_sequence, in_branch, in_choice, in_loop, optional, names, in_braces, called, command_step, part_of_command}
 use Rattle.gp_fmt.specs.Commands as form
-use Rattle.gp_fmt.proofs.Parse.Printed.{token_at, Reads, Anything, some, made_into, made_reads, one_reads, other_reads, absent_reads, then_reads, then_takes, behind_takes, sign_takes}
+use Rattle.gp_fmt.proofs.Parse.Printed.{token_at, Reads, Anything, some, made_into, made_reads, one_reads, other_reads, absent_reads, behind_takes, sign_takes}
 use Rattle.gp_fmt.proofs.Parse.Names.{IsNamed, name_reads}
-use Rattle.gp_fmt.proofs.Parse.Rooms.{Roomy, anywhere, becomes, deeper, together, all_roomy}
+use Rattle.gp_fmt.proofs.Parse.Rooms.{Roomy, anywhere, becomes, deeper}
 use Rattle.gp_fmt.proofs.Parse.Chains.{one_alone}
-use Rattle.gp_fmt.proofs.Parse.Lists.{separated_same, names_read, names_well}
-use Rattle.gp_fmt.proofs.Parse.Spelling.{AreWell, well_append, well_flat, all_into, flat_map-map, enclosed_well, enclosed_if_well, open_brace_well, close_brace_well, semicolon_well, exclamation_well}
+use Rattle.gp_fmt.proofs.Parse.Levels.{descend}
+use Rattle.gp_fmt.proofs.Parse.Lists.{names_read, names_well}
+use Rattle.gp_fmt.proofs.Parse.Spelling.{AreWell, well_append, enclosed_well, enclosed_if_well, open_brace_well, close_brace_well}
 use Rattle.gp_fmt.proofs.Parse.Labels.{between_takes, enclosed_takes}
 
 -- ---- levels
@@ -61,16 +62,8 @@ module _ (n : ℕ) (ts rest : List Token) (c : CommandTree) where
   looser (suc (suc zero)) h = block_of h
   looser (suc (suc (suc l))) h = h
 
-  down : (by l : ℕ) → shape_of (command_at (by + l) n) ts rest c → shape_of (command_at l n) ts rest c
-  down zero l h = subst (λ l. shape_of (command_at l n) ts rest c) (omega arith) h
-  down (suc by) l h =
-      let same : suc by + l ≡ suc (by + l) = omega arith in
-      down by l (looser (by + l) (subst (λ l. shape_of (command_at l n) ts rest c) same h))
-
   at_looser : (l k : ℕ) → k ≤ l → shape_of (command_at l n) ts rest c → shape_of (command_at k n) ts rest c
-  at_looser l k le h =
-      let same : l ≡ (l - k) + k = omega arith in
-      down (l - k) k (subst (λ l. shape_of (command_at l n) ts rest c) same h)
+  at_looser l k le h = descend (λ l. shape_of (command_at l n) ts rest c) looser l k le h
 
 -- The pieces are well spelled, and read again as the command: at the level of the part, and a call also before `!`. What is
 -- not written is `skip`.

@@ -1,5 +1,5 @@
 -- Each command that is read of the tokens of a text is read again.
-use Rattle.std.proofs.Common.{◌≡◌, ℕ, zero, suc, Bool, true, false, List, [], ◌∷◌, refl}
+use Rattle.std.proofs.Common.{ℕ, zero, suc, Bool, true, false, List, [], ◌∷◌}
 use Rattle.std.specs.List.{AllByRecursion}
 use Rattle.gp_tokens.specs.declared.token.Token.{Token}
 use Rattle.gp_values.specs.Names.{Name}
@@ -11,10 +11,11 @@ use Rattle.gp_grammar.specs.Signs.{open_sign, close_sign, open_brace, close_brac
 use Rattle.gp_syntax.specs.declared.tree.CommandTree.{CommandTree}
 use Rattle.gp_syntax.specs.declared.tree.CommandTree.TheVariants as commands
 use Rattle.gp_expressions.specs.Signs.{or_word, if_word, then_word, else_word, try_word, skip_word, fail_word, break_word}
-use Rattle.gp_expressions.specs.Expressions.{name, inner, behind}
+use Rattle.gp_expressions.specs.Expressions.{inner, behind}
 use Rattle.gp_expressions.specs.Conditions.{means}
 use Rattle.gp_program.specs.Commands.{grouped, rule_names, call_of, call_of_one, procedure_call, bang, looped, repeatable, simple_in, if_of, try_of, block, part, command, sequence, simple, commands_of}
-use Rattle.gp_fmt.proofs.Parse.Gives.{Gives, AllOfSome, Anything, any_token, then_gives, behind_gives, made_gives, either_gives, absent_gives, separated_gives, gives_all}
+use Rattle.gp_fmt.proofs.Parse.Printed.{Anything}
+use Rattle.gp_fmt.proofs.Parse.Gives.{Gives, AllOfSome, any_token, then_gives, behind_gives, made_gives, either_gives, absent_gives, separated_gives, gives_all}
 use Rattle.gp_fmt.proofs.Parse.Names.{IsNamed, rule, procedure, name_gives}
 use Rattle.gp_fmt.proofs.Parse.Labels.{between_gives}
 use Rattle.gp_fmt.proofs.Parse.CommandParts.{IsGoodCommand, good_call, good_procedure, good_break, good_skip, good_fail}

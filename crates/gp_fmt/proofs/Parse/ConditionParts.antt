@@ -1,6 +1,6 @@
 -- Each form of condition is read again where its parts are.
-use Rattle.std.proofs.Common.{◌≡◌, ℕ, zero, suc, ◌+◌, ◌-◌, ◌<◌, ◌≤◌, Bool, true, false, List, [], ◌∷◌, ◌++◌, map, flat_map, Option, Some, None, refl, sym, ap, subst, ◌∙◌, arith, leb-false, ltb-false}
-use Rattle.std.specs.Prelude.{nat_le, nat_lt, if◌then◌else◌}
+use Rattle.std.proofs.Common.{◌≡◌, ℕ, zero, suc, ◌<◌, ◌≤◌, Bool, true, false, List, [], ◌∷◌, ◌++◌, flat_map, Option, Some, None, refl, sym, ap, subst, ◌∙◌, arith, leb-false, ltb-false}
+use Rattle.std.specs.Prelude.{nat_le, nat_lt}
 use Rattle.std.specs.List.{AllByRecursion}
 use Rattle.gp_tokens.specs.declared.keyword.Keyword.TheVariants as words
 use Rattle.gp_tokens.specs.declared.token.Kind.TheVariants as k
@@ -12,7 +12,6 @@ use Rattle.gp_grammar.specs.Wants.{meets}
 use Rattle.gp_grammar.specs.Grammar.{Grammar, shape_of}
 use Rattle.gp_syntax.specs.declared.kinds.VariableType.{VariableType}
 use Rattle.gp_syntax.specs.declared.kinds.Comparison.{Comparison}
-use Rattle.gp_syntax.specs.declared.expression.Cond.{Cond}
 use Rattle.gp_syntax.specs.declared.expression.Cond.TheVariants as c
 use Rattle.gp_syntax.specs.declared.expression.Cond.TheOpen.{Cond-F}
 use Rattle.gp_syntax.specs.declared.expression.Cond.TheFolds.{fold-roll-Cond}
@@ -31,6 +30,7 @@ use Rattle.gp_fmt.proofs.Parse.Printed.{Reads, Anything, some, made_into, one_re
 use Rattle.gp_fmt.proofs.Parse.Names.{IsNamed}
 use Rattle.gp_fmt.proofs.Parse.Rooms.{Roomy, anywhere, becomes, deeper, together, all_roomy, of_lists}
 use Rattle.gp_fmt.proofs.Parse.Chains.{one_alone, chain_reads}
+use Rattle.gp_fmt.proofs.Parse.Levels.{descend}
 use Rattle.gp_fmt.proofs.Parse.Spelling.{AreWell, well_append, well_flat, all_into, flat_map-map, enclosed_well, enclosed_if_well, comma_well}
 use Rattle.gp_fmt.proofs.Parse.Parts.{IsGood}
 use Rattle.gp_fmt.proofs.Parse.Labels.{enclosed_takes, IsMarked, list_reads, label_reads, label_well}
@@ -57,16 +57,8 @@ module _ (m n : ℕ) (ts rest : List Token) (d : CondTree) where
   looser (suc zero) h = conjunction_of h
   looser (suc (suc level)) h = h
 
-  down : (by level : ℕ) → shape_of (condition_at (by + level) m n) ts rest (whole d) → shape_of (condition_at level m n) ts rest (whole d)
-  down zero level h = subst (λ l. shape_of (condition_at l m n) ts rest (whole d)) (omega arith) h
-  down (suc by) level h =
-      let same : suc by + level ≡ suc (by + level) = omega arith in
-      down by level (looser (by + level) (subst (λ l. shape_of (condition_at l m n) ts rest (whole d)) same h))
-
   at_looser : (level other : ℕ) → other ≤ level → shape_of (condition_at level m n) ts rest (whole d) → shape_of (condition_at other m n) ts rest (whole d)
-  at_looser level other le h =
-      let same : level ≡ (level - other) + other = omega arith in
-      down (level - other) other (subst (λ l. shape_of (condition_at l m n) ts rest (whole d)) same h)
+  at_looser level other le h = descend (λ l. shape_of (condition_at l m n) ts rest (whole d)) looser level other le h
 
 pub record IsGoodConditionPart (x : Part) (d : CondTree) : Type 0 where
   pub well : AreWell x.pieces

@@ -1,6 +1,5 @@
 -- Each condition that is read of the tokens of a text is read again.
-use Rattle.std.proofs.Common.{◌≡◌, ℕ, zero, suc, List, [], ◌∷◌, Option, Some, None, refl}
-use Rattle.std.specs.List.{AllByRecursion}
+use Rattle.std.proofs.Common.{ℕ, zero, suc, Option, Some, None}
 use Rattle.gp_tokens.specs.declared.token.Token.{Token}
 use Rattle.gp_values.specs.Names.{Name}
 use Rattle.gp_grammar.specs.declared.want.Want.{Want}
@@ -15,11 +14,12 @@ use Rattle.gp_syntax.specs.declared.kinds.Comparison.{Comparison}
 use Rattle.gp_syntax.specs.declared.kinds.Comparison.TheVariants as comparisons
 use Rattle.gp_syntax.specs.declared.expression.Cond.TheVariants as c
 use Rattle.gp_expressions.specs.declared.ranged.Ranged.{Ranged}
-use Rattle.gp_expressions.specs.Ranges.{whole, chained}
+use Rattle.gp_expressions.specs.Ranges.{chained}
 use Rattle.gp_expressions.specs.Signs.{not_word, and_word, or_word, edge_word, int_word, char_word, string_word, atom_word, not_equal, less_equal, greater_equal}
-use Rattle.gp_expressions.specs.Expressions.{Tree, list, name, inner}
-use Rattle.gp_expressions.specs.Conditions.{CondTree, label, means, comparison, compared, has_type, joined_by, has_edge, typed, edge_label, edge_test, comparing, plain_test, no_condition, conjunction, disjunction, in_parentheses, denied, negated_in, negation, condition}
-use Rattle.gp_fmt.proofs.Parse.Gives.{Gives, AllOfSome, Anything, any_token, then_gives, behind_gives, made_gives, either_gives, absent_gives, separated_gives}
+use Rattle.gp_expressions.specs.Expressions.{Tree, list, inner}
+use Rattle.gp_expressions.specs.Conditions.{CondTree, means, comparison, compared, has_type, joined_by, has_edge, typed, edge_label, edge_test, comparing, plain_test, no_condition, conjunction, disjunction, in_parentheses, denied, negated_in, negation, condition}
+use Rattle.gp_fmt.proofs.Parse.Printed.{Anything}
+use Rattle.gp_fmt.proofs.Parse.Gives.{Gives, AllOfSome, any_token, then_gives, behind_gives, made_gives, either_gives, absent_gives, separated_gives}
 use Rattle.gp_fmt.proofs.Parse.Names.{IsNamed, item, name_gives}
 use Rattle.gp_fmt.proofs.Parse.Ranges.{InRange, none_of, chained_is}
 use Rattle.gp_fmt.proofs.Parse.Parts.{IsGood}

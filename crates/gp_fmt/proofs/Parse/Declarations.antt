@@ -1,5 +1,5 @@
 -- Declarations are read again where their parts are.
-use Rattle.std.proofs.Common.{◌≡◌, ◌⊎◌, inl, inr, ℕ, suc, true, List, [], ◌∷◌, ◌++◌, map, flat_map, None, refl, sym, ap, subst, ◌∙◌}
+use Rattle.std.proofs.Common.{◌≡◌, ◌⊎◌, inl, inr, ℕ, suc, List, [], ◌∷◌, ◌++◌, map, flat_map, None, refl, sym, ap, subst, ◌∙◌}
 use Rattle.std.specs.List.{AllByRecursion}
 use Rattle.gp_tokens.specs.declared.token.Kind.TheVariants as k
 use Rattle.gp_tokens.specs.declared.token.Token.{Token}
@@ -18,10 +18,10 @@ use Rattle.gp_syntax.specs.declared.tree.Decl.TheOpen.{Decl-F}
 use Rattle.gp_syntax.specs.declared.tree.Decl.TheFolds.{fold-roll-Decl}
 use Rattle.gp_expressions.specs.declared.ranged.Ranged.{Ranged}
 use Rattle.gp_expressions.specs.Ranges.{whole, with, both, gathered, first_past, joined, all_joined}
-use Rattle.gp_expressions.specs.Expressions.{name, inner}
+use Rattle.gp_expressions.specs.Expressions.{inner}
 use Rattle.gp_program.specs.Rules.{rule}
 use Rattle.gp_program.specs.Commands.{commands_of}
-use Rattle.gp_program.specs.Programs.{rule_decl, procedure_of, procedure_first, rules_first, rules, locals, procedure, procedure_group, declarations_in, declarations}
+use Rattle.gp_program.specs.Programs.{rule_decl, procedure_of, rules, locals, procedure, procedure_group, declarations_in, declarations}
 use Rattle.gp_fmt.specs.declared.piece.Piece.{Piece}
 use Rattle.gp_fmt.specs.declared.piece.Piece.TheVariants as p
 use Rattle.gp_fmt.specs.Commands.{part_of_command, command}

@@ -1,5 +1,5 @@
 -- Each expression that is read of the tokens of a text is read again.
-use Rattle.std.proofs.Common.{◌≡◌, ℕ, zero, suc, ◌<◌, ◌≤◌, ◌^◌, ℤ, pos, negsuc, neg_ℤ, Bool, true, false, List, [], ◌∷◌, map, Option, Some, None, refl, lit<, ltb-true}
+use Rattle.std.proofs.Common.{◌≡◌, ℕ, zero, suc, ◌≤◌, ◌^◌, pos, neg_ℤ, Bool, true, false, List, [], ◌∷◌, Some, None, refl, lit<, ltb-true}
 use Rattle.std.specs.Prelude.{nat_le, nat_lt, if◌then◌else◌}
 use Rattle.std.specs.List.{AllByRecursion}
 use Rattle.gp_tokens.specs.declared.token.Kind.TheVariants as k
@@ -10,7 +10,7 @@ use Rattle.gp_grammar.specs.declared.want.Want.{Want}
 use Rattle.gp_grammar.specs.declared.want.Want.TheVariants as wants
 use Rattle.gp_grammar.specs.Grammar.{Grammar, One, shape_of, ◌followed_by◌}
 use Rattle.gp_grammar.specs.Shape.{Shape, IsNumberAt, IsString, Made, Separated, second_of}
-use Rattle.gp_grammar.specs.Signs.{number_sign, open_sign, close_sign, minus, plus, star, slash, dot, colon, empty}
+use Rattle.gp_grammar.specs.Signs.{open_sign, close_sign, minus, plus, star, slash, dot, colon, empty}
 use Rattle.gp_syntax.specs.declared.expression.Signed.{Signed}
 use Rattle.gp_syntax.specs.declared.expression.SumSign.{SumSign}
 use Rattle.gp_syntax.specs.declared.expression.SumSign.TheVariants as sums
@@ -18,12 +18,13 @@ use Rattle.gp_syntax.specs.declared.expression.ProductSign.{ProductSign}
 use Rattle.gp_syntax.specs.declared.expression.ProductSign.TheVariants as products
 use Rattle.gp_syntax.specs.declared.expression.Expr.TheVariants as e
 use Rattle.gp_expressions.specs.declared.ranged.Ranged.{Ranged}
-use Rattle.gp_expressions.specs.Ranges.{whole, with, gathered, first_past, joined, all_joined, chained}
+use Rattle.gp_expressions.specs.Ranges.{with, all_joined, chained}
 use Rattle.gp_expressions.specs.Signs.{indegree_word, outdegree_word, length_word}
 use Rattle.gp_expressions.specs.Expressions.{Tree, numeral_tree, positive, negative, negated, signed_by, headed, sum_tree, product_tree, unary, quotients, product, differences, sum, dots, joins, name, argument, inner, text, variable, empty_list, of_name, leaf, nested, operand, list}
-use Rattle.gp_fmt.proofs.Parse.Gives.{Gives, AllOfSome, Anything, any_token, token_gives, then_gives, behind_gives, made_gives, either_gives, separated_gives}
-use Rattle.gp_fmt.proofs.Parse.Names.{IsNamed, word, item, variable as variable_class, name_gives, IsClass}
-use Rattle.gp_fmt.proofs.Parse.Ranges.{InRange, none_of, gathered_all, joined_all, chained_is}
+use Rattle.gp_fmt.proofs.Parse.Printed.{Anything}
+use Rattle.gp_fmt.proofs.Parse.Gives.{Gives, AllOfSome, any_token, token_gives, then_gives, behind_gives, made_gives, either_gives, separated_gives}
+use Rattle.gp_fmt.proofs.Parse.Names.{IsNamed, item, variable as variable_class, name_gives, IsClass}
+use Rattle.gp_fmt.proofs.Parse.Ranges.{InRange, gathered_all, joined_all, chained_is}
 use Rattle.gp_fmt.proofs.Parse.Leaves.{number_gives}
 use Rattle.gp_fmt.proofs.Parse.Parts.{IsGood, good_text, good_variable, good_empty, good_indegree, good_outdegree, good_length, good_positive, good_negative, good_negated}
 use Rattle.gp_fmt.proofs.Parse.Sums.{IsGoodOperand, good_dot, good_join, good_sum, good_product}

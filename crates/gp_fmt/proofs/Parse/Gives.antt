@@ -1,17 +1,14 @@
 -- What holds of the trees that are read of tokens that are spelled as those of a text.
-use Rattle.std.proofs.Common.{◌≡◌, ℕ, Bool, true, false, List, [], ◌∷◌, ◌++◌, Some, refl, subst, sym}
+use Rattle.std.proofs.Common.{◌≡◌, true, List, [], ◌∷◌, subst, sym}
 use Rattle.std.specs.List.{AllByRecursion}
-use Rattle.gp_tokens.specs.declared.token.Kind.TheVariants as k
 use Rattle.gp_tokens.specs.declared.token.Token.{Token}
-use Rattle.gp_tokens.specs.Numbers.{checked_number}
-use Rattle.gp_values.specs.Texts.{IsText}
 use Rattle.gp_grammar.specs.declared.want.Want.{Want}
-use Rattle.gp_grammar.specs.declared.want.Want.TheVariants as wants
 use Rattle.gp_grammar.specs.Wants.{meets}
 use Rattle.gp_grammar.specs.Grammar.{Grammar, shape_of}
 use Rattle.gp_grammar.specs.Grammar as grammar
-use Rattle.gp_grammar.specs.Shape.{Shape, Is, IsNumberAt, IsString, ◌then◌, Made, Either, one, other, Absent, absent, Many, none, more, Separated, second_of, list_of}
+use Rattle.gp_grammar.specs.Shape.{Shape, Is, ◌then◌, Made, Either, one, other, Absent, absent, Many, none, more, Separated, second_of, list_of}
 use Rattle.gp_fmt.specs.inside.Spelled.{IsSpelledToken}
+use Rattle.gp_fmt.proofs.Parse.Printed.{Anything}
 
 abbrev pub AreSpelled : List Token → Type 0
 AreSpelled ts = AllByRecursion IsSpelledToken ts
@@ -26,9 +23,6 @@ pub record IsFound (want : Want) (t : Token) : Type 0 where
 
 pub token_gives : (want : Want) → Gives (Is want) (IsFound want)
 token_gives want ts rest x s h = let c : AreSpelled (x ∷ rest) = subst AreSpelled h.front s in (record { meets = h.is; spelled = c.0 }, c.1)
-
-abbrev pub Anything : {A : Type 0} → A → Type 0
-Anything x = Unit {0}
 
 pub any_token : (want : Want) → Gives (Is want) Anything
 any_token want ts rest x s h = (tt, (token_gives want ts rest x s h).1)

@@ -4,13 +4,13 @@ use Rattle.std.specs.List.{AllByRecursion}
 use Rattle.gp_tokens.specs.declared.token.Token.{Token}
 use Rattle.gp_grammar.specs.declared.want.Want.{Want}
 use Rattle.gp_grammar.specs.Wants.{meets}
-use Rattle.gp_grammar.specs.Shape.{Shape, Is, ◌then◌, Made, Many, none, more, Separated, second_of, list_of}
+use Rattle.gp_grammar.specs.Shape.{Shape, Is, ◌then◌, Made, Many, none, more, Separated, second_of}
 use Rattle.gp_syntax.specs.declared.expression.Signed.{Signed}
 use Rattle.gp_expressions.specs.declared.ranged.Ranged.{Ranged}
-use Rattle.gp_expressions.specs.Ranges.{whole, with, gathered, first_past, joined, all_joined}
+use Rattle.gp_expressions.specs.Ranges.{whole, with, first_past, joined, all_joined}
 use Rattle.gp_expressions.specs.Expressions.{Tree, signed_by, headed}
 use Rattle.gp_fmt.specs.declared.piece.Piece.{Piece}
-use Rattle.gp_fmt.proofs.Parse.Printed.{token_at, Printed, done, next, split, Reads, Takes, some, made_reads}
+use Rattle.gp_fmt.proofs.Parse.Printed.{token_at, Printed, done, next, split, Reads, made_reads}
 use Rattle.gp_fmt.proofs.Parse.Ranges.{gathered_whole}
 use Rattle.gp_fmt.proofs.Parse.Chains.{behind_sign}
 

@@ -17,10 +17,9 @@ use Rattle.gp_fmt.specs.declared.piece.Piece.{Piece}
 use Rattle.gp_fmt.specs.declared.piece.Piece.TheVariants as p
 use Rattle.gp_fmt.specs.Expressions.{in_parentheses, part_of_expression, expression}
 use Rattle.gp_fmt.specs.Expressions as printed
-use Rattle.gp_fmt.specs.inside.Spelled.{IsWellSpelled}
-use Rattle.gp_fmt.proofs.Parse.Printed.{Reads, Takes, some, made_into, one_reads, other_reads, absent_reads, then_reads, then_takes, behind_takes, sign_takes}
+use Rattle.gp_fmt.proofs.Parse.Printed.{Anything, Reads, Takes, some, made_into, one_reads, other_reads, absent_reads, then_reads, then_takes, behind_takes, sign_takes}
 use Rattle.gp_fmt.proofs.Parse.Printed as printing
-use Rattle.gp_fmt.proofs.Parse.Gives.{Gives, Anything, any_token, then_gives, behind_gives, made_gives, either_gives, absent_gives}
+use Rattle.gp_fmt.proofs.Parse.Gives.{Gives, any_token, then_gives, behind_gives, made_gives, either_gives, absent_gives}
 use Rattle.gp_fmt.proofs.Parse.Names.{IsNamed, word, name_gives, name_reads}
 use Rattle.gp_fmt.proofs.Parse.Rooms.{Roomy, becomes}
 use Rattle.gp_fmt.proofs.Parse.Ranges.{InRange}

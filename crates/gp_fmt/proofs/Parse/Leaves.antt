@@ -1,6 +1,6 @@
 -- Numerals, strings and names in expressions are read again.
-use Rattle.std.proofs.Common.{◌≡◌, ◌≢◌, ℕ, zero, suc, ◌<◌, ◌≤◌, ◌^◌, ℤ, pos, negsuc, neg_ℤ, Bool, true, false, not, List, [], ◌∷◌, ◌++◌, Option, Some, None, decimal, refl, sym, ap, subst, ◌∙◌, arith, lit<, lt_of_le_of_lt, le_of_lt, lt-ltb, le-leb, leb-true, ltb-true, ne_eqb}
-use Rattle.std.specs.Prelude.{◌&&◌, ◌==◌, nat_le, nat_lt, if◌then◌else◌}
+use Rattle.std.proofs.Common.{◌≡◌, ℕ, suc, ◌<◌, ◌≤◌, ◌^◌, pos, negsuc, Bool, true, false, List, [], ◌∷◌, ◌++◌, Some, None, decimal, refl, ap, subst, lit<, lt_of_le_of_lt, le_of_lt, lt-ltb, le-leb, leb-true, ne_eqb}
+use Rattle.std.specs.Prelude.{◌==◌, nat_le, nat_lt, if◌then◌else◌}
 use Rattle.std.specs.List.{AllByRecursion, list_all}
 use Rattle.std.proofs.lemmas.List.Elements.{recursion_from_All}
 use Rattle.gp_tokens.specs.declared.keyword.Keyword.{Keyword}
@@ -16,17 +16,15 @@ use Rattle.gp_grammar.specs.declared.want.Want.{Want}
 use Rattle.gp_grammar.specs.declared.want.Want.TheVariants as wants
 use Rattle.gp_grammar.specs.Wants.{meets}
 use Rattle.gp_grammar.specs.Grammar.{shape_of}
-use Rattle.gp_grammar.specs.Signs.{open_sign, close_sign, minus}
-use Rattle.gp_grammar.specs.Shape.{Is, IsNumberAt, IsString, ◌then◌, Made, Either, one, other}
-use Rattle.gp_syntax.specs.declared.expression.Expr.{Expr}
+use Rattle.gp_grammar.specs.Signs.{open_sign, close_sign}
+use Rattle.gp_grammar.specs.Shape.{Is, IsNumberAt, IsString, ◌then◌, Made}
 use Rattle.gp_syntax.specs.declared.expression.Expr.TheVariants as e
-use Rattle.gp_expressions.specs.declared.ranged.Ranged.{Ranged}
 use Rattle.gp_expressions.specs.Ranges.{whole}
-use Rattle.gp_expressions.specs.Expressions.{Tree, numeral_tree, positive, negative, unary, leaf, nested, operand, list, name, argument, inner, of_name, text, variable, joins}
+use Rattle.gp_expressions.specs.Expressions.{Tree, positive, negative, nested, operand, list, argument, inner, of_name}
 use Rattle.gp_fmt.specs.declared.piece.Piece.{Piece}
 use Rattle.gp_fmt.specs.declared.piece.Piece.TheVariants as p
-use Rattle.gp_fmt.specs.Expressions.{in_parentheses, numeral}
-use Rattle.gp_fmt.proofs.Parse.Printed.{token_at, Printed, done, next, Reads, Takes, Anything, some, made_into, one_reads, other_reads, then_takes, behind_takes, sign_takes}
+use Rattle.gp_fmt.specs.Expressions.{in_parentheses}
+use Rattle.gp_fmt.proofs.Parse.Printed.{token_at, done, next, Reads, Anything, some, made_into, one_reads, other_reads, then_takes, behind_takes, sign_takes}
 use Rattle.gp_fmt.proofs.Parse.Gives.{Gives, token_gives}
 use Rattle.gp_fmt.proofs.Parse.Names.{IsNamed, name_reads}
 

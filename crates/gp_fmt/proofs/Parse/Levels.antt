@@ -1,5 +1,5 @@
 -- The grammar at each level: what binds tighter is also looser.
-use Rattle.std.proofs.Common.{◌≡◌, ℕ, zero, suc, ◌+◌, ◌-◌, ◌≤◌, List, [], ◌∷◌, refl, sym, subst, arith}
+use Rattle.std.proofs.Common.{◌≡◌, ℕ, zero, suc, ◌+◌, ◌-◌, ◌≤◌, List, [], ◌∷◌, refl, subst, arith}
 use Rattle.gp_tokens.specs.declared.token.Token.{Token}
 use Rattle.gp_grammar.specs.Grammar.{Grammar, shape_of}
 use Rattle.gp_grammar.specs.Signs.{slash, star, plus, minus, dot, colon}
@@ -7,7 +7,7 @@ use Rattle.gp_syntax.specs.declared.expression.SumSign.TheVariants as sums
 use Rattle.gp_syntax.specs.declared.expression.ProductSign.TheVariants as products
 use Rattle.gp_expressions.specs.declared.ranged.Ranged.{Ranged}
 use Rattle.gp_expressions.specs.Ranges.{whole, first_past, joined}
-use Rattle.gp_expressions.specs.Expressions.{Tree, signed_by, headed, unary, quotients, product, differences, sum, dots, joins, operand}
+use Rattle.gp_expressions.specs.Expressions.{Tree, signed_by, unary, quotients, product, differences, sum, dots, joins, operand}
 use Rattle.gp_fmt.proofs.Parse.Chains.{one_alone}
 
 abbrev pub grammar_at : ℕ → ℕ → Grammar (Ranged Tree)
@@ -40,6 +40,18 @@ module _ (o : Grammar (Ranged Tree)) (ts rest : List Token) (e : Tree) where
   unfolding joins
   joins_of h = record { of = whole e ∷ []; shape = one_alone colon _ ts rest _ h; made = refl }
 
+-- what holds at a level, holds at each looser one
+pub descend : (S : ℕ → Type 0) → ((level : ℕ) → S (suc level) → S level) → (level other : ℕ) → other ≤ level → S level → S other
+descend S step level other le h =
+    let same : level ≡ (level - other) + other = omega arith in
+    down (level - other) other (subst S same h)
+  where
+    down : (by level : ℕ) → S (by + level) → S level
+    down zero level h = subst S (omega arith) h
+    down (suc by) level h =
+        let same : suc by + level ≡ suc (by + level) = omega arith in
+        down by level (step (by + level) (subst S same h))
+
 module _ (n : ℕ) (ts rest : List Token) (e : Tree) where
   looser : (level : ℕ) → shape_of (grammar_at (suc level) n) ts rest (whole e) → shape_of (grammar_at level n) ts rest (whole e)
   looser zero h = joins_of (operand n) ts rest e h
@@ -48,13 +60,5 @@ module _ (n : ℕ) (ts rest : List Token) (e : Tree) where
   looser (suc (suc (suc zero))) h = product_of (operand n) ts rest e h
   looser (suc (suc (suc (suc level)))) h = h
 
-  down : (by level : ℕ) → shape_of (grammar_at (by + level) n) ts rest (whole e) → shape_of (grammar_at level n) ts rest (whole e)
-  down zero level h = subst (λ l. shape_of (grammar_at l n) ts rest (whole e)) (omega arith) h
-  down (suc by) level h =
-      let same : suc by + level ≡ suc (by + level) = omega arith in
-      down by level (looser (by + level) (subst (λ l. shape_of (grammar_at l n) ts rest (whole e)) same h))
-
   pub at_looser : (level other : ℕ) → other ≤ level → shape_of (grammar_at level n) ts rest (whole e) → shape_of (grammar_at other n) ts rest (whole e)
-  at_looser level other le h =
-      let same : level ≡ (level - other) + other = omega arith in
-      down (level - other) other (subst (λ l. shape_of (grammar_at l n) ts rest (whole e)) same h)
+  at_looser level other le h = descend (λ l. shape_of (grammar_at l n) ts rest (whole e)) looser level other le h

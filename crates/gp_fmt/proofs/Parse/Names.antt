@@ -1,27 +1,24 @@
 -- Names as they are read and printed.
 use Rattle.std.proofs.Common.{◌≡◌, ◌⊎◌, inl, inr, ℕ, Bool, true, false, not, List, [], ◌∷◌, refl, sym, ap, subst, ◌∙◌}
 use Rattle.std.specs.Prelude.{◌&&◌, ◌||◌, if◌then◌else◌}
-use Rattle.std.specs.List.{list_all}
 use Rattle.gp_tokens.specs.declared.token.Kind.{Kind}
 use Rattle.gp_tokens.specs.declared.token.Kind.TheVariants as k
 use Rattle.gp_tokens.specs.declared.token.Token.{Token}
 use Rattle.gp_tokens.specs.Kinds.{same_kind}
-use Rattle.gp_tokens.specs.Bytes.{is_digit}
 use Rattle.gp_tokens.specs.Words.{is_free_word, is_reserved}
 use Rattle.gp_values.specs.Names.{Name}
 use Rattle.gp_grammar.specs.declared.want.Want.{Want}
 use Rattle.gp_grammar.specs.declared.want.Want.TheVariants as wants
 use Rattle.gp_grammar.specs.Wants.{meets}
 use Rattle.gp_grammar.specs.Signs.{any_word}
-use Rattle.gp_grammar.specs.Shape.{Is, ◌then◌, Made}
+use Rattle.gp_grammar.specs.Shape.{Is, ◌then◌}
 use Rattle.gp_grammar.specs.Grammar.{shape_of}
 use Rattle.gp_grammar.proofs.Wants.{kind_true}
 use Rattle.gp_expressions.specs.Expressions.{name, text_of}
-use Rattle.gp_fmt.specs.declared.piece.Piece.{Piece}
 use Rattle.gp_fmt.specs.declared.piece.Piece.TheVariants as p
 use Rattle.gp_fmt.specs.Pieces.{kind_of}
-use Rattle.gp_fmt.specs.inside.Spelled.{IsWordText, IsSpelledAs, IsSpelledToken, IsSpelledWord, IsSpelledNumber}
-use Rattle.gp_fmt.proofs.Parse.Printed.{token_at, Printed, done, next, Reads, Takes, exactly, made_into, behind_takes, sign_takes}
+use Rattle.gp_fmt.specs.inside.Spelled.{IsWordText, IsSpelledAs, IsSpelledWord, IsSpelledNumber}
+use Rattle.gp_fmt.proofs.Parse.Printed.{token_at, done, next, Reads}
 use Rattle.gp_fmt.proofs.Parse.Gives.{Gives, IsFound, token_gives, made_gives}
 
 -- a name that is spelled as one, and is met where it is wanted

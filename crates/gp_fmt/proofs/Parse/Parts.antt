@@ -1,9 +1,7 @@
 -- Each form of expression is read again where its parts are.
-use Rattle.std.proofs.Common.{◌≡◌, ◌⊎◌, inl, inr, ℕ, zero, suc, ◌<◌, ◌≤◌, ◌^◌, ℤ, pos, negsuc, Bool, true, false, List, [], ◌∷◌, ◌++◌, map, flat_map, refl, sym, ap, subst, ◌∙◌, arith, leb-false, ltb-false, le_of_lt}
-use Rattle.std.specs.Prelude.{nat_le, nat_lt, if◌then◌else◌, ◌||◌}
-use Rattle.std.specs.List.{AllByRecursion}
+use Rattle.std.proofs.Common.{◌≡◌, ℕ, suc, ◌<◌, ◌≤◌, ◌^◌, ℤ, pos, negsuc, Bool, true, false, List, [], ◌∷◌, refl, sym, ap, subst, ◌∙◌, arith, leb-false, le_of_lt}
+use Rattle.std.specs.Prelude.{nat_le, nat_lt, ◌||◌}
 use Rattle.gp_tokens.specs.declared.keyword.Keyword.TheVariants as words
-use Rattle.gp_tokens.specs.declared.token.Kind.TheVariants as k
 use Rattle.gp_tokens.specs.Kinds.{same_kind}
 use Rattle.gp_values.specs.Names.{Name}
 use Rattle.gp_values.specs.Texts.{IsText}
@@ -11,31 +9,22 @@ use Rattle.gp_grammar.specs.declared.want.Want.TheVariants as wants
 use Rattle.gp_grammar.specs.Wants.{meets}
 use Rattle.gp_grammar.specs.Grammar.{shape_of}
 use Rattle.gp_grammar.specs.Shape.{second_of}
-use Rattle.gp_grammar.specs.Signs.{minus, plus, star, slash, dot, colon, empty}
-use Rattle.gp_syntax.specs.declared.expression.Signed.{Signed}
-use Rattle.gp_syntax.specs.declared.expression.SumSign.{SumSign}
-use Rattle.gp_syntax.specs.declared.expression.SumSign.TheVariants as sums
-use Rattle.gp_syntax.specs.declared.expression.ProductSign.{ProductSign}
-use Rattle.gp_syntax.specs.declared.expression.ProductSign.TheVariants as products
-use Rattle.gp_syntax.specs.declared.expression.Expr.{Expr}
+use Rattle.gp_grammar.specs.Signs.{minus, empty}
 use Rattle.gp_syntax.specs.declared.expression.Expr.TheVariants as e
 use Rattle.gp_syntax.specs.declared.expression.Expr.TheOpen.{Expr-F}
 use Rattle.gp_syntax.specs.declared.expression.Expr.TheFolds.{fold-roll-Expr}
 use Rattle.gp_expressions.specs.Ranges.{whole}
-use Rattle.gp_expressions.specs.Signs.{indegree_word, outdegree_word, length_word}
-use Rattle.gp_expressions.specs.Expressions.{Tree, negated, unary, quotients, product, differences, sum, dots, joins, leaf, nested, operand, list, sum_tree, product_tree, variable, text, empty_list, name, text_of}
+use Rattle.gp_expressions.specs.Expressions.{Tree, negated, unary, leaf, nested, operand, list, variable, text, empty_list}
 use Rattle.gp_fmt.specs.declared.piece.Piece.{Piece}
 use Rattle.gp_fmt.specs.declared.piece.Piece.TheVariants as p
 use Rattle.gp_fmt.specs.Expressions.{Part, in_parentheses, in_parentheses_if, member, alone, numeral, applied, is_numeral, chain, sum_sign, product_sign, signed_chain, minus_level, sum_level, product_level, dot_level, join_level, expression_step, part_of_expression}
 use Rattle.gp_fmt.specs.Expressions as printed
 use Rattle.gp_fmt.specs.inside.Spelled.{IsWellSpelled}
-use Rattle.gp_fmt.proofs.Parse.Printed.{token_at, Reads, Anything, some, made_into, made_reads, one_reads, other_reads, behind_takes, sign_takes}
+use Rattle.gp_fmt.proofs.Parse.Printed.{Reads, Anything, some, made_into, made_reads, one_reads, other_reads, behind_takes, sign_takes}
 use Rattle.gp_fmt.proofs.Parse.Names.{IsNamed, name_reads}
-use Rattle.gp_fmt.proofs.Parse.Rooms.{Roomy, anywhere, becomes, deeper, together, all_roomy}
-use Rattle.gp_fmt.proofs.Parse.Chains.{chain_reads}
-use Rattle.gp_fmt.proofs.Parse.Groups.{groups_read}
+use Rattle.gp_fmt.proofs.Parse.Rooms.{Roomy, anywhere, becomes, deeper}
 use Rattle.gp_fmt.proofs.Parse.Levels.{grammar_at, at_looser}
-use Rattle.gp_fmt.proofs.Parse.Spelling.{AreWell, well_append, well_flat, all_into, flat_map-map, enclosed_well, enclosed_if_well, open_well, close_well, colon_well, dot_well, plus_well, minus_well, star_well, slash_well}
+use Rattle.gp_fmt.proofs.Parse.Spelling.{AreWell, enclosed_if_well, open_well, close_well}
 use Rattle.gp_fmt.proofs.Parse.Leaves.{positive_reads, negative_reads, string_reads, text_well, applied_reads, enclosed_reads}
 
 -- the pieces are well spelled, and read again as the tree: at the level of the part, and as an operand

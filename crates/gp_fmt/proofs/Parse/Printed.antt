@@ -1,5 +1,5 @@
 -- Tokens that begin with those of some pieces, and what is read of them.
-use Rattle.std.proofs.Common.{◌≡◌, ℕ, Bool, true, false, List, [], ◌∷◌, ◌++◌, refl, subst}
+use Rattle.std.proofs.Common.{◌≡◌, ℕ, true, List, [], ◌∷◌, ◌++◌, refl, subst}
 use Rattle.gp_tokens.specs.declared.token.Token.{Token}
 use Rattle.gp_grammar.specs.declared.want.Want.{Want}
 use Rattle.gp_grammar.specs.Wants.{meets}
@@ -28,6 +28,10 @@ split (_ ∷ ps) qs _ rest (next {ts = ts} p start h) = let s = split ps qs ts r
 -- what is read of the pieces, and what holds of its tree
 abbrev pub Takes : {A : Type 0} → List Piece → Shape A → (A → Type 0) → Type 0
 Takes {A} ps R Q = (ts rest : List Token) → Printed ps ts rest → (x : A) × R ts rest x × Q x
+
+-- of which nothing is asked
+abbrev pub Anything : {A : Type 0} → A → Type 0
+Anything x = Unit {0}
 
 -- the pieces are read as just this tree
 abbrev pub Reads : {A : Type 0} → List Piece → Shape A → A → Type 0
@@ -81,9 +85,6 @@ pub more_reads : {A : Type 0} (ps qs : List Piece) (R : Shape A) (x : A) (xs : L
 more_reads ps qs R x xs h k ts rest p = let s = split ps qs ts rest p in more (h ts s.0 s.1) (k s.0 rest s.2)
 
 -- one token that is wanted
-abbrev pub Anything : {A : Type 0} → A → Type 0
-Anything x = Unit {0}
-
 pub sign_takes : (p : Piece) (want : Want) → ((start : ℕ) → meets want (token_at p start) ≡ true) → Takes (p ∷ []) (Is want) Anything
 sign_takes _ want h _ _ (next {ts = ts} p start done) = (token_at p start, record { front = refl; is = h start }, tt)
 

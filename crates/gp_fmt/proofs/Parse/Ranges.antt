@@ -1,9 +1,9 @@
 -- Trees without numerals that are out of range.
-use Rattle.std.proofs.Common.{◌≡◌, ℕ, List, [], ◌∷◌, ◌++◌, map, Option, Some, None, refl, ap}
+use Rattle.std.proofs.Common.{◌≡◌, List, [], ◌∷◌, ◌++◌, map, Option, Some, None, refl, ap}
 use Rattle.std.specs.Option.{option_or}
 use Rattle.std.specs.List.{AllByRecursion}
 use Rattle.gp_expressions.specs.declared.ranged.Ranged.{Ranged}
-use Rattle.gp_expressions.specs.Ranges.{whole, with, both, first_past, gathered, joined, all_joined, chained}
+use Rattle.gp_expressions.specs.Ranges.{whole, first_past, gathered, joined, all_joined, chained}
 use Rattle.gp_fmt.proofs.Parse.Gives.{AllOfSome}
 
 -- it holds of the tree, where no numeral is out of range

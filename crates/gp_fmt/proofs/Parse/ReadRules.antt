@@ -1,27 +1,26 @@
 -- Each rule that is read of the tokens of a text is read again.
-use Rattle.std.proofs.Common.{◌≡◌, ℕ, List, [], ◌∷◌, Option, Some, None, refl}
+use Rattle.std.proofs.Common.{◌≡◌, ℕ, List, [], Option, None}
 use Rattle.std.specs.Option.{option_or}
 use Rattle.std.specs.List.{AllByRecursion}
 use Rattle.gp_tokens.specs.declared.token.Token.{Token}
 use Rattle.gp_values.specs.Names.{Name}
 use Rattle.gp_grammar.specs.declared.want.Want.{Want}
 use Rattle.gp_grammar.specs.declared.want.Want.TheVariants as wants
-use Rattle.gp_grammar.specs.Grammar.{Grammar, One, Made, Repeated, shape_of}
+use Rattle.gp_grammar.specs.Grammar.{shape_of}
 use Rattle.gp_grammar.specs.Shape.{second_of}
 use Rattle.gp_grammar.specs.Signs.{open_sign, close_sign, open_bracket, close_bracket, open_brace, close_brace, comma, semicolon, colon, bar, equal, arrow, root_word}
 use Rattle.gp_syntax.specs.declared.kinds.VariableType.{VariableType}
-use Rattle.gp_syntax.specs.declared.tree.VariableGroup.{VariableGroup}
 use Rattle.gp_syntax.specs.declared.tree.NodeDecl.{NodeDecl}
 use Rattle.gp_syntax.specs.declared.tree.EdgeDecl.{EdgeDecl}
 use Rattle.gp_syntax.specs.declared.tree.GraphDecl.{GraphDecl}
-use Rattle.gp_syntax.specs.declared.tree.RuleDecl.{RuleDecl}
 use Rattle.gp_expressions.specs.declared.ranged.Ranged.{Ranged}
 use Rattle.gp_expressions.specs.Ranges.{whole, gathered}
 use Rattle.gp_expressions.specs.Signs.{where_word, interface_word, bidirectional_word}
-use Rattle.gp_expressions.specs.Expressions.{Tree, name, behind, list}
-use Rattle.gp_expressions.specs.Conditions.{CondTree, label, condition}
+use Rattle.gp_expressions.specs.Expressions.{list}
+use Rattle.gp_expressions.specs.Conditions.{CondTree, condition}
 use Rattle.gp_program.specs.Rules.{position, place, flag, node_of, edge_of, graph_of, node, edge, nodes, edges, body, barred, graph, variable_type, group_of, variable_group, variables, interface, where_of, where_part, rule_of, rule_with, rule}
-use Rattle.gp_fmt.proofs.Parse.Gives.{Gives, Anything, any_token, then_gives, behind_gives, made_gives, either_gives, absent_gives, many_gives, separated_gives, gives_all, leaves_spelled}
+use Rattle.gp_fmt.proofs.Parse.Printed.{Anything}
+use Rattle.gp_fmt.proofs.Parse.Gives.{Gives, any_token, then_gives, behind_gives, made_gives, either_gives, absent_gives, many_gives, separated_gives, gives_all, leaves_spelled}
 use Rattle.gp_fmt.proofs.Parse.Names.{IsNamed, item, name_gives}
 use Rattle.gp_fmt.proofs.Parse.Names as names
 use Rattle.gp_fmt.proofs.Parse.Ranges.{InRange, none_of, gathered_all}

@@ -1,5 +1,5 @@
 -- The parts of rules are read again: variables, interfaces, nodes, edges and graphs.
-use Rattle.std.proofs.Common.{◌≡◌, ℕ, zero, suc, Bool, true, false, List, [], ◌∷◌, ◌++◌, map, map-id, flat_map, append_assoc, Option, Some, None, refl, sym, ap, subst}
+use Rattle.std.proofs.Common.{◌≡◌, ℕ, Bool, true, false, List, [], ◌∷◌, ◌++◌, map, map-id, flat_map, append_assoc, Option, refl, sym, ap, subst}
 use Rattle.std.specs.List.{AllByRecursion}
 use Rattle.gp_tokens.specs.declared.keyword.Keyword.{Keyword}
 use Rattle.gp_tokens.specs.declared.keyword.Keyword.TheVariants as words
@@ -28,15 +28,15 @@ use Rattle.gp_program.specs.Rules.{place, flagged, flag, node_of, edge_of, graph
 use Rattle.gp_program.specs.Rules as grammar
 use Rattle.gp_fmt.specs.declared.piece.Piece.{Piece}
 use Rattle.gp_fmt.specs.declared.piece.Piece.TheVariants as p
-use Rattle.gp_fmt.specs.Expressions.{in_parentheses, label, type_word}
+use Rattle.gp_fmt.specs.Expressions.{label, type_word}
 use Rattle.gp_fmt.specs.Commands.{names, names_behind}
 use Rattle.gp_fmt.specs.Rules as printed
-use Rattle.gp_fmt.proofs.Parse.Printed.{token_at, Reads, Takes, Anything, exactly, some, made_into, made_reads, one_reads, other_reads, absent_reads, then_reads, then_takes, behind_takes, sign_takes}
+use Rattle.gp_fmt.proofs.Parse.Printed.{token_at, Reads, Takes, Anything, some, made_into, made_reads, one_reads, other_reads, absent_reads, then_takes, behind_takes, sign_takes}
 use Rattle.gp_fmt.proofs.Parse.Names.{IsNamed, name_reads}
 use Rattle.gp_fmt.proofs.Parse.Rooms.{Roomy, becomes, together, all_roomy}
 use Rattle.gp_fmt.proofs.Parse.Ranges.{gathered_whole}
 use Rattle.gp_fmt.proofs.Parse.Chains.{behind_signs}
-use Rattle.gp_fmt.proofs.Parse.Lists.{many_reads, separated_same, names_read, names_well, names_behind_well}
+use Rattle.gp_fmt.proofs.Parse.Lists.{many_reads, separated_same, names_read, names_behind_well}
 use Rattle.gp_fmt.proofs.Parse.Spelling.{AreWell, well_append, well_flat, all_into, enclosed_well, open_well, close_well, open_bracket_well, close_bracket_well, comma_well, semicolon_well, colon_well, bar_well}
 use Rattle.gp_fmt.proofs.Parse.Parts.{IsGood}
 use Rattle.gp_fmt.proofs.Parse.Labels.{between_takes, IsMarked, label_reads, label_well}

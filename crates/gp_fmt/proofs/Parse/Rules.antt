@@ -1,5 +1,5 @@
 -- A rule is read again where its parts are.
-use Rattle.std.proofs.Common.{◌≡◌, ℕ, true, List, [], ◌∷◌, ◌++◌, append_assoc, Option, Some, None, refl, sym, ap, subst, ◌∙◌}
+use Rattle.std.proofs.Common.{◌≡◌, ℕ, List, [], ◌∷◌, ◌++◌, append_assoc, Option, Some, None, refl, sym, ap, subst, ◌∙◌}
 use Rattle.std.specs.Option.{option_or}
 use Rattle.std.specs.List.{AllByRecursion}
 use Rattle.gp_tokens.specs.declared.keyword.Keyword.TheVariants as words
@@ -18,9 +18,9 @@ use Rattle.gp_syntax.specs.declared.tree.RuleDecl.{RuleDecl}
 use Rattle.gp_expressions.specs.declared.ranged.Ranged.{Ranged}
 use Rattle.gp_expressions.specs.Ranges.{whole, with}
 use Rattle.gp_expressions.specs.Signs.{where_word, interface_word}
-use Rattle.gp_expressions.specs.Expressions.{name, list}
+use Rattle.gp_expressions.specs.Expressions.{list}
 use Rattle.gp_expressions.specs.Conditions.{CondTree, condition}
-use Rattle.gp_program.specs.Rules.{graph, variables, interface, where_of, where_part, rule_of, rule_with, rule}
+use Rattle.gp_program.specs.Rules.{graph, interface, where_of, where_part, rule_of, rule_with, rule}
 use Rattle.gp_fmt.specs.declared.piece.Piece.{Piece}
 use Rattle.gp_fmt.specs.declared.piece.Piece.TheVariants as p
 use Rattle.gp_fmt.specs.Expressions.{in_parentheses, part_of_condition}

@@ -1,5 +1,5 @@
 -- Chains of expressions are read again where their members are.
-use Rattle.std.proofs.Common.{◌≡◌, ◌⊎◌, inl, inr, ℕ, suc, ◌≤◌, Bool, true, false, true≢false, List, [], ◌∷◌, ◌++◌, map, flat_map, refl, sym, ap, subst, ◌∙◌, arith}
+use Rattle.std.proofs.Common.{◌≡◌, ◌⊎◌, inl, inr, ℕ, suc, ◌≤◌, true, false, true≢false, List, ◌∷◌, ◌++◌, flat_map, refl, sym, ap, subst, ◌∙◌, arith}
 use Rattle.std.specs.Prelude.{nat_lt, ◌||◌}
 use Rattle.std.specs.List.{AllByRecursion}
 use Rattle.gp_tokens.specs.declared.token.Kind.TheVariants as k
@@ -13,7 +13,6 @@ use Rattle.gp_syntax.specs.declared.expression.SumSign.{SumSign}
 use Rattle.gp_syntax.specs.declared.expression.SumSign.TheVariants as sums
 use Rattle.gp_syntax.specs.declared.expression.ProductSign.{ProductSign}
 use Rattle.gp_syntax.specs.declared.expression.ProductSign.TheVariants as products
-use Rattle.gp_syntax.specs.declared.expression.Expr.{Expr}
 use Rattle.gp_syntax.specs.declared.expression.Expr.TheVariants as e
 use Rattle.gp_syntax.specs.declared.expression.Expr.TheOpen.{Expr-F}
 use Rattle.gp_syntax.specs.declared.expression.Expr.TheFolds.{fold-roll-Expr}
@@ -21,7 +20,7 @@ use Rattle.gp_expressions.specs.Ranges.{whole}
 use Rattle.gp_expressions.specs.Expressions.{Tree, quotients, product, differences, sum, dots, joins, operand, sum_tree, product_tree}
 use Rattle.gp_fmt.specs.declared.piece.Piece.{Piece}
 use Rattle.gp_fmt.specs.declared.piece.Piece.TheVariants as p
-use Rattle.gp_fmt.specs.Expressions.{Part, member, is_numeral, chain, sum_sign, product_sign, signed_chain, minus_level, sum_level, product_level, dot_level, join_level, expression_step, part_of_expression}
+use Rattle.gp_fmt.specs.Expressions.{Part, member, is_numeral, sum_sign, product_sign, minus_level, sum_level, product_level, dot_level, join_level, expression_step, part_of_expression}
 use Rattle.gp_fmt.specs.inside.Spelled.{IsWellSpelled}
 use Rattle.gp_fmt.proofs.Parse.Printed.{Reads}
 use Rattle.gp_fmt.proofs.Parse.Rooms.{Roomy, becomes, together, all_roomy}

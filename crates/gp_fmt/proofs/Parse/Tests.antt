@@ -1,5 +1,5 @@
 -- Tests of conditions are read again.
-use Rattle.std.proofs.Common.{◌≡◌, ℕ, true, List, [], ◌∷◌, ◌++◌, Option, Some, None, refl, ap, arith}
+use Rattle.std.proofs.Common.{◌≡◌, ℕ, true, List, [], ◌∷◌, ◌++◌, Option, Some, None, refl, ap}
 use Rattle.gp_tokens.specs.declared.keyword.Keyword.{Keyword}
 use Rattle.gp_tokens.specs.declared.keyword.Keyword.TheVariants as words
 use Rattle.gp_tokens.specs.declared.token.Kind.TheVariants as k
@@ -18,8 +18,8 @@ use Rattle.gp_syntax.specs.declared.kinds.Comparison.TheVariants as comparisons
 use Rattle.gp_syntax.specs.declared.expression.Cond.TheVariants as c
 use Rattle.gp_expressions.specs.declared.ranged.Ranged.{Ranged}
 use Rattle.gp_expressions.specs.Ranges.{whole, with}
-use Rattle.gp_expressions.specs.Signs.{edge_word, int_word, char_word, string_word, atom_word, not_equal, less_equal, greater_equal}
-use Rattle.gp_expressions.specs.Expressions.{Tree, list, name}
+use Rattle.gp_expressions.specs.Signs.{edge_word, not_equal, less_equal, greater_equal}
+use Rattle.gp_expressions.specs.Expressions.{Tree, list}
 use Rattle.gp_expressions.specs.Conditions.{CondTree, label, means, comparison, compared, has_type, joined_by, has_edge, typed, edge_label, comparing, plain_test}
 use Rattle.gp_expressions.specs.Conditions as grammar
 use Rattle.gp_fmt.specs.declared.piece.Piece.{Piece}
@@ -27,7 +27,7 @@ use Rattle.gp_fmt.specs.declared.piece.Piece.TheVariants as p
 use Rattle.gp_fmt.specs.Expressions.{Part, in_parentheses, expression, type_word, comparison_sign, edge_test, test}
 use Rattle.gp_fmt.specs.Expressions as printed
 use Rattle.gp_fmt.specs.inside.Spelled.{IsWellSpelled}
-use Rattle.gp_fmt.proofs.Parse.Printed.{token_at, Reads, Takes, Anything, exactly, some, made_into, made_reads, one_reads, other_reads, absent_reads, then_reads, then_takes, behind_takes, sign_takes}
+use Rattle.gp_fmt.proofs.Parse.Printed.{token_at, Reads, Anything, some, made_into, made_reads, one_reads, other_reads, absent_reads, then_reads, then_takes, behind_takes, sign_takes}
 use Rattle.gp_fmt.proofs.Parse.Names.{IsNamed, name_reads}
 use Rattle.gp_fmt.proofs.Parse.Labels.{enclosed_takes}
 use Rattle.gp_fmt.proofs.Parse.Spelling.{equal_well, not_equal_well, less_well, less_equal_well, greater_well, greater_equal_well}

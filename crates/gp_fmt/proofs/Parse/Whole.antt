@@ -1,5 +1,5 @@
 -- The tokens of the canonical text of a tree have that tree.
-use Rattle.std.proofs.Common.{◌≡◌, ℕ, zero, suc, ◌≤◌, List, [], ◌∷◌, length, All, None, refl, arith}
+use Rattle.std.proofs.Common.{ℕ, zero, suc, ◌≤◌, List, [], ◌∷◌, length, All, None, refl, arith}
 use Rattle.std.specs.List.{AllByRecursion}
 use Rattle.std.proofs.lemmas.List.Elements.{recursion_from_All, All-from_recursion}
 use Rattle.gp_tokens.specs.declared.token.Token.{Token}
@@ -11,17 +11,16 @@ use Rattle.gp_syntax.specs.declared.tree.Ast.{Ast}
 use Rattle.gp_syntax.specs.declared.tree.CommandTree.{CommandTree}
 use Rattle.gp_syntax.specs.declared.tree.Decl.{Decl}
 use Rattle.gp_expressions.specs.declared.ranged.Ranged.{Ranged}
-use Rattle.gp_expressions.specs.Ranges.{whole, gathered, first_past, all_joined}
-use Rattle.gp_expressions.specs.Expressions.{name, inner}
-use Rattle.gp_program.specs.Commands.{commands_of}
+use Rattle.gp_expressions.specs.Ranges.{whole, gathered}
+use Rattle.gp_expressions.specs.Expressions.{inner}
 use Rattle.gp_program.specs.Programs.{rule_decl, procedure_of, procedure_first, rules_first, rules, locals, procedure, procedure_group, declarations_in, declarations, ast_of, program}
-use Rattle.gp_program.specs.Program.{IsProgram, IsTree}
+use Rattle.gp_program.specs.Program.{IsTree}
 use Rattle.gp_program.proofs.Widening.{programs_have_room}
 use Rattle.gp_fmt.specs.Pieces.{AreTokens}
-use Rattle.gp_fmt.specs.Canonical.{declaration, pieces_of}
+use Rattle.gp_fmt.specs.Canonical.{pieces_of}
 use Rattle.gp_fmt.specs.inside.Spelled.{IsWellSpelled, IsSpelledToken}
-use Rattle.gp_fmt.proofs.Parse.Printed.{printed_whole}
-use Rattle.gp_fmt.proofs.Parse.Gives.{Gives, Anything, any_token, then_gives, behind_gives, made_gives, either_gives, absent_gives, many_gives}
+use Rattle.gp_fmt.proofs.Parse.Printed.{Anything, printed_whole}
+use Rattle.gp_fmt.proofs.Parse.Gives.{Gives, then_gives, behind_gives, made_gives, either_gives, absent_gives, many_gives}
 use Rattle.gp_fmt.proofs.Parse.Names.{IsNamed, name_gives}
 use Rattle.gp_fmt.proofs.Parse.Names as names
 use Rattle.gp_fmt.proofs.Parse.Ranges.{InRange, none_of, gathered_all, joined_all}
