@@ -34,5 +34,5 @@ pub chain_reads : {T : Type 0} (empty : T) (make : T → List T → T) (sign : P
 chain_reads {T} empty make sign want met R f x y ys h hs =
     let ps : List Piece = f x ++ flat_map (λ x. sign ∷ f x) (y ∷ ys) in
     let one : Reads ps (Made (chained empty make) (Separated want R)) (both make (whole x) (gathered (map whole (y ∷ ys)))) =
-        made_reads ps (chained empty make) (Separated want R) (whole x ∷ map whole (y ∷ ys)) (separated_reads sign want met R f whole x (y ∷ ys) h hs) in
+    made_reads ps (chained empty make) (Separated want R) (whole x ∷ map whole (y ∷ ys)) (separated_reads sign want met R f whole x (y ∷ ys) h hs) in
     subst (λ (g : Ranged (List T)). Reads ps (Made (chained empty make) (Separated want R)) (both make (whole x) g)) (gathered_whole (y ∷ ys)) one

@@ -109,13 +109,13 @@ module _ (c x y : CommandTree) (h : IsGoodCommand c) (g : IsGoodCommand x) (f : 
 
   pub good_if : IsGoodCommand (commands.If c x y)
   unfolding part_of_command
-  good_if = good_by (record { form = form.branching; pieces = if_pieces }) (commands.If c x y) 
+  good_if = good_by (record { form = form.branching; pieces = if_pieces }) (commands.If c x y)
       (ap part_of_command (sym (commands.rolls-If c x y)) ∙ (fold-roll-CommandTree CommandPart command_step (CommandTree-F.If c x y)
       ∙ ap (λ (l : List Piece). record { form = form.branching; pieces = p.Word words.If ∷ l }) (append_assoc (in_branch (part_of_command c)) (p.Word words.Then ∷ in_branch (part_of_command x)) (optional words.Else (part_of_command y))))) if_part
 
   pub good_try : IsGoodCommand (commands.Try c x y)
   unfolding part_of_command
-  good_try = good_by (record { form = form.branching; pieces = try_pieces }) (commands.Try c x y) 
+  good_try = good_by (record { form = form.branching; pieces = try_pieces }) (commands.Try c x y)
       (ap part_of_command (sym (commands.rolls-Try c x y)) ∙ (fold-roll-CommandTree CommandPart command_step (CommandTree-F.Try c x y)
       ∙ ap (λ (l : List Piece). record { form = form.branching; pieces = p.Word words.Try ∷ l }) (append_assoc (in_branch (part_of_command c)) (optional words.Then (part_of_command x)) (optional words.Else (part_of_command y))))) try_part
 

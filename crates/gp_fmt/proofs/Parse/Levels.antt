@@ -22,14 +22,14 @@ module _ (o : Grammar (Ranged Tree)) (ts rest : List Token) (e : Tree) where
   unfolding quotients product first_past joined
   product_of h =
       let one : shape_of (quotients o) ts rest (whole (record { sign = products.Times; operand = e } ∷ [])) =
-          record { of = signed_by products.Over (whole e) ∷ []; shape = one_alone slash _ ts rest _ (record { of = whole e; shape = h; made = refl }); made = refl } in
+      record { of = signed_by products.Over (whole e) ∷ []; shape = one_alone slash _ ts rest _ (record { of = whole e; shape = h; made = refl }); made = refl } in
       record { of = whole (record { sign = products.Times; operand = e } ∷ []) ∷ []; shape = one_alone star _ ts rest _ one; made = refl }
 
   sum_of : shape_of (product o) ts rest (whole e) → shape_of (sum o) ts rest (whole e)
   unfolding differences sum first_past joined
   sum_of h =
       let one : shape_of (differences o) ts rest (whole (record { sign = sums.Plus; operand = e } ∷ [])) =
-          record { of = signed_by sums.Minus (whole e) ∷ []; shape = one_alone minus _ ts rest _ (record { of = whole e; shape = h; made = refl }); made = refl } in
+      record { of = signed_by sums.Minus (whole e) ∷ []; shape = one_alone minus _ ts rest _ (record { of = whole e; shape = h; made = refl }); made = refl } in
       record { of = whole (record { sign = sums.Plus; operand = e } ∷ []) ∷ []; shape = one_alone plus _ ts rest _ one; made = refl }
 
   dots_of : shape_of (sum o) ts rest (whole e) → shape_of (dots o) ts rest (whole e)

@@ -131,8 +131,8 @@ good_negative v h = good_by (alone (p.Negation ∷ p.Number (suc v) ∷ [])) (e.
 pub as_list : (x : Part) (e : Tree) (n : ℕ) → Reads x.pieces (shape_of (grammar_at x.level n)) (whole e) → Reads x.pieces (shape_of (list n)) (whole e)
 as_list x e n h ts rest q = at_looser n ts rest e x.level 0 (omega arith) (h ts rest q)
 
-in_range_operand : (x : Part) (e : Tree) → IsGoodPart x e → Roomy (λ m n. Reads (in_parentheses x.pieces) (shape_of (operand n)) (whole e))
-in_range_operand x e h =
+enclosed_operand : (x : Part) (e : Tree) → IsGoodPart x e → Roomy (λ m n. Reads (in_parentheses x.pieces) (shape_of (operand n)) (whole e))
+enclosed_operand x e h =
     deeper (λ m n. Reads x.pieces (shape_of (grammar_at x.level n)) (whole e)) (λ m n. Reads (in_parentheses x.pieces) (shape_of (operand n)) (whole e))
     (λ m n r. enclosed_reads x.pieces n e (as_list x e n r)) h.reads
 
@@ -142,7 +142,7 @@ member_reads level le x e h = go (nat_le x.level level) refl
     go : (b : Bool) → nat_le x.level level ≡ b → Roomy (λ m n. Reads (in_parentheses_if b x.pieces) (shape_of (grammar_at (suc level) n)) (whole e))
     go true _ =
         becomes (λ m n. Reads (in_parentheses x.pieces) (shape_of (operand n)) (whole e)) _
-        (λ m n r ts rest q. at_looser n ts rest e 4 (suc level) (omega arith) (unary_of (in_parentheses x.pieces) n e r ts rest q)) (in_range_operand x e h)
+        (λ m n r ts rest q. at_looser n ts rest e 4 (suc level) (omega arith) (unary_of (in_parentheses x.pieces) n e r ts rest q)) (enclosed_operand x e h)
     go false same =
         let above : level < x.level = leb-false x.level level same in
         becomes (λ m n. Reads x.pieces (shape_of (grammar_at x.level n)) (whole e)) _ (λ m n r ts rest q. at_looser n ts rest e x.level (suc level) above (r ts rest q)) h.reads
@@ -156,7 +156,7 @@ under_minus : (x : Part) (e : Tree) → IsGoodPart x e → Roomy (λ m n. Reads 
 under_minus x e h = go (nat_lt x.level minus_level || is_numeral x.pieces) refl
   where
     go : (b : Bool) → (nat_lt x.level minus_level || is_numeral x.pieces) ≡ b → Roomy (λ m n. Reads (in_parentheses_if b x.pieces) (shape_of (operand n)) (whole e))
-    go true _ = in_range_operand x e h
+    go true _ = enclosed_operand x e h
     go false same = h.bare same
 
 minus_reads : (ps : List Piece) (n : ℕ) (d : Tree) → Reads ps (shape_of (operand n)) (whole d) → Reads (p.Negation ∷ ps) (shape_of (operand (suc n))) (whole (e.Negated d))

@@ -148,7 +148,7 @@ node_reads m n h r =
     (λ x j i. with (λ (e : Tree). record { name = j.0 i; root = j.1.0 i; label = e; mark = (j.1.1.0 i).1 }) (j.1.1.0 i).0)
     (behind_takes (p.Sign k.OpenParenthesis) _ open_sign _ (λ x. (x.0 ≡ n.name) × ((x.1.0 ≡ n.root) × ((x.1.1.1.0 ≡ (whole n.label, n.mark)) × Anything x.1.1.1.1))) (λ start. refl)
     (then_takes (p.Name n.name ∷ []) (printed.flag words.Root n.root ++ (p.Sign k.Comma ∷ (label n.label n.mark ++ p.Sign k.CloseParenthesis ∷ []))) _ _ (λ x. x ≡ n.name)
-        (λ x. (x.0 ≡ n.root) × ((x.1.1.0 ≡ (whole n.label, n.mark)) × Anything x.1.1.1)) (some _ _ n.name (name_reads wants.Item n.name h.name))
+    (λ x. (x.0 ≡ n.root) × ((x.1.1.0 ≡ (whole n.label, n.mark)) × Anything x.1.1.1)) (some _ _ n.name (name_reads wants.Item n.name h.name))
     (then_takes (printed.flag words.Root n.root) (p.Sign k.Comma ∷ (label n.label n.mark ++ p.Sign k.CloseParenthesis ∷ [])) _ _ (λ x. x ≡ n.root) (λ x. (x.1.0 ≡ (whole n.label, n.mark)) × Anything x.1.1) (some _ _ n.root (flag_reads words.Root (λ start. refl) n.root))
     (behind_takes (p.Sign k.Comma) (label n.label n.mark ++ p.Sign k.CloseParenthesis ∷ []) comma _ (λ (x : Labelled × (Unit {0} × Token)). (x.0 ≡ (whole n.label, n.mark)) × Anything x.1) (λ start. refl)
     (then_takes (label n.label n.mark) (p.Sign k.CloseParenthesis ∷ []) _ _ (λ (x : Labelled). x ≡ (whole n.label, n.mark)) Anything (some _ _ _ r) (close_place))))))
@@ -165,9 +165,9 @@ edge_reads m e h r =
     (λ x j i. with (λ (d : Tree). record { name = j.0 i; bidirectional = j.1.0 i; source = j.1.1.0 i; target = j.1.1.1.0 i; label = d; mark = (j.1.1.1.1.0 i).1 }) (j.1.1.1.1.0 i).0)
     (behind_takes (p.Sign k.OpenParenthesis) _ open_sign _ (λ x. (x.0 ≡ e.name) × ((x.1.0 ≡ e.bidirectional) × ((x.1.1.1.0 ≡ e.source) × ((x.1.1.1.1.1.0 ≡ e.target) × ((x.1.1.1.1.1.1.1.0 ≡ (whole e.label, e.mark)) × Anything x.1.1.1.1.1.1.1.1))))) (λ start. refl)
     (then_takes (p.Name e.name ∷ []) (printed.flag words.Bidirectional e.bidirectional ++ behind_flag) _ _ (λ x. x ≡ e.name)
-        (λ x. (x.0 ≡ e.bidirectional) × ((x.1.1.0 ≡ e.source) × ((x.1.1.1.1.0 ≡ e.target) × ((x.1.1.1.1.1.1.0 ≡ (whole e.label, e.mark)) × Anything x.1.1.1.1.1.1.1)))) (some _ _ e.name (name_reads wants.Item e.name h.name))
+    (λ x. (x.0 ≡ e.bidirectional) × ((x.1.1.0 ≡ e.source) × ((x.1.1.1.1.0 ≡ e.target) × ((x.1.1.1.1.1.1.0 ≡ (whole e.label, e.mark)) × Anything x.1.1.1.1.1.1.1)))) (some _ _ e.name (name_reads wants.Item e.name h.name))
     (then_takes (printed.flag words.Bidirectional e.bidirectional) behind_flag _ _ (λ x. x ≡ e.bidirectional)
-        (λ x. (x.1.0 ≡ e.source) × ((x.1.1.1.0 ≡ e.target) × ((x.1.1.1.1.1.0 ≡ (whole e.label, e.mark)) × Anything x.1.1.1.1.1.1))) (some _ _ e.bidirectional (flag_reads words.Bidirectional (λ start. refl) e.bidirectional))
+    (λ x. (x.1.0 ≡ e.source) × ((x.1.1.1.0 ≡ e.target) × ((x.1.1.1.1.1.0 ≡ (whole e.label, e.mark)) × Anything x.1.1.1.1.1.1))) (some _ _ e.bidirectional (flag_reads words.Bidirectional (λ start. refl) e.bidirectional))
     (behind_takes (p.Sign k.Comma) (p.Name e.source ∷ behind_source) comma _ (λ x. (x.0 ≡ e.source) × ((x.1.1.0 ≡ e.target) × ((x.1.1.1.1.0 ≡ (whole e.label, e.mark)) × Anything x.1.1.1.1.1))) (λ start. refl)
     (then_takes (p.Name e.source ∷ []) behind_source _ _ (λ x. x ≡ e.source) (λ x. (x.1.0 ≡ e.target) × ((x.1.1.1.0 ≡ (whole e.label, e.mark)) × Anything x.1.1.1.1)) (some _ _ e.source (name_reads wants.Item e.source h.source))
     (behind_takes (p.Sign k.Comma) (p.Name e.target ∷ behind_target) comma _ (λ x. (x.0 ≡ e.target) × ((x.1.1.0 ≡ (whole e.label, e.mark)) × Anything x.1.1.1)) (λ start. refl)
@@ -199,9 +199,11 @@ node_well n h = enclosed_well (p.Name n.name ∷ printed.flag words.Root n.root 
 
 edge_well : (e : EdgeDecl) → IsGoodEdge e → AreWell (printed.edge e)
 edge_well e h =
-    enclosed_well (p.Name e.name ∷ printed.flag words.Bidirectional e.bidirectional ++ p.Sign k.Comma ∷ p.Name e.source ∷ p.Sign k.Comma ∷ p.Name e.target ∷ p.Sign k.Comma ∷ label e.label e.mark)
-    (h.name.word, well_append (printed.flag words.Bidirectional e.bidirectional) (p.Sign k.Comma ∷ p.Name e.source ∷ p.Sign k.Comma ∷ p.Name e.target ∷ p.Sign k.Comma ∷ label e.label e.mark) (flag_well words.Bidirectional e.bidirectional)
-    (comma_well, (h.source.word, (comma_well, (h.target.word, (comma_well, label_well e.label e.mark h.label h.mark))))))
+    enclosed_well (p.Name e.name ∷ printed.flag words.Bidirectional e.bidirectional ++ p.Sign k.Comma ∷ p.Name e.source ∷ p.Sign k.Comma ∷ p.Name e.target ∷ p.Sign k.Comma ∷ label e.label e.mark) (
+      h.name.word,
+      well_append (printed.flag words.Bidirectional e.bidirectional) (p.Sign k.Comma ∷ p.Name e.source ∷ p.Sign k.Comma ∷ p.Name e.target ∷ p.Sign k.Comma ∷ label e.label e.mark) (flag_well words.Bidirectional e.bidirectional)
+          (comma_well, (h.source.word, (comma_well, (h.target.word, (comma_well, label_well e.label e.mark h.label h.mark))))),
+    )
 
 -- ---- graphs
 
@@ -234,9 +236,9 @@ graph_reads m g r s =
     made_into _ second_of _ (λ (x : Token × Ranged GraphDecl). x.1 ≡ whole g) (whole g) (λ x j. j)
     (behind_takes (p.Sign k.OpenBracket) (flat_map printed.node g.nodes ++ (p.Sign k.Bar ∷ (flat_map printed.edge g.edges ++ p.Sign k.CloseBracket ∷ []))) open_bracket _ (λ (x : Ranged GraphDecl). x ≡ whole g) (λ start. refl) (some _ _ (whole g)
     (other_reads _ _ _ _ (made_into _ graph_of _ (λ (x : Ranged (List NodeDecl) × (Token × (Ranged (List EdgeDecl) × Token))). (x.0 ≡ whole g.nodes) × ((x.1.1.0 ≡ whole g.edges) × Anything x.1.1.1)) (whole g)
-        (λ x j i. both (λ (ns : List NodeDecl) (es : List EdgeDecl). record { nodes = ns; edges = es }) (j.0 i) (j.1.0 i))
+    (λ x j i. both (λ (ns : List NodeDecl) (es : List EdgeDecl). record { nodes = ns; edges = es }) (j.0 i) (j.1.0 i))
     (then_takes (flat_map printed.node g.nodes) (p.Sign k.Bar ∷ (flat_map printed.edge g.edges ++ p.Sign k.CloseBracket ∷ [])) _ _ (λ x. x ≡ whole g.nodes)
-        (λ (x : Token × (Ranged (List EdgeDecl) × Token)). (x.1.0 ≡ whole g.edges) × Anything x.1.1) (some _ _ (whole g.nodes) r)
+    (λ (x : Token × (Ranged (List EdgeDecl) × Token)). (x.1.0 ≡ whole g.edges) × Anything x.1.1) (some _ _ (whole g.nodes) r)
     (behind_takes (p.Sign k.Bar) (flat_map printed.edge g.edges ++ p.Sign k.CloseBracket ∷ []) bar _ (λ (x : Ranged (List EdgeDecl) × Token). (x.0 ≡ whole g.edges) × Anything x.1) (λ start. refl)
     (then_takes (flat_map printed.edge g.edges) (p.Sign k.CloseBracket ∷ []) _ _ (λ x. x ≡ whole g.edges) Anything (some _ _ (whole g.edges) s) (sign_takes (p.Sign k.CloseBracket) close_bracket (λ start. refl)))))))))
 
@@ -250,6 +252,8 @@ good_graph g h =
 
 pub graph_well : (g : GraphDecl) → IsGoodGraph g → AreWell (printed.graph g)
 graph_well g h =
-    subst AreWell (graph_is g)
-    (open_bracket_well, well_append (flat_map printed.node g.nodes) _ (well_flat printed.node g.nodes (all_into IsGoodNode (λ n. AreWell (printed.node n)) node_well g.nodes h.nodes))
-    (bar_well, well_append (flat_map printed.edge g.edges) _ (well_flat printed.edge g.edges (all_into IsGoodEdge (λ e. AreWell (printed.edge e)) edge_well g.edges h.edges)) (close_bracket_well, tt)))
+    subst AreWell (graph_is g) (
+      open_bracket_well,
+      well_append (flat_map printed.node g.nodes) _ (well_flat printed.node g.nodes (all_into IsGoodNode (λ n. AreWell (printed.node n)) node_well g.nodes h.nodes))
+          (bar_well, well_append (flat_map printed.edge g.edges) _ (well_flat printed.edge g.edges (all_into IsGoodEdge (λ e. AreWell (printed.edge e)) edge_well g.edges h.edges)) (close_bracket_well, tt)),
+    )
