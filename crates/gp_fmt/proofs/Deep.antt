@@ -7,3 +7,5 @@ pub mod Forms
 pub mod Parts
 pub mod Expressions
 pub mod Conditions
+pub mod Commands
+pub mod Rules

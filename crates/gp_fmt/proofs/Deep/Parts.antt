@@ -125,9 +125,9 @@ module _ {S : Type 0} (level : Tree → ℕ) (pieces : Tree → List Role) (l : 
         recast (ap (λ (z : Ranged (Signed S Tree)). behind_sign z.tree) (sym (d.made ∙ d.shape.second.made))) (then_deeper a b);
   }
 
-  pub row_rows : (w : Want) (head other : S) → Covers false 0 0 (Is w) (λ t. sign other ∷ []) → {R : Shape (Ranged Tree)} → Parts (suc l) (λ (x : Ranged Tree). level x.tree) (λ (x : Ranged Tree). pieces x.tree) R
-      → Rows head (Made (headed head) (Separated w (Made (signed_by other) R)))
-  row_rows w head other g {R} p = record {
+  pub row_rows : (w : Want) (head further : S) → Covers false 0 0 (Is w) (λ t. sign further ∷ []) → {R : Shape (Ranged Tree)} → Parts (suc l) (λ (x : Ranged Tree). level x.tree) (λ (x : Ranged Tree). pieces x.tree) R
+      → Rows head (Made (headed head) (Separated w (Made (signed_by further) R)))
+  row_rows w head further g {R} p = record {
     rows = λ ts rest y s h.
         let f = h.shape.shape.first in
         let qs = h.shape.of.1 in
@@ -137,12 +137,12 @@ module _ {S : Type 0} (level : Tree → ℕ) (pieces : Tree → List Role) (l : 
           first = f.of.tree;
           others = map (λ (q : Ranged (Signed S Tree)). q.tree) qs;
           is = ap (λ (z : Ranged (List (Signed S Tree))). z.tree) (h.made ∙ ap (headed head) h.shape.made) ∙ ap (λ (q : Ranged (Signed S Tree)). record { sign = head; operand = q.tree.operand } ∷ map (λ (q : Ranged (Signed S Tree)). q.tree) qs) f.made;
-          row = recast (ap (λ m. signed_member f.of.tree ++ m) (flat_mapped behind_sign (λ (q : Ranged (Signed S Tree)). q.tree) qs)) (many_behind (signed_covers w other g p) (member_deeper part) many);
+          row = recast (ap (λ m. signed_member f.of.tree ++ m) (flat_mapped behind_sign (λ (q : Ranged (Signed S Tree)). q.tree) qs)) (many_behind (signed_covers w further g p) (member_deeper part) many);
           alone = λ e. ending ts h.shape.shape.mid rest qs f.of.tree part many e;
         };
   }
     where
-      ending : (ts mid rest : List Token) (qs : List (Ranged (Signed S Tree))) (x : Tree) → IsParted (suc l) (level x) (pieces x) ts mid → Many (Made second_of (Is w then Made (signed_by other) R)) mid rest qs
+      ending : (ts mid rest : List Token) (qs : List (Ranged (Signed S Tree))) (x : Tree) → IsParted (suc l) (level x) (pieces x) ts mid → Many (Made second_of (Is w then Made (signed_by further) R)) mid rest qs
           → map (λ (q : Ranged (Signed S Tree)). q.tree) qs ≡ [] → IsParted (suc l) (level x) (pieces x) ts rest
       ending ts mid _ _ x h none e = h
       ending ts mid rest _ x h (more d ds) e = absurd cc

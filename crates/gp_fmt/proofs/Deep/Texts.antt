@@ -164,22 +164,55 @@ loud_covers g = record { covers = λ ts rest x s d. loud_deeper (g.covers ts res
 pub raised_covers : {A : Type 0} {q : Bool} {R : Shape A} {v : A → List Role} (a : ℕ) → Covers q 0 0 R v → Covers q a a R v
 raised_covers a g = record { covers = λ ts rest x s d. raised_deeper a (g.covers ts rest x s d) }
 
--- before a closing sign it is dropped
-pub dropped_covers : {A : Type 0} {q : Bool} {R : Shape A} {v : A → List Role} (kind : Kind) (a : ℕ) → ((n : Bool) → role_by kind n ≡ role.Closing) → Covers q 0 0 R v → Covers true (suc a) a (R then Is (wants.Kind kind)) (λ x. role.Closing ∷ [])
-dropped_covers {A} {q} {R} {v} kind a e g = record { covers = λ ts rest x s d. go ts rest x.1 d.mid (g.covers ts d.mid x.0 s d.first) d.second }
+-- ---- what closes all that it opens, whatever its tree
+
+pub record IsClosed (ts rest : List Token) : Type 0 where
+  pub of_roles : List Role
+  pub deeper : IsDeeper false 0 0 of_roles ts rest
+
+pub record Closes {A : Type 0} (R : Shape A) : Type 0 where
+  pub closes : (ts rest : List Token) (x : A) → AreSpelled ts → R ts rest x → IsClosed ts rest
+
+pub covers_close : {A : Type 0} {q : Bool} {R : Shape A} {v : A → List Role} → Covers q 0 0 R v → Closes R
+covers_close {v = v} g = record { closes = λ ts rest x s d. record { of_roles = v x; deeper = loud_deeper (g.covers ts rest x s d) } }
+
+pub then_close : {A B : Type 0} {R : Shape A} {S : Shape B} → Closes R → Closes S → Closes (R then S)
+then_close g h = record {
+  closes = λ ts rest x s d.
+      let e = g.closes ts d.mid x.0 s d.first in
+      let f = h.closes d.mid rest x.1 e.deeper.left d.second in
+      record { of_roles = e.of_roles ++ f.of_roles; deeper = then_deeper e.deeper f.deeper };
+}
+
+pub made_close : {A B : Type 0} {R : Shape A} (f : A → B) → Closes R → Closes (Made f R)
+made_close f g = record { closes = λ ts rest y s d. g.closes ts rest d.of s d.shape }
+
+pub either_close : {A : Type 0} {R S : Shape A} → Closes R → Closes S → Closes (Either R S)
+either_close {A} {R} {S} g h = record { closes = go }
   where
-    go : {ps : List Role} (ts rest : List Token) (t : Token) (mid : List Token) → IsDeeper q 0 0 ps ts mid → Is (wants.Kind kind) mid rest t → IsDeeper true (suc a) a (role.Closing ∷ []) ts rest
+    go : (ts rest : List Token) (x : A) → AreSpelled ts → Either R S ts rest x → IsClosed ts rest
+    go ts rest x s (one d) = g.closes ts rest x s d
+    go ts rest x s (other d) = h.closes ts rest x s d
+
+pub absent_close : {A : Type 0} (y : A) → Closes (Absent y)
+absent_close y = covers_close (absent_covers 0 y (λ x. []) refl)
+
+-- before a closing sign it is dropped
+pub dropped_covers : {A : Type 0} {R : Shape A} (kind : Kind) (a : ℕ) → ((n : Bool) → role_by kind n ≡ role.Closing) → Closes R → Covers true (suc a) a (R then Is (wants.Kind kind)) (λ x. role.Closing ∷ [])
+dropped_covers {A} {R} kind a e g = record { covers = λ ts rest x s d. go ts rest x.1 d.mid (g.closes ts d.mid x.0 s d.first).deeper d.second }
+  where
+    go : {ps : List Role} (ts rest : List Token) (t : Token) (mid : List Token) → IsDeeper false 0 0 ps ts mid → Is (wants.Kind kind) mid rest t → IsDeeper true (suc a) a (role.Closing ∷ []) ts rest
     go {ps} ts rest t mid d h = record {
       segment = d.segment ++ role.Closing ∷ [];
       split = d.split ∙ ap (λ l. d.segment ++ l) (ap (map role_of) h.front ∙ ap (λ x. x ∷ map role_of rest) (sign_role kind role.Closing t e h.is)) ∙ sym (append_assoc d.segment (role.Closing ∷ []) (map role_of rest));
       left = token_left (wants.Kind kind) mid rest t d.left h;
-      under = dropped_last q a ps d.segment d.under;
+      under = dropped_last false a ps d.segment d.under;
     }
 
 -- ---- any number of times
 
-pub many_covers : {A : Type 0} {R : Shape A} {v : A → List Role} → Covers true 0 0 R v → Covers false 0 0 (Many R) (flat_map v)
-many_covers {A} {R} {v} g = record { covers = go }
+pub many_covers : {A : Type 0} {q : Bool} {R : Shape A} {v : A → List Role} → Covers q 0 0 R v → Covers false 0 0 (Many R) (flat_map v)
+many_covers {A} {q} {R} {v} g = record { covers = go }
   where
     go : (ts rest : List Token) (xs : List A) → AreSpelled ts → Many R ts rest xs → IsDeeper false 0 0 (flat_map v xs) ts rest
     go ts _ _ s none = none_deeper 0 ts s
