@@ -9,3 +9,5 @@ pub mod Expressions
 pub mod Conditions
 pub mod Commands
 pub mod Rules
+pub mod Programs
+pub mod Whole

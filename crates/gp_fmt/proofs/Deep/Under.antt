@@ -57,7 +57,7 @@ closing_under a = record { under = λ k s t n m h f. one_reaches true role.Closi
 -- ---- inside brackets
 
 -- any nesting is below itself
-itself : (n : Nesting) → IsBelow n.still n.still zero n n
+pub itself : (n : Nesting) → IsBelow n.still n.still zero n n
 itself n = record { stills = level (omega arith); reach = omega arith; runs = same refl }
 
 ends_first : {s t : List ℕ} {k : ℕ} {p q p' q' : List ℕ} → Stills s t k p q → Stills p q zero p' q' → Stills s t k p' q'
