@@ -1,5 +1,5 @@
 -- Commands, nested no deeper than their texts.
-use Rattle.std.proofs.Common.{◌≡◌, ℕ, zero, suc, ◌<◌, ◌≤◌, Bool, true, false, nat_lt, nat_le, if◌then◌else◌, List, [], ◌∷◌, ◌++◌, map, refl, sym, ◌∙◌, ap, ap₂, subst, append_assoc, append-nil, arith, ltb-true, ltb-false, leb-true, leb-false}
+use Rattle.std.proofs.Common.{◌≡◌, ℕ, zero, suc, ◌≤◌, Bool, true, false, nat_lt, nat_le, if◌then◌else◌, List, [], ◌∷◌, ◌++◌, map, refl, sym, ◌∙◌, ap, ap₂, subst, append-nil, arith, ltb-true, ltb-false, leb-true, leb-false}
 use Rattle.std.specs.Prelude.{flat_map}
 use Rattle.gp_tokens.specs.declared.token.Token.{Token}
 use Rattle.gp_tokens.specs.declared.token.Kind.TheVariants as k
@@ -10,25 +10,23 @@ use Rattle.gp_grammar.specs.declared.want.Want.{Want}
 use Rattle.gp_grammar.specs.declared.want.Want.TheVariants as wants
 use Rattle.gp_grammar.specs.Grammar.{Grammar, shape_of}
 use Rattle.gp_grammar.specs.Fits.{AllExcluded}
-use Rattle.gp_grammar.specs.Shape.{Shape, Is, ◌then◌, Made, Either, one, other, Absent, absent, second_of}
+use Rattle.gp_grammar.specs.Shape.{Shape, Is, ◌then◌, one, other, Absent, absent}
 use Rattle.gp_grammar.specs.Signs.{open_sign, close_sign, open_brace, close_brace, comma, semicolon, exclamation}
 use Rattle.gp_syntax.specs.declared.tree.CommandTree.{CommandTree}
 use Rattle.gp_syntax.specs.declared.tree.CommandTree.TheVariants as commands
 use Rattle.gp_expressions.specs.Signs.{or_word, if_word, then_word, else_word, try_word, skip_word, fail_word, break_word}
-use Rattle.gp_expressions.specs.Expressions.{name, inner, behind}
-use Rattle.gp_expressions.specs.Conditions.{means}
-use Rattle.gp_program.specs.Commands.{grouped, rule_names, call_of, call_of_one, procedure_call, bang, looped, repeatable, simple_in, if_of, try_of, block, part, command, sequence, simple, commands_of}
+use Rattle.gp_program.specs.Commands.{grouped, rule_names, call_of, bang, looped, repeatable, simple_in, if_of, try_of, block, part, command, sequence, simple, commands_of}
 use Rattle.gp_program.specs.declared.depth.Role.{Role}
 use Rattle.gp_program.specs.declared.depth.Role.TheVariants as role
 use Rattle.gp_fmt.specs.declared.piece.Piece.{Piece}
 use Rattle.gp_fmt.specs.declared.piece.Piece.TheVariants as p
 use Rattle.gp_fmt.specs.Expressions.{in_parentheses, in_parentheses_if}
-use Rattle.gp_fmt.specs.Commands.{level, call, CommandPart, in_branch, in_loop, is_call, is_nothing, optional, names_behind, names, in_braces, called, part_of_command, command as command_pieces}
+use Rattle.gp_fmt.specs.Commands.{level, call, CommandPart, in_branch, in_loop, is_call, is_nothing, optional, names_behind, names, in_braces, part_of_command, command as command_pieces}
 use Rattle.gp_fmt.proofs.Deep.Roles.{piece_role, keyword_role, roles, roles_append, name_role, loud}
 use Rattle.gp_fmt.proofs.Deep.Quiet.{quiet_comma, quiet_semicolon, quiet_exclamation, quiet_rule_name, quiet_procedure_name, quiet_or, quiet_if, quiet_then, quiet_else, quiet_try, quiet_skip, quiet_fail, quiet_break}
 use Rattle.gp_fmt.proofs.Deep.Texts.{AreSpelled, IsDeeper, then_deeper, dropped_deeper, recast, wrap, wrapped_deeper, unwrapped_deeper, kind_sign, Covers, other_covers, opening_covers, closing_covers, name_covers, seen_covers, either_covers, absent_covers, loud_covers, separated, separated_covers}
 use Rattle.gp_fmt.proofs.Deep.Forms.{of-Call, of-Procedure, of-Seq, of-Either, of-If, of-Try, of-Loop, of-Skip, of-Fail, of-Break}
-use Rattle.gp_fmt.proofs.Deep.Parts.{IsParted, Parts, member_roles, roles_if, operand_deeper, looser, tight, bracketed, either_parts, chain_parts}
+use Rattle.gp_fmt.proofs.Deep.Parts.{IsParted, Parts, member_roles, roles_if, operand_deeper, looser, tight, bracketed, chain_parts}
 
 abbrev pub command_level : CommandTree → ℕ
 command_level x = level (part_of_command x).form

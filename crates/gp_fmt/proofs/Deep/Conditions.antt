@@ -1,6 +1,5 @@
 -- Labels and conditions, nested no deeper than their texts.
-use Rattle.std.proofs.Common.{◌≡◌, ℕ, zero, suc, ◌≤◌, Bool, true, false, List, [], ◌∷◌, ◌++◌, map, Option, Some, None, refl, sym, ◌∙◌, ap, ap₂, subst, arith}
-use Rattle.std.specs.Prelude.{flat_map}
+use Rattle.std.proofs.Common.{◌≡◌, ℕ, zero, suc, ◌≤◌, true, false, List, [], ◌∷◌, ◌++◌, map, Option, Some, None, refl, sym, ◌∙◌, ap, ap₂, subst, arith}
 use Rattle.gp_tokens.specs.declared.token.Token.{Token}
 use Rattle.gp_tokens.specs.declared.token.Kind.TheVariants as k
 use Rattle.gp_tokens.specs.declared.keyword.Keyword.TheVariants as words
@@ -9,8 +8,8 @@ use Rattle.gp_grammar.specs.declared.want.Want.{Want}
 use Rattle.gp_grammar.specs.declared.want.Want.TheVariants as wants
 use Rattle.gp_grammar.specs.Grammar.{Grammar, shape_of}
 use Rattle.gp_grammar.specs.Fits.{AllExcluded}
-use Rattle.gp_grammar.specs.Shape.{Shape, Is, ◌then◌, Made, Either, one, other, second_of}
-use Rattle.gp_grammar.specs.Signs.{any_word, open_sign, close_sign, comma, hash, equal, less, greater}
+use Rattle.gp_grammar.specs.Shape.{Shape, Is, ◌then◌, Made, second_of}
+use Rattle.gp_grammar.specs.Signs.{comma, hash, equal, less, greater}
 use Rattle.gp_syntax.specs.declared.kinds.VariableType.{VariableType}
 use Rattle.gp_syntax.specs.declared.kinds.VariableType.TheVariants as types
 use Rattle.gp_syntax.specs.declared.kinds.Comparison.{Comparison}
@@ -19,8 +18,8 @@ use Rattle.gp_syntax.specs.declared.expression.Cond.TheVariants as c
 use Rattle.gp_expressions.specs.declared.ranged.Ranged.{Ranged}
 use Rattle.gp_expressions.specs.Ranges.{chained}
 use Rattle.gp_expressions.specs.Signs.{not_word, and_word, or_word, edge_word, int_word, char_word, string_word, atom_word, not_equal, less_equal, greater_equal}
-use Rattle.gp_expressions.specs.Expressions.{Tree, name, inner, list}
-use Rattle.gp_expressions.specs.Conditions.{CondTree, word_of, mark, label, means, comparison, compared, has_type, joined_by, has_edge, typed, edge_label, edge_test, comparing, plain_test, no_condition, conjunction, disjunction, in_parentheses, negated_in, negation, condition}
+use Rattle.gp_expressions.specs.Expressions.{Tree, list}
+use Rattle.gp_expressions.specs.Conditions.{CondTree, word_of, mark, label, means, comparison, compared, joined_by, has_edge, typed, edge_label, edge_test, comparing, plain_test, no_condition, conjunction, disjunction, in_parentheses, negated_in, negation, condition}
 use Rattle.gp_program.specs.declared.depth.Role.{Role}
 use Rattle.gp_program.specs.declared.depth.Role.TheVariants as role
 use Rattle.gp_fmt.specs.declared.piece.Piece.{Piece}
@@ -28,7 +27,7 @@ use Rattle.gp_fmt.specs.declared.piece.Piece.TheVariants as p
 use Rattle.gp_fmt.specs.Expressions.{Part, chain, expression, mark as mark_pieces, label as label_pieces, type_word, comparison_sign, part_of_condition, condition as condition_pieces}
 use Rattle.gp_fmt.proofs.Deep.Roles.{piece_role, roles, roles_append, name_role, loud}
 use Rattle.gp_fmt.proofs.Deep.Quiet.{quiet_hash, quiet_comma, quiet_item, quiet_equal, quiet_not_equal, quiet_less, quiet_less_equal, quiet_greater, quiet_greater_equal, quiet_int, quiet_char, quiet_string, quiet_atom, quiet_edge, quiet_and, quiet_or}
-use Rattle.gp_fmt.proofs.Deep.Texts.{AreSpelled, IsDeeper, then_deeper, recast, wrap, Covers, other_covers, opening_covers, closing_covers, not_covers, name_covers, word_covers, then_covers, made_covers, seen_covers, either_covers, absent_covers, raised_covers, sign_covers}
+use Rattle.gp_fmt.proofs.Deep.Texts.{then_deeper, recast, wrap, Covers, other_covers, opening_covers, closing_covers, not_covers, name_covers, word_covers, then_covers, made_covers, seen_covers, either_covers, absent_covers, raised_covers, sign_covers}
 use Rattle.gp_fmt.proofs.Deep.Forms.{of-HasType, of-HasEdge, of-HasEdgeWith, of-Compared, of-Not, of-And, of-Or}
 use Rattle.gp_fmt.proofs.Deep.Parts.{IsParted, Parts, roles_if, operand_deeper, tight, bracketed, either_parts, chain_parts}
 use Rattle.gp_fmt.proofs.Deep.Expressions.{expression_roles, list_covers, chain_roles, maps_twice}
@@ -153,9 +152,9 @@ module _ (h : Grammar (Ranged CondTree)) (q : condition_parts 2 (shape_of h)) wh
       chain_parts (λ (x : Ranged CondTree). condition_level x.tree) (λ (x : Ranged CondTree). condition_roles x.tree) 1 and_word quiet_and (chained no_condition c.And) (λ x. refl)
       (λ x y ys. ap (λ (z : Part). z.level) (of-And x.tree (map (λ (r : Ranged CondTree). r.tree) (y ∷ ys))))
       (λ x y ys.
-          ap (λ (z : Part). roles z.pieces) (of-And x.tree (map (λ (r : Ranged CondTree). r.tree) (y ∷ ys)))
-          ∙ ap (λ zs. roles (chain (p.Word words.And) 1 (part_of_condition x.tree) zs).pieces) (maps_twice part_of_condition (λ (r : Ranged CondTree). r.tree) (y ∷ ys))
-          ∙ chain_roles (p.Word words.And) 1 (λ (r : Ranged CondTree). part_of_condition r.tree) (part_of_condition x.tree) (y ∷ ys)) q
+      ap (λ (z : Part). roles z.pieces) (of-And x.tree (map (λ (r : Ranged CondTree). r.tree) (y ∷ ys)))
+      ∙ ap (λ zs. roles (chain (p.Word words.And) 1 (part_of_condition x.tree) zs).pieces) (maps_twice part_of_condition (λ (r : Ranged CondTree). r.tree) (y ∷ ys))
+      ∙ chain_roles (p.Word words.And) 1 (λ (r : Ranged CondTree). part_of_condition r.tree) (part_of_condition x.tree) (y ∷ ys)) q
 
   disjunction_parts : condition_parts 0 (shape_of (disjunction h))
   unfolding disjunction
@@ -163,9 +162,9 @@ module _ (h : Grammar (Ranged CondTree)) (q : condition_parts 2 (shape_of h)) wh
       chain_parts (λ (x : Ranged CondTree). condition_level x.tree) (λ (x : Ranged CondTree). condition_roles x.tree) 0 or_word quiet_or (chained no_condition c.Or) (λ x. refl)
       (λ x y ys. ap (λ (z : Part). z.level) (of-Or x.tree (map (λ (r : Ranged CondTree). r.tree) (y ∷ ys))))
       (λ x y ys.
-          ap (λ (z : Part). roles z.pieces) (of-Or x.tree (map (λ (r : Ranged CondTree). r.tree) (y ∷ ys)))
-          ∙ ap (λ zs. roles (chain (p.Word words.Or) 0 (part_of_condition x.tree) zs).pieces) (maps_twice part_of_condition (λ (r : Ranged CondTree). r.tree) (y ∷ ys))
-          ∙ chain_roles (p.Word words.Or) 0 (λ (r : Ranged CondTree). part_of_condition r.tree) (part_of_condition x.tree) (y ∷ ys)) conjunction_parts
+      ap (λ (z : Part). roles z.pieces) (of-Or x.tree (map (λ (r : Ranged CondTree). r.tree) (y ∷ ys)))
+      ∙ ap (λ zs. roles (chain (p.Word words.Or) 0 (part_of_condition x.tree) zs).pieces) (maps_twice part_of_condition (λ (r : Ranged CondTree). r.tree) (y ∷ ys))
+      ∙ chain_roles (p.Word words.Or) 0 (λ (r : Ranged CondTree). part_of_condition r.tree) (part_of_condition x.tree) (y ∷ ys)) conjunction_parts
 
   -- "not" before it
   denied_parts : condition_parts 2 (Made (λ (x : Token × Ranged CondTree). record { tree = c.Not x.1.tree; past = x.1.past }) (Is not_word then shape_of h))

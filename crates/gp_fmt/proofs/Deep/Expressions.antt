@@ -1,22 +1,19 @@
 -- Expressions, nested no deeper than their texts.
-use Rattle.std.proofs.Common.{◌≡◌, ℕ, zero, suc, ◌≤◌, ◌^◌, ℤ, pos, negsuc, neg_ℤ, Bool, true, false, ◌||◌, nat_le, nat_lt, if◌then◌else◌, List, [], ◌∷◌, ◌++◌, map, Option, Some, None, refl, sym, ◌∙◌, ap, ap₂, subst, arith}
+use Rattle.std.proofs.Common.{◌≡◌, ℕ, zero, suc, ◌≤◌, ◌^◌, pos, negsuc, neg_ℤ, Bool, true, false, ◌||◌, nat_le, nat_lt, if◌then◌else◌, List, [], ◌∷◌, ◌++◌, map, Some, None, refl, sym, ◌∙◌, ap, ap₂, subst, arith}
 use Rattle.std.specs.Prelude.{flat_map}
 use Rattle.gp_tokens.specs.declared.token.Token.{Token}
 use Rattle.gp_tokens.specs.declared.token.Kind.TheVariants as k
 use Rattle.gp_tokens.specs.declared.keyword.Keyword.TheVariants as words
-use Rattle.gp_values.specs.Names.{Name}
 use Rattle.gp_grammar.specs.declared.want.Want.{Want}
 use Rattle.gp_grammar.specs.declared.want.Want.TheVariants as wants
 use Rattle.gp_grammar.specs.Grammar.{Grammar, shape_of}
-use Rattle.gp_grammar.specs.Numerals.{signed}
-use Rattle.gp_grammar.specs.Shape.{Shape, Is, IsString, IsNumberAt, ◌then◌, Made, Either, one, other, second_of}
+use Rattle.gp_grammar.specs.Shape.{Shape, Is, IsString, IsNumberAt, ◌then◌, Made, Either, one, other}
 use Rattle.gp_grammar.specs.Signs.{number_sign, string_sign, open_sign, close_sign, minus}
 use Rattle.gp_syntax.specs.declared.expression.Signed.{Signed}
 use Rattle.gp_syntax.specs.declared.expression.SumSign.{SumSign}
 use Rattle.gp_syntax.specs.declared.expression.SumSign.TheVariants as sums
 use Rattle.gp_syntax.specs.declared.expression.ProductSign.{ProductSign}
 use Rattle.gp_syntax.specs.declared.expression.ProductSign.TheVariants as products
-use Rattle.gp_syntax.specs.declared.expression.Expr.{Expr}
 use Rattle.gp_syntax.specs.declared.expression.Expr.TheVariants as e
 use Rattle.gp_expressions.specs.declared.ranged.Ranged.{Ranged}
 use Rattle.gp_expressions.specs.Ranges.{chained}
@@ -28,9 +25,9 @@ use Rattle.gp_fmt.specs.declared.piece.Piece.{Piece}
 use Rattle.gp_fmt.specs.declared.piece.Piece.TheVariants as p
 use Rattle.gp_fmt.specs.Expressions.{Part, in_parentheses_if, member, is_numeral, chain, signed_chain, sum_sign, product_sign, part_of_expression, expression}
 use Rattle.gp_fmt.proofs.Deep.Under.{minus_under, other_under, both_under, zero_under, zero_negated}
-use Rattle.gp_fmt.proofs.Deep.Roles.{piece_role, roles, roles_append, name_role, loud}
+use Rattle.gp_fmt.proofs.Deep.Roles.{piece_role, roles, roles_append, name_role}
 use Rattle.gp_fmt.proofs.Deep.Quiet.{quiet_string_sign, quiet_number_sign, quiet_item, quiet_variable, quiet_empty, quiet_indegree, quiet_outdegree, quiet_length, quiet_colon, quiet_dot, quiet_plus, quiet_star, quiet_slash}
-use Rattle.gp_fmt.proofs.Deep.Texts.{AreSpelled, IsDeeper, then_deeper, recast, loud_deeper, wrap, wrapped_deeper, unwrapped_deeper, Covers, other_covers, opening_covers, closing_covers, minus_covers, name_covers, then_covers, made_covers, either_covers, loud_covers, IsSign, minus_sign, other_sign, kind_sign, two_deeper, three_deeper}
+use Rattle.gp_fmt.proofs.Deep.Texts.{AreSpelled, IsDeeper, then_deeper, recast, wrap, wrapped_deeper, unwrapped_deeper, Covers, other_covers, opening_covers, closing_covers, minus_covers, name_covers, then_covers, made_covers, either_covers, loud_covers, IsSign, minus_sign, other_sign, kind_sign, two_deeper, three_deeper}
 use Rattle.gp_fmt.proofs.Deep.Forms.{operands, of-Number, of-Text, of-Variable, of-InDegree, of-OutDegree, of-Length, of-Empty, of-Negated, of-Sum, of-Product, of-Dot, of-Join}
 use Rattle.gp_fmt.proofs.Deep.Parts.{IsParted, Parts, member_roles, roles_if, needed_deeper, tight, chain_parts, Rows, row_rows, rows_parts}
 
@@ -199,8 +196,8 @@ signed_flat : {S : Type 0} (sign : S → Piece) (l : ℕ) (ys : List (Signed S T
 signed_flat sign l [] = refl
 signed_flat {S} sign l (y ∷ ys) =
     ap (λ m. piece_role (sign y.sign) ∷ m) (
-        roles_append (member l (part_of_expression y.operand)) (flat_map (λ (z : Signed S Part). sign z.sign ∷ member l z.operand) (operands ys))
-        ∙ ap₂ (λ a b. a ++ b) (roles_if (nat_le (expression_level y.operand) l) (expression y.operand)) (signed_flat sign l ys)
+    roles_append (member l (part_of_expression y.operand)) (flat_map (λ (z : Signed S Part). sign z.sign ∷ member l z.operand) (operands ys))
+    ∙ ap₂ (λ a b. a ++ b) (roles_if (nat_le (expression_level y.operand) l) (expression y.operand)) (signed_flat sign l ys)
     )
 
 signed_roles : {S : Type 0} (sign : S → Piece) (l : ℕ) (x : Tree) (ys : List (Signed S Tree))
@@ -254,9 +251,9 @@ module _ (g : Grammar (Ranged Tree)) (o : Operands (shape_of g)) where
       chain_parts (λ (x : Ranged Tree). expression_level x.tree) (λ (x : Ranged Tree). expression_roles x.tree) 1 _ quiet_dot (chained e.Empty e.Dot) (λ x. refl)
       (λ x y ys. ap (λ (z : Part). z.level) (of-Dot x.tree (map (λ (r : Ranged Tree). r.tree) (y ∷ ys))))
       (λ x y ys.
-          ap (λ (z : Part). roles z.pieces) (of-Dot x.tree (map (λ (r : Ranged Tree). r.tree) (y ∷ ys)))
-          ∙ ap (λ zs. roles (chain (p.Sign k.Dot) 1 (part_of_expression x.tree) zs).pieces) (maps_twice part_of_expression (λ (r : Ranged Tree). r.tree) (y ∷ ys))
-          ∙ chain_roles (p.Sign k.Dot) 1 (λ (r : Ranged Tree). part_of_expression r.tree) (part_of_expression x.tree) (y ∷ ys)) sum_parts
+      ap (λ (z : Part). roles z.pieces) (of-Dot x.tree (map (λ (r : Ranged Tree). r.tree) (y ∷ ys)))
+      ∙ ap (λ zs. roles (chain (p.Sign k.Dot) 1 (part_of_expression x.tree) zs).pieces) (maps_twice part_of_expression (λ (r : Ranged Tree). r.tree) (y ∷ ys))
+      ∙ chain_roles (p.Sign k.Dot) 1 (λ (r : Ranged Tree). part_of_expression r.tree) (part_of_expression x.tree) (y ∷ ys)) sum_parts
 
   joins_parts : expression_parts 0 (shape_of (joins g))
   unfolding joins
@@ -264,9 +261,9 @@ module _ (g : Grammar (Ranged Tree)) (o : Operands (shape_of g)) where
       chain_parts (λ (x : Ranged Tree). expression_level x.tree) (λ (x : Ranged Tree). expression_roles x.tree) 0 _ quiet_colon (chained e.Empty e.Join) (λ x. refl)
       (λ x y ys. ap (λ (z : Part). z.level) (of-Join x.tree (map (λ (r : Ranged Tree). r.tree) (y ∷ ys))))
       (λ x y ys.
-          ap (λ (z : Part). roles z.pieces) (of-Join x.tree (map (λ (r : Ranged Tree). r.tree) (y ∷ ys)))
-          ∙ ap (λ zs. roles (chain (p.Sign k.Colon) 0 (part_of_expression x.tree) zs).pieces) (maps_twice part_of_expression (λ (r : Ranged Tree). r.tree) (y ∷ ys))
-          ∙ chain_roles (p.Sign k.Colon) 0 (λ (r : Ranged Tree). part_of_expression r.tree) (part_of_expression x.tree) (y ∷ ys)) dots_parts
+      ap (λ (z : Part). roles z.pieces) (of-Join x.tree (map (λ (r : Ranged Tree). r.tree) (y ∷ ys)))
+      ∙ ap (λ zs. roles (chain (p.Sign k.Colon) 0 (part_of_expression x.tree) zs).pieces) (maps_twice part_of_expression (λ (r : Ranged Tree). r.tree) (y ∷ ys))
+      ∙ chain_roles (p.Sign k.Colon) 0 (λ (r : Ranged Tree). part_of_expression r.tree) (part_of_expression x.tree) (y ∷ ys)) dots_parts
 
   -- ---- one minus or one pair of parentheses more
 

@@ -1,17 +1,17 @@
 -- Parts of a text with operators, which stand in parentheses where that is needed: what parentheses the canonical text has,
 -- each text of the tree has.
-use Rattle.std.proofs.Common.{◌≡◌, ℕ, suc, ◌<◌, ◌≤◌, Bool, true, false, nat_le, nat_lt, if◌then◌else◌, List, [], ◌∷◌, ◌++◌, map, refl, sym, ◌∙◌, ap, subst, append_assoc, append-nil, arith, leb-true, ltb-true}
+use Rattle.std.proofs.Common.{◌≡◌, ℕ, suc, ◌<◌, ◌≤◌, Bool, true, false, nat_le, nat_lt, if◌then◌else◌, List, [], ◌∷◌, ◌++◌, map, refl, sym, ◌∙◌, ap, subst, append_assoc, arith, leb-true, ltb-true}
 use Rattle.std.specs.Prelude.{flat_map}
 use Rattle.std.proofs.lemmas.List.Concat.{flat_map-append}
 use Rattle.gp_tokens.specs.declared.token.Kind.TheVariants as k
 use Rattle.gp_tokens.specs.declared.token.Token.{Token}
 use Rattle.gp_grammar.specs.declared.want.Want.{Want}
 use Rattle.gp_grammar.specs.Fits.{AllExcluded}
-use Rattle.gp_grammar.specs.Shape.{Shape, Is, ◌then◌, Made, Either, one, other, Many, none, more, Separated, list_of, second_of}
+use Rattle.gp_grammar.specs.Shape.{Shape, Is, ◌then◌, Made, Either, one, other, Many, none, more, Separated, second_of}
 use Rattle.gp_grammar.specs.Signs.{open_sign, close_sign}
 use Rattle.gp_syntax.specs.declared.expression.Signed.{Signed}
 use Rattle.gp_expressions.specs.declared.ranged.Ranged.{Ranged}
-use Rattle.gp_expressions.specs.Ranges.{with, gathered, joined, all_joined}
+use Rattle.gp_expressions.specs.Ranges.{with, joined, all_joined}
 use Rattle.gp_expressions.specs.Expressions.{Tree, signed_by, headed}
 use Rattle.gp_program.specs.declared.depth.Role.{Role}
 use Rattle.gp_program.specs.declared.depth.Role.TheVariants as role
@@ -182,13 +182,13 @@ module _ {S : Type 0} (level : Tree → ℕ) (pieces : Tree → List Role) (l : 
         let ys = h.shape.of.1 in
         let more_ys = joined (map (λ (y : Ranged (List (Signed S Tree))). y.tree) ys) in
         let trees : y.tree ≡ tree (record { sign = head; operand = r.first } ∷ (r.others ++ more_ys)) =
-            ap (λ (z : Ranged Tree). z.tree) (h.made ∙ ap (λ rs. with tree (all_joined rs)) h.shape.made) ∙ ap (λ m. tree (m ++ more_ys)) r.is
+        ap (λ (z : Ranged Tree). z.tree) (h.made ∙ ap (λ rs. with tree (all_joined rs)) h.shape.made) ∙ ap (λ m. tree (m ++ more_ys)) r.is
         in
         let all : IsDeeper true 0 0 (signed_member r.first ++ flat_map behind_sign (r.others ++ more_ys)) ts rest =
-            recast (
-                append_assoc (signed_member r.first) (flat_map behind_sign r.others) (flat_map (λ (y : Ranged (List (Signed S Tree))). flat_map behind_sign y.tree) ys)
-                ∙ ap (λ m. signed_member r.first ++ m) (ap (λ m. flat_map behind_sign r.others ++ m) (joined_flat ys) ∙ sym (flat_map-append behind_sign r.others more_ys))
-            ) (many_behind (row_covers w head g p) r.row h.shape.shape.second)
+        recast (
+        append_assoc (signed_member r.first) (flat_map behind_sign r.others) (flat_map (λ (y : Ranged (List (Signed S Tree))). flat_map behind_sign y.tree) ys)
+        ∙ ap (λ m. signed_member r.first ++ m) (ap (λ m. flat_map behind_sign r.others ++ m) (joined_flat ys) ∙ sym (flat_map-append behind_sign r.others more_ys))
+        ) (many_behind (row_covers w head g p) r.row h.shape.shape.second)
         in
         subst (λ z. IsParted l (level z) (pieces z) ts rest) (sym trees) (decide ts rest r.first (r.others ++ more_ys) all (λ e. ending ts h.shape.shape.mid rest ys r h.shape.shape.second e));
   }

@@ -1,5 +1,5 @@
 -- Declarations and programs, nested no deeper than their texts.
-use Rattle.std.proofs.Common.{◌≡◌, ℕ, zero, suc, Bool, true, false, List, [], ◌∷◌, ◌++◌, map, refl, sym, ◌∙◌, ap, ap₂, subst, append_assoc, append-nil}
+use Rattle.std.proofs.Common.{◌≡◌, ℕ, zero, suc, true, false, List, [], ◌∷◌, ◌++◌, map, refl, sym, ◌∙◌, ap, subst, append-nil}
 use Rattle.std.specs.Prelude.{flat_map}
 use Rattle.std.proofs.lemmas.List.Concat.{flat_map-append}
 use Rattle.gp_tokens.specs.declared.token.Token.{Token}
@@ -7,7 +7,7 @@ use Rattle.gp_tokens.specs.declared.token.Kind.TheVariants as k
 use Rattle.gp_values.specs.Names.{Name}
 use Rattle.gp_grammar.specs.declared.want.Want.TheVariants as wants
 use Rattle.gp_grammar.specs.Grammar.{Grammar, shape_of}
-use Rattle.gp_grammar.specs.Shape.{Shape, Is, ◌then◌, Made, Either, one, other, Absent, absent}
+use Rattle.gp_grammar.specs.Shape.{one, other, absent}
 use Rattle.gp_grammar.specs.Signs.{equal}
 use Rattle.gp_syntax.specs.declared.tree.Ast.{Ast}
 use Rattle.gp_syntax.specs.declared.tree.CommandTree.{CommandTree}
@@ -16,16 +16,15 @@ use Rattle.gp_syntax.specs.declared.tree.Decl.{Decl}
 use Rattle.gp_syntax.specs.declared.tree.Decl.TheVariants as declared
 use Rattle.gp_expressions.specs.declared.ranged.Ranged.{Ranged}
 use Rattle.gp_expressions.specs.Ranges.{gathered, joined}
-use Rattle.gp_program.specs.Programs.{rule_decl, procedure_of, procedure_first, rules_first, rules, locals, procedure, procedure_group, declarations_in, declarations, ast_of, program}
+use Rattle.gp_program.specs.Programs.{rule_decl, procedure_first, rules_first, rules, locals, procedure, procedure_group, declarations_in, declarations, ast_of, program}
 use Rattle.gp_program.specs.declared.depth.Role.{Role}
 use Rattle.gp_program.specs.declared.depth.Role.TheVariants as role
-use Rattle.gp_fmt.specs.declared.piece.Piece.{Piece}
 use Rattle.gp_fmt.specs.declared.piece.Piece.TheVariants as p
 use Rattle.gp_fmt.specs.Commands.{command}
 use Rattle.gp_fmt.specs.Canonical.{declaration, locals as local_pieces, pieces_of}
 use Rattle.gp_fmt.proofs.Deep.Roles.{roles, roles_append, name_role}
 use Rattle.gp_fmt.proofs.Deep.Quiet.{quiet_equal, quiet_procedure_name}
-use Rattle.gp_fmt.proofs.Deep.Texts.{AreSpelled, IsDeeper, then_deeper, dropped_deeper, recast, wrap, wrapped_deeper, Covers, other_covers, opening_covers, closing_covers, name_covers, then_covers, made_covers, many_covers}
+use Rattle.gp_fmt.proofs.Deep.Texts.{IsDeeper, then_deeper, dropped_deeper, recast, wrap, wrapped_deeper, Covers, other_covers, opening_covers, closing_covers, name_covers, then_covers, made_covers, many_covers}
 use Rattle.gp_fmt.proofs.Deep.Forms.{of-Declared, of-Rule}
 use Rattle.gp_fmt.proofs.Deep.Parts.{flat_mapped}
 use Rattle.gp_fmt.proofs.Deep.Commands.{command_roles, commands_covers}

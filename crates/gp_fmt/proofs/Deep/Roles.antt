@@ -1,6 +1,5 @@
 -- The roles of tokens, by what they are wanted as, and of the tokens of a canonical text.
-use Rattle.std.proofs.Common.{◌≡◌, ℕ, Bool, true, false, not, ◌&&◌, ◌||◌, if◌then◌else◌, List, [], ◌∷◌, ◌++◌, map, refl, sym, ◌∙◌, ap}
-use Rattle.std.specs.List.{list_all}
+use Rattle.std.proofs.Common.{◌≡◌, ℕ, Bool, true, false, not, ◌&&◌, ◌||◌, List, [], ◌∷◌, ◌++◌, map, refl, sym, ◌∙◌, ap}
 use Rattle.std.specs.Str.{bytes_eq}
 use Rattle.std.proofs.lemmas.List.{map-append}
 use Rattle.gp_tokens.specs.declared.keyword.Keyword.{Keyword}
@@ -8,13 +7,11 @@ use Rattle.gp_tokens.specs.declared.keyword.Keyword.TheVariants as words
 use Rattle.gp_tokens.specs.declared.token.Kind.{Kind}
 use Rattle.gp_tokens.specs.declared.token.Kind.TheVariants as k
 use Rattle.gp_tokens.specs.declared.token.Token.{Token}
-use Rattle.gp_tokens.specs.Bytes.{is_digit}
 use Rattle.gp_tokens.specs.Kinds.{same_kind}
-use Rattle.gp_tokens.specs.Words.{keyword_text, is_word, is_item, is_rule_name, is_variable, is_procedure_name, is_free_word, is_reserved}
-use Rattle.gp_values.specs.Names.{Name}
+use Rattle.gp_tokens.specs.Words.{keyword_text, is_word, is_free_word, is_reserved}
 use Rattle.gp_grammar.specs.declared.want.Want.{Want}
 use Rattle.gp_grammar.specs.declared.want.Want.TheVariants as wants
-use Rattle.gp_grammar.specs.Wants.{meets, excludes}
+use Rattle.gp_grammar.specs.Wants.{meets}
 use Rattle.gp_grammar.specs.Fits.{AllExcluded}
 use Rattle.gp_grammar.specs.Signs.{open_sign, close_sign, open_bracket, close_bracket, open_brace, close_brace, minus, any_word}
 use Rattle.gp_grammar.proofs.Wants.{kind_true, excluded}

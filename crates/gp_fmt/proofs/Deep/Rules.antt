@@ -1,17 +1,16 @@
 -- Rules, nested no deeper than their texts.
-use Rattle.std.proofs.Common.{◌≡◌, ℕ, suc, Bool, true, false, List, [], ◌∷◌, ◌++◌, map, Option, Some, None, refl, sym, ◌∙◌, ap, ap₂, subst, append_assoc}
+use Rattle.std.proofs.Common.{◌≡◌, ℕ, true, false, List, [], ◌∷◌, ◌++◌, map, Option, refl, sym, ◌∙◌, ap, append_assoc}
 use Rattle.std.specs.Prelude.{flat_map}
 use Rattle.gp_tokens.specs.declared.token.Token.{Token}
 use Rattle.gp_tokens.specs.declared.token.Kind.{Kind}
 use Rattle.gp_tokens.specs.declared.token.Kind.TheVariants as k
 use Rattle.gp_tokens.specs.declared.keyword.Keyword.{Keyword}
 use Rattle.gp_tokens.specs.declared.keyword.Keyword.TheVariants as words
-use Rattle.gp_values.specs.Names.{Name}
 use Rattle.gp_grammar.specs.declared.want.Want.{Want}
 use Rattle.gp_grammar.specs.declared.want.Want.TheVariants as wants
 use Rattle.gp_grammar.specs.Grammar.{Grammar, shape_of}
 use Rattle.gp_grammar.specs.Fits.{AllExcluded}
-use Rattle.gp_grammar.specs.Shape.{Shape, Is, ◌then◌, Made, Either, one, other, dropped, second_of}
+use Rattle.gp_grammar.specs.Shape.{◌then◌, Made, Either, one, other, dropped, second_of}
 use Rattle.gp_grammar.specs.Signs.{number_sign, less, greater, comma, semicolon, colon, dot, bar, equal, arrow, root_word}
 use Rattle.gp_syntax.specs.declared.kinds.VariableType.TheVariants as types
 use Rattle.gp_syntax.specs.declared.tree.VariableGroup.{VariableGroup}
@@ -22,7 +21,7 @@ use Rattle.gp_syntax.specs.declared.tree.RuleDecl.{RuleDecl}
 use Rattle.gp_expressions.specs.declared.ranged.Ranged.{Ranged}
 use Rattle.gp_expressions.specs.Ranges.{gathered}
 use Rattle.gp_expressions.specs.Signs.{int_word, char_word, string_word, atom_word, list_word, where_word, interface_word, bidirectional_word}
-use Rattle.gp_expressions.specs.Expressions.{Tree, name, list}
+use Rattle.gp_expressions.specs.Expressions.{Tree, list}
 use Rattle.gp_expressions.specs.Conditions.{CondTree, means, condition}
 use Rattle.gp_program.specs.Rules.{coord, position, place, flagged, flag, node_of, edge_of, graph_of, node, edge, nodes, edges, body, barred, graph, variable_type, group_of, variable_group, variables, interface, where_of, where_part, rule_of, rule_with, rule}
 use Rattle.gp_program.specs.declared.depth.Role.{Role}
@@ -35,7 +34,7 @@ use Rattle.gp_fmt.specs.Commands.{names, names_behind, in_braces}
 use Rattle.gp_fmt.specs.Rules as canonical
 use Rattle.gp_fmt.proofs.Deep.Roles.{piece_role, keyword_role, roles, roles_append, name_role, loud}
 use Rattle.gp_fmt.proofs.Deep.Quiet.{quiet_number_sign, quiet_item, quiet_variable, quiet_rule_name, quiet_comma, quiet_semicolon, quiet_colon, quiet_dot, quiet_bar, quiet_arrow, quiet_equal, quiet_less, quiet_greater, quiet_int, quiet_char, quiet_string, quiet_atom, quiet_list, quiet_where, quiet_interface, quiet_bidirectional, quiet_root}
-use Rattle.gp_fmt.proofs.Deep.Texts.{AreSpelled, IsDeeper, then_deeper, dropped_deeper, recast, Covers, other_covers, opening_covers, closing_covers, minus_covers, name_covers, then_covers, made_covers, seen_covers, either_covers, absent_covers, loud_covers, raised_covers, Closes, covers_close, then_close, made_close, either_close, absent_close, dropped_covers, many_covers, separated, sign_covers, separated_covers}
+use Rattle.gp_fmt.proofs.Deep.Texts.{IsDeeper, then_deeper, dropped_deeper, recast, Covers, other_covers, opening_covers, closing_covers, minus_covers, name_covers, then_covers, made_covers, seen_covers, either_covers, absent_covers, loud_covers, raised_covers, Closes, covers_close, then_close, made_close, either_close, absent_close, dropped_covers, many_covers, separated, sign_covers, separated_covers}
 use Rattle.gp_fmt.proofs.Deep.Expressions.{expression_roles, list_covers}
 use Rattle.gp_fmt.proofs.Deep.Conditions.{label_covers, condition_roles, condition_covers}
 use Rattle.gp_fmt.proofs.Deep.Commands.{names_roles, all_names}
@@ -50,8 +49,8 @@ coord_closes : Closes (shape_of coord)
 unfolding coord
 coord_closes =
     made_close dropped (
-        then_close (either_close (made_close dropped (covers_close minus_covers)) (absent_close _))
-        (then_close (covers_close (other_covers number_sign 0 quiet_number_sign)) (either_close (made_close dropped (then_close (covers_close (other_covers dot 0 quiet_dot)) (covers_close (other_covers number_sign 0 quiet_number_sign)))) (absent_close _)))
+    then_close (either_close (made_close dropped (covers_close minus_covers)) (absent_close _))
+    (then_close (covers_close (other_covers number_sign 0 quiet_number_sign)) (either_close (made_close dropped (then_close (covers_close (other_covers dot 0 quiet_dot)) (covers_close (other_covers number_sign 0 quiet_number_sign)))) (absent_close _)))
     )
 
 position_closes : Closes (shape_of position)
@@ -89,8 +88,8 @@ node_roles n =
     let f = canonical.flag words.Root n.root in
     let l = label n.label n.mark in
     ap (λ m. role.Opening ∷ name_role n.name ∷ m) (
-        sym (append_assoc (roles f) (role.Other ∷ roles l) (role.Closing ∷ [])) ∙ ap (λ m. m ++ role.Closing ∷ []) (sym (roles_append f (p.Sign k.Comma ∷ l)))
-        ∙ sym (roles_append (f ++ p.Sign k.Comma ∷ l) (p.Sign k.CloseParenthesis ∷ []))
+    sym (append_assoc (roles f) (role.Other ∷ roles l) (role.Closing ∷ [])) ∙ ap (λ m. m ++ role.Closing ∷ []) (sym (roles_append f (p.Sign k.Comma ∷ l)))
+    ∙ sym (roles_append (f ++ p.Sign k.Comma ∷ l) (p.Sign k.CloseParenthesis ∷ []))
     )
 
 edge_roles : (e : EdgeDecl)
@@ -216,8 +215,8 @@ rule_roles r =
     let n = names r.interface in
     let w = canonical.where_part r.condition in
     ap (λ m. name_role r.name ∷ m) (
-        ap (λ m. role.Opening ∷ (roles v ++ role.Closing ∷ (roles l ++ role.Other ∷ (roles h ++ role.Other ∷ role.Other ∷ m)))) (enclosed k.OpenBrace k.CloseBrace n (roles w))
-        ∙ enclosed k.OpenParenthesis k.CloseParenthesis v (roles l ++ role.Other ∷ (roles h ++ role.Other ∷ role.Other ∷ (roles (in_braces n) ++ roles w)))
+    ap (λ m. role.Opening ∷ (roles v ++ role.Closing ∷ (roles l ++ role.Other ∷ (roles h ++ role.Other ∷ role.Other ∷ m)))) (enclosed k.OpenBrace k.CloseBrace n (roles w))
+    ∙ enclosed k.OpenParenthesis k.CloseParenthesis v (roles l ++ role.Other ∷ (roles h ++ role.Other ∷ role.Other ∷ (roles (in_braces n) ++ roles w)))
     )
     ∙ sym (roles_five (p.Name r.name ∷ in_parentheses v) l (p.Sign k.Arrow ∷ h) (p.Word words.Interface ∷ p.Sign k.Equal ∷ in_braces n) w)
 

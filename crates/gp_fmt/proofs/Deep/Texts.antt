@@ -7,11 +7,10 @@ use Rattle.gp_tokens.specs.declared.token.Kind.TheVariants as k
 use Rattle.gp_tokens.specs.declared.token.Token.{Token}
 use Rattle.gp_grammar.specs.declared.want.Want.{Want}
 use Rattle.gp_grammar.specs.declared.want.Want.TheVariants as wants
-use Rattle.gp_grammar.specs.Wants.{meets}
 use Rattle.gp_grammar.specs.Fits.{AllExcluded}
 use Rattle.gp_grammar.specs.Grammar.{shape_of}
 use Rattle.gp_grammar.proofs.Wants.{kind_same}
-use Rattle.gp_grammar.specs.Shape.{Shape, Is, ◌then◌, Made, Either, one, other, Absent, absent, Many, none, more, Separated, list_of, second_of}
+use Rattle.gp_grammar.specs.Shape.{Shape, Is, ◌then◌, Made, Either, one, other, Absent, absent, Many, none, more, Separated, second_of}
 use Rattle.gp_grammar.specs.Signs.{minus, any_word}
 use Rattle.gp_expressions.specs.Signs.{not_word}
 use Rattle.gp_expressions.specs.Expressions.{name}

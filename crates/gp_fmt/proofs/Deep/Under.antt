@@ -1,10 +1,10 @@
 -- What of a text is nowhere nested deeper than what of another, wherever the two stand.
-use Rattle.std.proofs.Common.{◌≡◌, ℕ, zero, suc, ◌+◌, ◌≤◌, Bool, true, false, List, [], ◌∷◌, ◌++◌, sum, refl, sym, ◌∙◌, ap, subst, arith}
+use Rattle.std.proofs.Common.{◌≡◌, ℕ, zero, suc, ◌+◌, ◌≤◌, Bool, true, false, List, [], ◌∷◌, ◌++◌, sum, refl, ap, arith}
 use Rattle.std.proofs.lemmas.List.Sums.{sum_by-cons}
 use Rattle.gp_program.specs.declared.depth.Role.{Role}
 use Rattle.gp_program.specs.declared.depth.Role.TheVariants as role
 use Rattle.gp_program.specs.Depth.{Nesting, next_open}
-use Rattle.gp_fmt.proofs.Deep.Nestings.{step, after, deep, Fits, after_both, fits_first, fits_second, fits_both, Stills, level, higher, RunsFit, same, first_none, second_none, IsBelow, stills_below, first_is, second_is, minus_step, not_step, other_step, opening_step, closing_step, closed}
+use Rattle.gp_fmt.proofs.Deep.Nestings.{step, after, deep, Fits, after_both, fits_first, fits_second, fits_both, Stills, level, same, first_none, second_none, IsBelow, stills_below, second_is, minus_step, not_step, other_step, opening_step, closing_step, closed}
 
 pub record Reaches (q : Bool) (k : ℕ) (s t : List ℕ) (b : ℕ) (n m : Nesting) (ps xs : List Role) : Type 0 where
   pub fits : Fits k n ps

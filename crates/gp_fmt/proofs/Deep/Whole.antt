@@ -1,16 +1,14 @@
 -- A canonical text is nested no deeper than the text that its tree comes from.
-use Rattle.std.proofs.Common.{◌≡◌, ℕ, zero, suc, ◌+◌, ◌<◌, ◌≤◌, false, List, [], ◌∷◌, ◌++◌, map, take, length, All, None, refl, sym, ◌∙◌, ap, subst, append-nil, arith, add-one}
-use Rattle.std.specs.Prelude.{fold, sum}
+use Rattle.std.proofs.Common.{◌≡◌, ℕ, zero, suc, ◌<◌, ◌≤◌, false, List, [], ◌∷◌, map, take, length, All, None, sym, ◌∙◌, subst, append-nil, arith, add-one}
+use Rattle.std.specs.Prelude.{fold}
 use Rattle.gp_tokens.specs.declared.token.Token.{Token}
-use Rattle.gp_grammar.specs.Grammar.{shape_of}
 use Rattle.gp_syntax.specs.declared.tree.Ast.{Ast}
-use Rattle.gp_expressions.specs.declared.ranged.Ranged.{Ranged}
-use Rattle.gp_program.specs.Depth.{Nesting, role_of, behind, outside, depth, IsShallow}
+use Rattle.gp_program.specs.Depth.{Nesting, role_of, behind, outside, IsShallow}
 use Rattle.gp_program.specs.Program.{IsTree}
 use Rattle.gp_fmt.specs.Pieces.{AreTokens}
 use Rattle.gp_fmt.specs.Canonical.{pieces_of}
 use Rattle.gp_fmt.specs.inside.Spelled.{IsSpelledToken}
-use Rattle.gp_fmt.proofs.Deep.Nestings.{step, deep, Fits}
+use Rattle.gp_fmt.proofs.Deep.Nestings.{deep, Fits}
 use Rattle.gp_fmt.proofs.Deep.Under.{itself}
 use Rattle.gp_fmt.proofs.Deep.Roles.{roles, are_roles}
 use Rattle.gp_fmt.proofs.Deep.Texts.{IsDeeper}
