@@ -29,7 +29,7 @@ use Rattle.gp_fmt.proofs.Deep.Roles.{piece_role, roles, roles_append, name_role,
 use Rattle.gp_fmt.proofs.Deep.Quiet.{quiet_hash, quiet_comma, quiet_item, quiet_equal, quiet_not_equal, quiet_less, quiet_less_equal, quiet_greater, quiet_greater_equal, quiet_int, quiet_char, quiet_string, quiet_atom, quiet_edge, quiet_and, quiet_or}
 use Rattle.gp_fmt.proofs.Deep.Texts.{then_deeper, recast, wrap, Covers, other_covers, opening_covers, closing_covers, not_covers, name_covers, word_covers, then_covers, made_covers, seen_covers, either_covers, absent_covers, raised_covers, sign_covers}
 use Rattle.gp_fmt.proofs.Deep.Forms.{of-HasType, of-HasEdge, of-HasEdgeWith, of-Compared, of-Not, of-And, of-Or}
-use Rattle.gp_fmt.proofs.Deep.Parts.{IsParted, Parts, roles_if, operand_deeper, tight, bracketed, either_parts, chain_parts}
+use Rattle.gp_fmt.proofs.Deep.Parts.{tree_of, IsParted, Parts, roles_if, operand_deeper, tight, bracketed, either_parts, chain_parts}
 use Rattle.gp_fmt.proofs.Deep.Expressions.{expression_roles, list_covers, chain_roles, maps_twice}
 
 -- ---- labels
@@ -150,20 +150,20 @@ module _ (h : Grammar (Ranged CondTree)) (q : condition_parts 2 (shape_of h)) wh
   unfolding conjunction
   conjunction_parts =
       chain_parts (λ (x : Ranged CondTree). condition_level x.tree) (λ (x : Ranged CondTree). condition_roles x.tree) 1 and_word quiet_and (chained no_condition c.And) (λ x. refl)
-      (λ x y ys. ap (λ (z : Part). z.level) (of-And x.tree (map (λ (r : Ranged CondTree). r.tree) (y ∷ ys))))
+      (λ x y ys. ap (λ (z : Part). z.level) (of-And x.tree (map tree_of (y ∷ ys))))
       (λ x y ys.
-      ap (λ (z : Part). roles z.pieces) (of-And x.tree (map (λ (r : Ranged CondTree). r.tree) (y ∷ ys)))
-      ∙ ap (λ zs. roles (chain (p.Word words.And) 1 (part_of_condition x.tree) zs).pieces) (maps_twice part_of_condition (λ (r : Ranged CondTree). r.tree) (y ∷ ys))
+      ap (λ (z : Part). roles z.pieces) (of-And x.tree (map tree_of (y ∷ ys)))
+      ∙ ap (λ zs. roles (chain (p.Word words.And) 1 (part_of_condition x.tree) zs).pieces) (maps_twice part_of_condition tree_of (y ∷ ys))
       ∙ chain_roles (p.Word words.And) 1 (λ (r : Ranged CondTree). part_of_condition r.tree) (part_of_condition x.tree) (y ∷ ys)) q
 
   disjunction_parts : condition_parts 0 (shape_of (disjunction h))
   unfolding disjunction
   disjunction_parts =
       chain_parts (λ (x : Ranged CondTree). condition_level x.tree) (λ (x : Ranged CondTree). condition_roles x.tree) 0 or_word quiet_or (chained no_condition c.Or) (λ x. refl)
-      (λ x y ys. ap (λ (z : Part). z.level) (of-Or x.tree (map (λ (r : Ranged CondTree). r.tree) (y ∷ ys))))
+      (λ x y ys. ap (λ (z : Part). z.level) (of-Or x.tree (map tree_of (y ∷ ys))))
       (λ x y ys.
-      ap (λ (z : Part). roles z.pieces) (of-Or x.tree (map (λ (r : Ranged CondTree). r.tree) (y ∷ ys)))
-      ∙ ap (λ zs. roles (chain (p.Word words.Or) 0 (part_of_condition x.tree) zs).pieces) (maps_twice part_of_condition (λ (r : Ranged CondTree). r.tree) (y ∷ ys))
+      ap (λ (z : Part). roles z.pieces) (of-Or x.tree (map tree_of (y ∷ ys)))
+      ∙ ap (λ zs. roles (chain (p.Word words.Or) 0 (part_of_condition x.tree) zs).pieces) (maps_twice part_of_condition tree_of (y ∷ ys))
       ∙ chain_roles (p.Word words.Or) 0 (λ (r : Ranged CondTree). part_of_condition r.tree) (part_of_condition x.tree) (y ∷ ys)) conjunction_parts
 
   -- "not" before it

@@ -27,9 +27,9 @@ use Rattle.gp_fmt.specs.Expressions.{Part, in_parentheses_if, member, is_numeral
 use Rattle.gp_fmt.proofs.Deep.Under.{minus_under, other_under, both_under, zero_under, zero_negated}
 use Rattle.gp_fmt.proofs.Deep.Roles.{piece_role, roles, roles_append, name_role}
 use Rattle.gp_fmt.proofs.Deep.Quiet.{quiet_string_sign, quiet_number_sign, quiet_item, quiet_variable, quiet_empty, quiet_indegree, quiet_outdegree, quiet_length, quiet_colon, quiet_dot, quiet_plus, quiet_star, quiet_slash}
-use Rattle.gp_fmt.proofs.Deep.Texts.{AreSpelled, IsDeeper, then_deeper, recast, wrap, wrapped_deeper, unwrapped_deeper, Covers, other_covers, opening_covers, closing_covers, minus_covers, name_covers, then_covers, made_covers, either_covers, loud_covers, IsSign, minus_sign, other_sign, kind_sign, two_deeper, three_deeper}
+use Rattle.gp_fmt.proofs.Deep.Texts.{AreSpelled, IsDeeper, then_deeper, recast, Covers, other_covers, opening_covers, closing_covers, minus_covers, name_covers, then_covers, made_covers, either_covers, loud_covers, IsSign, minus_sign, other_sign, two_deeper, three_deeper}
 use Rattle.gp_fmt.proofs.Deep.Forms.{operands, of-Number, of-Text, of-Variable, of-InDegree, of-OutDegree, of-Length, of-Empty, of-Negated, of-Sum, of-Product, of-Dot, of-Join}
-use Rattle.gp_fmt.proofs.Deep.Parts.{IsParted, Parts, member_roles, roles_if, needed_deeper, tight, chain_parts, Rows, row_rows, rows_parts}
+use Rattle.gp_fmt.proofs.Deep.Parts.{tree_of, IsParted, Parts, member_roles, roles_if, needed_deeper, tight, bracketed, chain_parts, Rows, row_rows, rows_parts}
 
 abbrev pub expression_level : Tree → ℕ
 expression_level x = (part_of_expression x).level
@@ -114,15 +114,12 @@ leaf_operand x ts rest l d =
 
 -- in parentheses
 nested_operand : (x : Tree) {ts inside last rest : List Token} {t t' : Token} → AreSpelled ts → Is open_sign ts inside t → IsDeeper true 0 0 (expression_roles x) inside last → Is close_sign last rest t' → IsOperand x ts rest
-nested_operand x {ts} {inside} {last} {rest} {t} {t'} s o d c =
-    let opening = (opening_covers k.OpenParenthesis 0 (λ n. refl)).covers ts inside t s o in
-    let closing = (closing_covers k.CloseParenthesis 0 (λ n. refl)).covers last rest t' d.left c in
-    let bare : IsDeeper true 0 0 (expression_roles x) ts rest = unwrapped_deeper (kind_sign k.OpenParenthesis role.Opening (λ n. refl) o) d (kind_sign k.CloseParenthesis role.Closing (λ n. refl) c) in
-    let wrapped : IsDeeper true 0 0 (wrap (expression_roles x)) ts rest = wrapped_deeper opening d closing in
+nested_operand x {ts} {rest = rest} s o d c =
+    let b : IsParted (suc (expression_level x)) (expression_level x) (expression_roles x) ts rest = bracketed s o d c in
     let needed = nat_lt (expression_level x) 4 || is_numeral (expression x) in
     record {
-      parted = record { bare = bare; wrapped = λ lt. wrapped };
-      negated = λ us t s h. recast (ap (λ m. role.Minus ∷ m) (sym (roles_if needed (expression x)))) (then_deeper (minus_covers.covers us ts t s h) (needed_deeper needed bare (λ e. wrapped)));
+      parted = bracketed s o d c;
+      negated = λ us t s h. recast (ap (λ m. role.Minus ∷ m) (sym (roles_if needed (expression x)))) (then_deeper (minus_covers.covers us ts t s h) (needed_deeper needed b.bare (λ e. b.wrapped (omega arith))));
     }
 
 negated_roles : (y : Tree) → expression_roles (e.Negated y) ≡ role.Minus ∷ roles (negand y)
@@ -249,20 +246,20 @@ module _ (g : Grammar (Ranged Tree)) (o : Operands (shape_of g)) where
   unfolding dots
   dots_parts =
       chain_parts (λ (x : Ranged Tree). expression_level x.tree) (λ (x : Ranged Tree). expression_roles x.tree) 1 _ quiet_dot (chained e.Empty e.Dot) (λ x. refl)
-      (λ x y ys. ap (λ (z : Part). z.level) (of-Dot x.tree (map (λ (r : Ranged Tree). r.tree) (y ∷ ys))))
+      (λ x y ys. ap (λ (z : Part). z.level) (of-Dot x.tree (map tree_of (y ∷ ys))))
       (λ x y ys.
-      ap (λ (z : Part). roles z.pieces) (of-Dot x.tree (map (λ (r : Ranged Tree). r.tree) (y ∷ ys)))
-      ∙ ap (λ zs. roles (chain (p.Sign k.Dot) 1 (part_of_expression x.tree) zs).pieces) (maps_twice part_of_expression (λ (r : Ranged Tree). r.tree) (y ∷ ys))
+      ap (λ (z : Part). roles z.pieces) (of-Dot x.tree (map tree_of (y ∷ ys)))
+      ∙ ap (λ zs. roles (chain (p.Sign k.Dot) 1 (part_of_expression x.tree) zs).pieces) (maps_twice part_of_expression tree_of (y ∷ ys))
       ∙ chain_roles (p.Sign k.Dot) 1 (λ (r : Ranged Tree). part_of_expression r.tree) (part_of_expression x.tree) (y ∷ ys)) sum_parts
 
   joins_parts : expression_parts 0 (shape_of (joins g))
   unfolding joins
   joins_parts =
       chain_parts (λ (x : Ranged Tree). expression_level x.tree) (λ (x : Ranged Tree). expression_roles x.tree) 0 _ quiet_colon (chained e.Empty e.Join) (λ x. refl)
-      (λ x y ys. ap (λ (z : Part). z.level) (of-Join x.tree (map (λ (r : Ranged Tree). r.tree) (y ∷ ys))))
+      (λ x y ys. ap (λ (z : Part). z.level) (of-Join x.tree (map tree_of (y ∷ ys))))
       (λ x y ys.
-      ap (λ (z : Part). roles z.pieces) (of-Join x.tree (map (λ (r : Ranged Tree). r.tree) (y ∷ ys)))
-      ∙ ap (λ zs. roles (chain (p.Sign k.Colon) 0 (part_of_expression x.tree) zs).pieces) (maps_twice part_of_expression (λ (r : Ranged Tree). r.tree) (y ∷ ys))
+      ap (λ (z : Part). roles z.pieces) (of-Join x.tree (map tree_of (y ∷ ys)))
+      ∙ ap (λ zs. roles (chain (p.Sign k.Colon) 0 (part_of_expression x.tree) zs).pieces) (maps_twice part_of_expression tree_of (y ∷ ys))
       ∙ chain_roles (p.Sign k.Colon) 0 (λ (r : Ranged Tree). part_of_expression r.tree) (part_of_expression x.tree) (y ∷ ys)) dots_parts
 
   -- ---- one minus or one pair of parentheses more
@@ -272,19 +269,19 @@ module _ (g : Grammar (Ranged Tree)) (o : Operands (shape_of g)) where
   nested_operands = record { operands_of = go }
     where
       go : (ts rest : List Token) (x : Ranged Tree) → AreSpelled ts → shape_of (nested g) ts rest x → IsOperand x.tree ts rest
-      go ts rest x s (one d) = moved (ap (λ (z : Ranged Tree). z.tree) d.made) (behind d.shape.second)
+      go ts rest x s (one d) = moved (ap tree_of d.made) (behind d.shape.second)
         where
           behind : Either (Made negative IsNumberAt) (Made negated (shape_of g)) d.shape.mid rest d.of.1 → IsOperand d.of.1.tree ts rest
           behind (one n) =
-              moved (ap (λ (z : Ranged Tree). z.tree) n.made)
+              moved (ap tree_of n.made)
               (number_operand _ (minus_numeral (nat_le n.of.0 (2 ^ 127)) n.of.1 n.of.0) s (minus_sign d.shape.first) (other_sign number_sign quiet_number_sign n.shape.is))
           behind (other n) =
               let left = (minus_covers.covers ts d.shape.mid d.of.0 s d.shape.first).left in
-              moved (ap (λ (z : Ranged Tree). z.tree) n.made) (negated_operand n.of.tree s d.shape.first (o.operands_of d.shape.mid rest n.of left n.shape))
+              moved (ap tree_of n.made) (negated_operand n.of.tree s d.shape.first (o.operands_of d.shape.mid rest n.of left n.shape))
       go ts rest x s (other (one d)) =
           let left = ((opening_covers k.OpenParenthesis 0 (λ n. refl)).covers ts d.shape.mid d.of.0 s d.shape.first).left in
           let inside = joins_parts.parts d.shape.mid d.shape.second.mid d.of.1.0 left d.shape.second.first in
-          moved (ap (λ (z : Ranged Tree). z.tree) d.made) (nested_operand d.of.1.0.tree s d.shape.first inside.bare d.shape.second.second)
+          moved (ap tree_of d.made) (nested_operand d.of.1.0.tree s d.shape.first inside.bare d.shape.second.second)
       go ts rest x s (other (other d)) = leaf_operand x.tree ts rest (leaves ts rest x d) (leaf_covers.covers ts rest x s d)
 
 -- ---- at each room

@@ -18,9 +18,9 @@ abbrev pub deep : Nesting → ℕ
 deep n = sum n.still + n.run.len
 
 -- the depth at none of them is above this
-abbrev pub Fits : ℕ → Nesting → List Role → Type 0
-Fits k n [] = Unit {0}
-Fits k n (r ∷ rs) = (deep (step n r) ≤ k) × Fits k (step n r) rs
+abbrev pub IsWithin : ℕ → Nesting → List Role → Type 0
+IsWithin k n [] = Unit {0}
+IsWithin k n (r ∷ rs) = (deep (step n r) ≤ k) × IsWithin k (step n r) rs
 
 -- ---- one behind the other
 
@@ -28,17 +28,17 @@ pub after_both : (n : Nesting) (xs ys : List Role) → after n (xs ++ ys) ≡ af
 after_both n [] ys = refl
 after_both n (x ∷ xs) ys = after_both (step n x) xs ys
 
-pub fits_first : (k : ℕ) (n : Nesting) (xs ys : List Role) → Fits k n (xs ++ ys) → Fits k n xs
-fits_first k n [] ys h = tt
-fits_first k n (x ∷ xs) ys h = (h.0, fits_first k (step n x) xs ys h.1)
+pub within_first : (k : ℕ) (n : Nesting) (xs ys : List Role) → IsWithin k n (xs ++ ys) → IsWithin k n xs
+within_first k n [] ys h = tt
+within_first k n (x ∷ xs) ys h = (h.0, within_first k (step n x) xs ys h.1)
 
-pub fits_second : (k : ℕ) (n : Nesting) (xs ys : List Role) → Fits k n (xs ++ ys) → Fits k (after n xs) ys
-fits_second k n [] ys h = h
-fits_second k n (x ∷ xs) ys h = fits_second k (step n x) xs ys h.1
+pub within_second : (k : ℕ) (n : Nesting) (xs ys : List Role) → IsWithin k n (xs ++ ys) → IsWithin k (after n xs) ys
+within_second k n [] ys h = h
+within_second k n (x ∷ xs) ys h = within_second k (step n x) xs ys h.1
 
-pub fits_both : (k : ℕ) (n : Nesting) (xs ys : List Role) → Fits k n xs → Fits k (after n xs) ys → Fits k n (xs ++ ys)
-fits_both k n [] ys g h = h
-fits_both k n (x ∷ xs) ys g h = (g.0, fits_both k (step n x) xs ys g.1 h)
+pub within_both : (k : ℕ) (n : Nesting) (xs ys : List Role) → IsWithin k n xs → IsWithin k (after n xs) ys → IsWithin k n (xs ++ ys)
+within_both k n [] ys g h = h
+within_both k n (x ∷ xs) ys g h = (g.0, within_both k (step n x) xs ys g.1 h)
 
 -- ---- one nesting beside another
 
@@ -61,9 +61,6 @@ pub record IsBelow (s t : List ℕ) (k : ℕ) (n m : Nesting) : Type 0 where
 pub stills_below : {s t : List ℕ} {k : ℕ} {p q : List ℕ} → Stills s t k p q → sum p ≤ sum q
 stills_below (level h) = h
 stills_below (higher h g) = g
-
-pub first_is : {s t p q : List ℕ} → Stills s t zero p q → p ≡ s
-first_is (level h) = refl
 
 pub second_is : {s t p q : List ℕ} → Stills s t zero p q → q ≡ t
 second_is (level h) = refl

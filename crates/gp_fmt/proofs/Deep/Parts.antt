@@ -20,6 +20,9 @@ use Rattle.gp_fmt.specs.Expressions.{in_parentheses_if}
 use Rattle.gp_fmt.proofs.Deep.Roles.{loud, roles, roles_append}
 use Rattle.gp_fmt.proofs.Deep.Texts.{AreSpelled, IsDeeper, then_deeper, recast, wrap, wrapped_deeper, unwrapped_deeper, kind_sign, Covers, opening_covers, closing_covers, sign_covers, many_behind}
 
+abbrev pub tree_of : {A : Type 0} → Ranged A → A
+tree_of r = r.tree
+
 -- as it is, and in parentheses too where its own operator is looser than this level
 pub record IsParted (l level : ℕ) (ps : List Role) (ts rest : List Token) : Type 0 where
   pub bare : IsDeeper true 0 0 ps ts rest
@@ -135,15 +138,15 @@ module _ {S : Type 0} (level : Tree → ℕ) (pieces : Tree → List Role) (l : 
         let part = p.parts ts h.shape.shape.mid f.of s f.shape in
         record {
           first = f.of.tree;
-          others = map (λ (q : Ranged (Signed S Tree)). q.tree) qs;
-          is = ap (λ (z : Ranged (List (Signed S Tree))). z.tree) (h.made ∙ ap (headed head) h.shape.made) ∙ ap (λ (q : Ranged (Signed S Tree)). record { sign = head; operand = q.tree.operand } ∷ map (λ (q : Ranged (Signed S Tree)). q.tree) qs) f.made;
-          row = recast (ap (λ m. signed_member f.of.tree ++ m) (flat_mapped behind_sign (λ (q : Ranged (Signed S Tree)). q.tree) qs)) (many_behind (signed_covers w further g p) (member_deeper part) many);
+          others = map tree_of qs;
+          is = ap tree_of (h.made ∙ ap (headed head) h.shape.made) ∙ ap (λ (q : Ranged (Signed S Tree)). record { sign = head; operand = q.tree.operand } ∷ map tree_of qs) f.made;
+          row = recast (ap (λ m. signed_member f.of.tree ++ m) (flat_mapped behind_sign tree_of qs)) (many_behind (signed_covers w further g p) (member_deeper part) many);
           alone = λ e. ending ts h.shape.shape.mid rest qs f.of.tree part many e;
         };
   }
     where
       ending : (ts mid rest : List Token) (qs : List (Ranged (Signed S Tree))) (x : Tree) → IsParted (suc l) (level x) (pieces x) ts mid → Many (Made second_of (Is w then Made (signed_by further) R)) mid rest qs
-          → map (λ (q : Ranged (Signed S Tree)). q.tree) qs ≡ [] → IsParted (suc l) (level x) (pieces x) ts rest
+          → map tree_of qs ≡ [] → IsParted (suc l) (level x) (pieces x) ts rest
       ending ts mid _ _ x h none e = h
       ending ts mid rest _ x h (more d ds) e = absurd cc
 
@@ -156,13 +159,13 @@ module _ {S : Type 0} (level : Tree → ℕ) (pieces : Tree → List Role) (l : 
     covers = λ ts rest q s d.
         let a = g.covers ts d.shape.mid d.of.0 s d.shape.first in
         let b = p.rows d.shape.mid rest d.of.1 a.left d.shape.second in
-        recast (ap (flat_map behind_sign) (sym (ap (λ (y : Ranged (List (Signed S Tree))). y.tree) d.made ∙ b.is))) (then_deeper a b.row);
+        recast (ap (flat_map behind_sign) (sym (ap tree_of d.made ∙ b.is))) (then_deeper a b.row);
   }
 
-  joined_flat : (ys : List (Ranged (List (Signed S Tree)))) → flat_map (λ (y : Ranged (List (Signed S Tree))). flat_map behind_sign y.tree) ys ≡ flat_map behind_sign (joined (map (λ (y : Ranged (List (Signed S Tree))). y.tree) ys))
+  joined_flat : (ys : List (Ranged (List (Signed S Tree)))) → flat_map (λ (y : Ranged (List (Signed S Tree))). flat_map behind_sign y.tree) ys ≡ flat_map behind_sign (joined (map tree_of ys))
   unfolding joined
   joined_flat [] = refl
-  joined_flat (y ∷ ys) = ap (λ m. flat_map behind_sign y.tree ++ m) (joined_flat ys) ∙ sym (flat_map-append behind_sign y.tree (joined (map (λ (y : Ranged (List (Signed S Tree))). y.tree) ys)))
+  joined_flat (y ∷ ys) = ap (λ m. flat_map behind_sign y.tree ++ m) (joined_flat ys) ∙ sym (flat_map-append behind_sign y.tree (joined (map tree_of ys)))
 
   joined_more : (xs : List (Signed S Tree)) (xss : List (List (Signed S Tree))) → joined (xs ∷ xss) ≡ xs ++ joined xss
   unfolding joined
@@ -180,9 +183,9 @@ module _ {S : Type 0} (level : Tree → ℕ) (pieces : Tree → List Role) (l : 
     parts = λ ts rest y s h.
         let r = p.rows ts h.shape.shape.mid h.shape.of.0 s h.shape.shape.first in
         let ys = h.shape.of.1 in
-        let more_ys = joined (map (λ (y : Ranged (List (Signed S Tree))). y.tree) ys) in
+        let more_ys = joined (map tree_of ys) in
         let trees : y.tree ≡ tree (record { sign = head; operand = r.first } ∷ (r.others ++ more_ys)) =
-        ap (λ (z : Ranged Tree). z.tree) (h.made ∙ ap (λ rs. with tree (all_joined rs)) h.shape.made) ∙ ap (λ m. tree (m ++ more_ys)) r.is
+        ap tree_of (h.made ∙ ap (λ rs. with tree (all_joined rs)) h.shape.made) ∙ ap (λ m. tree (m ++ more_ys)) r.is
         in
         let all : IsDeeper true 0 0 (signed_member r.first ++ flat_map behind_sign (r.others ++ more_ys)) ts rest =
         recast (
@@ -205,10 +208,10 @@ module _ {S : Type 0} (level : Tree → ℕ) (pieces : Tree → List Role) (l : 
       cut (x ∷ xs) zs z vs e h = cc
 
       ending : (ts mid rest : List Token) (ys : List (Ranged (List (Signed S Tree)))) {xs : List (Signed S Tree)} (r : IsRow head xs ts mid) → Many (Made second_of (Is w then R)) mid rest ys
-          → r.others ++ joined (map (λ (y : Ranged (List (Signed S Tree))). y.tree) ys) ≡ [] → IsParted (suc l) (level r.first) (pieces r.first) ts rest
+          → r.others ++ joined (map tree_of ys) ≡ [] → IsParted (suc l) (level r.first) (pieces r.first) ts rest
       ending ts mid _ _ r none e = r.alone (no_more r.others _ e).0
       ending ts mid rest _ r (more {mid = next} {x = y} {xs = ys} d ds) e =
           let a = g.covers mid d.shape.mid d.of.0 r.row.left d.shape.first in
           let b = p.rows d.shape.mid next d.of.1 a.left d.shape.second in
-          let all_is = ap (λ (y : Ranged (List (Signed S Tree))). y.tree) d.made ∙ b.is in
-          absurd (cut y.tree (joined (map (λ (y : Ranged (List (Signed S Tree))). y.tree) ys)) _ _ all_is (sym (joined_more y.tree (map (λ (y : Ranged (List (Signed S Tree))). y.tree) ys)) ∙ (no_more r.others _ e).1))
+          let all_is = ap tree_of d.made ∙ b.is in
+          absurd (cut y.tree (joined (map tree_of ys)) _ _ all_is (sym (joined_more y.tree (map tree_of ys)) ∙ (no_more r.others _ e).1))

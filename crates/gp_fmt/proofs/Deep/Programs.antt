@@ -26,7 +26,7 @@ use Rattle.gp_fmt.proofs.Deep.Roles.{roles, roles_append, name_role}
 use Rattle.gp_fmt.proofs.Deep.Quiet.{quiet_equal, quiet_procedure_name}
 use Rattle.gp_fmt.proofs.Deep.Texts.{IsDeeper, then_deeper, dropped_deeper, recast, wrap, wrapped_deeper, Covers, other_covers, opening_covers, closing_covers, name_covers, then_covers, made_covers, many_covers}
 use Rattle.gp_fmt.proofs.Deep.Forms.{of-Declared, of-Rule}
-use Rattle.gp_fmt.proofs.Deep.Parts.{flat_mapped}
+use Rattle.gp_fmt.proofs.Deep.Parts.{tree_of, flat_mapped}
 use Rattle.gp_fmt.proofs.Deep.Commands.{command_roles, commands_covers}
 use Rattle.gp_fmt.proofs.Deep.Rules.{roles_flat, rule_covers}
 
@@ -41,7 +41,7 @@ all_roles r = roles (flat_map declaration r.tree)
 rules_covers : (room : ℕ) → Covers false 0 0 (shape_of (rules room)) all_roles
 unfolding rules
 rules_covers room =
-    made_covers gathered all_roles (λ rs. roles_flat declaration (λ (r : Ranged Decl). r.tree) rs) (many_covers (made_covers rule_decl declaration_roles (λ (r : Ranged RuleDecl). ap roles (sym (of-Rule r.tree))) (rule_covers room)))
+    made_covers gathered all_roles (λ rs. roles_flat declaration tree_of rs) (many_covers (made_covers rule_decl declaration_roles (λ (r : Ranged RuleDecl). ap roles (sym (of-Rule r.tree))) (rule_covers room)))
 
 -- ---- procedures
 
@@ -85,16 +85,16 @@ module _ (room : ℕ) (inside : Grammar (Ranged (List Decl))) (g : Covers false 
   unfolding procedure_group
   group_covers = made_covers procedure_first all_roles (λ x. sym (roles_append (declaration x.0.tree) (flat_map declaration x.1.tree))) (then_covers procedure_covers (rules_covers room))
 
-  groups_roles : (gs : List (Ranged (List Decl))) → flat_map all_roles gs ≡ roles (flat_map declaration (joined (map (λ (r : Ranged (List Decl)). r.tree) gs)))
+  groups_roles : (gs : List (Ranged (List Decl))) → flat_map all_roles gs ≡ roles (flat_map declaration (joined (map tree_of gs)))
   unfolding joined
   groups_roles [] = refl
   groups_roles (r ∷ gs) =
-      let more = joined (map (λ (r : Ranged (List Decl)). r.tree) gs) in
+      let more = joined (map tree_of gs) in
       ap (λ m. all_roles r ++ m) (groups_roles gs) ∙ sym (roles_append (flat_map declaration r.tree) (flat_map declaration more)) ∙ ap roles (sym (flat_map-append declaration r.tree more))
 
   first_roles : (x : Ranged (List Decl) × List (Ranged (List Decl))) → all_roles x.0 ++ flat_map all_roles x.1 ≡ all_roles (rules_first x)
   first_roles x =
-      let more = joined (map (λ (r : Ranged (List Decl)). r.tree) x.1) in
+      let more = joined (map tree_of x.1) in
       ap (λ m. all_roles x.0 ++ m) (groups_roles x.1) ∙ sym (roles_append (flat_map declaration x.0.tree) (flat_map declaration more)) ∙ ap roles (sym (flat_map-append declaration x.0.tree more))
 
   declarations_in_covers : Covers false 0 0 (shape_of (declarations_in room inside)) all_roles

@@ -35,6 +35,7 @@ use Rattle.gp_fmt.specs.Rules as canonical
 use Rattle.gp_fmt.proofs.Deep.Roles.{piece_role, keyword_role, roles, roles_append, name_role, loud}
 use Rattle.gp_fmt.proofs.Deep.Quiet.{quiet_number_sign, quiet_item, quiet_variable, quiet_rule_name, quiet_comma, quiet_semicolon, quiet_colon, quiet_dot, quiet_bar, quiet_arrow, quiet_equal, quiet_less, quiet_greater, quiet_int, quiet_char, quiet_string, quiet_atom, quiet_list, quiet_where, quiet_interface, quiet_bidirectional, quiet_root}
 use Rattle.gp_fmt.proofs.Deep.Texts.{IsDeeper, then_deeper, dropped_deeper, recast, Covers, other_covers, opening_covers, closing_covers, minus_covers, name_covers, then_covers, made_covers, seen_covers, either_covers, absent_covers, loud_covers, raised_covers, Closes, covers_close, then_close, made_close, either_close, absent_close, dropped_covers, many_covers, separated, sign_covers, separated_covers}
+use Rattle.gp_fmt.proofs.Deep.Parts.{tree_of}
 use Rattle.gp_fmt.proofs.Deep.Expressions.{expression_roles, list_covers}
 use Rattle.gp_fmt.proofs.Deep.Conditions.{label_covers, condition_roles, condition_covers}
 use Rattle.gp_fmt.proofs.Deep.Commands.{names_roles, all_names}
@@ -125,11 +126,11 @@ module _ (lists : Grammar (Ranged Tree)) (g : Covers true 0 0 (shape_of lists) (
 
   nodes_covers : Covers false 0 0 (shape_of (nodes lists)) (λ (r : Ranged (List NodeDecl)). roles (flat_map canonical.node r.tree))
   unfolding nodes
-  nodes_covers = made_covers gathered _ (λ rs. roles_flat canonical.node (λ (r : Ranged NodeDecl). r.tree) rs) (many_covers node_covers)
+  nodes_covers = made_covers gathered _ (λ rs. roles_flat canonical.node tree_of rs) (many_covers node_covers)
 
   edges_covers : Covers false 0 0 (shape_of (edges lists)) (λ (r : Ranged (List EdgeDecl)). roles (flat_map canonical.edge r.tree))
   unfolding edges
-  edges_covers = made_covers gathered _ (λ rs. roles_flat canonical.edge (λ (r : Ranged EdgeDecl). r.tree) rs) (many_covers edge_covers)
+  edges_covers = made_covers gathered _ (λ rs. roles_flat canonical.edge tree_of rs) (many_covers edge_covers)
 
   -- behind the opening bracket
   abbrev body_roles : Ranged GraphDecl → List Role

@@ -1,4 +1,4 @@
--- What of a text has a shape, beside other tokens that are nowhere nested deeper.
+-- Tokens of a text that have a shape, beside others that are nowhere nested deeper.
 use Rattle.std.proofs.Common.{◌≡◌, ℕ, suc, Bool, true, false, List, [], ◌∷◌, ◌++◌, map, All, refl, sym, ◌∙◌, ap, subst, append_assoc, append-nil}
 use Rattle.std.specs.Prelude.{flat_map}
 use Rattle.std.proofs.lemmas.List.Elements.{All-head, All-rest}
@@ -18,13 +18,13 @@ use Rattle.gp_program.specs.declared.depth.Role.{Role}
 use Rattle.gp_program.specs.declared.depth.Role.TheVariants as role
 use Rattle.gp_program.specs.Depth.{role_of, role_by}
 use Rattle.gp_fmt.specs.inside.Spelled.{IsSpelledToken}
-use Rattle.gp_fmt.proofs.Deep.Under.{IsUnder, none_under, both_under, any_under, loud_under, other_under, minus_under, not_under, opening_under, closing_under, raised, dropped, dropped_last, unwrapped}
+use Rattle.gp_fmt.proofs.Deep.Under.{IsUnder, none_under, both_under, loud_under, other_under, minus_under, not_under, opening_under, closing_under, raised, dropped, dropped_last, unwrapped}
 use Rattle.gp_fmt.proofs.Deep.Roles.{loud, other_role, sign_role, not_role, name_role, is_name, name_is, IsPlainOrNot, plain, is_not, word_role}
 
 pub record AreSpelled (ts : List Token) : Type 0 where
   pub spelled : All IsSpelledToken ts
 
--- Tokens of these roles, beside the tokens up to the rest: from so many signs open to so many.
+-- The tokens up to the rest are somewhere nested as deep as tokens of these roles, or deeper: from a open signs to b.
 pub record IsDeeper (q : Bool) (a b : ℕ) (ps : List Role) (ts rest : List Token) : Type 0 where
   pub segment : List Role
   pub split : map role_of ts ≡ segment ++ map role_of rest
@@ -41,9 +41,6 @@ then_deeper {q} {r} {a} {b} {c} {ps} {qs} {ts} {mid} {rest} d e = record {
   left = e.left;
   under = both_under q r a b c ps qs d.segment e.segment d.under e.under;
 }
-
-pub any_deeper : {a b : ℕ} {ps : List Role} {ts rest : List Token} (q : Bool) → IsDeeper true a b ps ts rest → IsDeeper q a b ps ts rest
-any_deeper q d = record { segment = d.segment; split = d.split; left = d.left; under = any_under q _ _ _ _ d.under }
 
 pub loud_deeper : {q : Bool} {a b : ℕ} {ps : List Role} {ts rest : List Token} → IsDeeper q a b ps ts rest → IsDeeper false a b ps ts rest
 loud_deeper d = record { segment = d.segment; split = d.split; left = d.left; under = loud_under _ _ _ _ _ d.under }
@@ -75,7 +72,7 @@ wrapped_deeper o d c = then_deeper o (then_deeper (raised_deeper 1 d) c)
 
 -- ---- shapes
 
--- What has the shape, beside tokens of roles that its tree tells.
+-- What has the shape is nested as deep as tokens of the roles that its tree tells.
 pub record Covers {A : Type 0} (q : Bool) (a b : ℕ) (R : Shape A) (v : A → List Role) : Type 0 where
   pub covers : (ts rest : List Token) (x : A) → AreSpelled ts → R ts rest x → IsDeeper q a b (v x) ts rest
 
@@ -153,9 +150,6 @@ absent_covers {A} a y v e = record { covers = go }
   where
     go : (ts rest : List Token) (x : A) → AreSpelled ts → Absent y ts rest x → IsDeeper false a a (v x) ts rest
     go ts _ _ s absent = recast e (none_deeper a ts s)
-
-pub any_covers : {A : Type 0} {a b : ℕ} {R : Shape A} {v : A → List Role} (q : Bool) → Covers true a b R v → Covers q a b R v
-any_covers q g = record { covers = λ ts rest x s d. any_deeper q (g.covers ts rest x s d) }
 
 pub loud_covers : {A : Type 0} {q : Bool} {a b : ℕ} {R : Shape A} {v : A → List Role} → Covers q a b R v → Covers false a b R v
 loud_covers g = record { covers = λ ts rest x s d. loud_deeper (g.covers ts rest x s d) }
