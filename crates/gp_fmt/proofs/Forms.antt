@@ -1,6 +1,6 @@
 -- What each form of tree is as a part.
-use Rattle.std.proofs.Common.{◌≡◌, ℕ, ℤ, List, [], ◌∷◌, ◌++◌, map, length, arith, Option, refl, sym, ap, subst, ◌∙◌}
-use Rattle.std.specs.Prelude.{Result, OnOk}
+use Rattle.std.proofs.Common.{◌≡◌, ℕ, ℤ, List, [], ◌∷◌, ◌++◌, map, length, false, Option, refl, sym, ap, subst, ◌∙◌}
+use Rattle.std.specs.Prelude.{nat_eq, Result, OnOk}
 use Rattle.std.specs.List.{flat_map}
 use Rattle.gp_tokens.specs.declared.keyword.Keyword.TheVariants as words
 use Rattle.gp_tokens.specs.declared.token.Kind.TheVariants as k
@@ -184,10 +184,6 @@ pub declaration-Rule : (r : RuleDecl) → declaration (declarations.Rule r) ≡ 
 unfolding declaration
 declaration-Rule r = ap declaration (sym (declarations.rolls-Rule r)) ∙ fold-roll-Decl (List Piece) declaration_step (Decl-F.Rule r)
 
-pub locals_are : (ds : List Decl) → (length ds ≡ 0 → ⊥) → locals (map declaration ds) ≡ p.Sign k.OpenBracket ∷ flat_map declaration ds ++ p.Sign k.CloseBracket ∷ []
-locals_are [] some = absurd (some refl)
+pub locals_are : (ds : List Decl) → nat_eq (length ds) 0 ≡ false → locals (map declaration ds) ≡ p.Sign k.OpenBracket ∷ flat_map declaration ds ++ p.Sign k.CloseBracket ∷ []
+locals_are [] some = absurd cc
 locals_are (d ∷ ds) some = ap (λ l. p.Sign k.OpenBracket ∷ l ++ p.Sign k.CloseBracket ∷ []) (linked (λ x. x) declaration (d ∷ ds))
-
-pub no_locals : (ds : List Decl) → length ds ≡ 0 → locals (map declaration ds) ≡ []
-no_locals [] none = refl
-no_locals (d ∷ ds) none = absurd (omega (arith, none))

@@ -25,10 +25,13 @@ module _ (last next : Piece) (ps : List Piece) (i : ℕ) (lt : i < length ps) (i
 
   pub one_more_done : (whole old mid new : List ℕ) → IsDone whole old mid (spaced_behind last (drop i ps)) → new ≡ mid ++ (gap last next ++ text_of next) → IsDone whole old new (spaced_behind next (drop (i + 1) ps))
   one_more_done whole old mid new d h =
-      let piece = gap last next ++ text_of next in
-      (d.0 ++ piece,
-      (h ∙ ap (λ m. m ++ piece) d.1.0 ∙ append_assoc old d.0 piece,
-      d.1.1 ∙ ap (λ l. d.0 ++ l) from_here ∙ sym (append_assoc d.0 piece (spaced_behind next (drop (i + 1) ps)))))
+      let piece = gap last next ++ text_of next in (
+        d.0 ++ piece,
+        (
+          h ∙ ap (λ m. m ++ piece) d.1.0 ∙ append_assoc old d.0 piece,
+          d.1.1 ∙ ap (λ l. d.0 ++ l) from_here ∙ sym (append_assoc d.0 piece (spaced_behind next (drop (i + 1) ps))),
+        ),
+      )
 
   pub begun_here : (whole old mid new : List ℕ) → IsDone whole old mid (spaced_behind last (drop i ps)) → IsBegun (gap last next ++ text_of next) mid new → IsBegun whole old new
   begun_here whole old mid new d h =

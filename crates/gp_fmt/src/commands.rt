@@ -16,8 +16,11 @@ use gp_syntax::{CommandTree, Name};
 use gp_tokens::{Keyword, Kind};
 
 const SEQUENCE_LEVEL: u8 = 0;
+
 const BRANCH_LEVEL: u8 = 1;
+
 const CHOICE_LEVEL: u8 = 2;
+
 const SIMPLE_LEVEL: u8 = 3;
 
 // How tightly a command holds together: a chain of `;` least, then `if` and `try`, then a chain of `or`.
@@ -73,10 +76,7 @@ fn is_nothing(c: &CommandTree) -> bool
 }
 
 /// Puts names in braces, with commas between them.
-pub(crate) fn put_set<'a>(
-    all: &'a [Name],
-    pieces: &mut Vec<Piece<'a>>,
-) -> Result<(), NoMemory>
+pub(crate) fn put_set<'a>(all: &'a [Name], pieces: &mut Vec<Piece<'a>>) -> Result<(), NoMemory>
     ensures { OnOk result (pieces.new.items ≡ pieces.old.items ++ in_braces (names all.now)) }
 {
     put_sign(Kind::OpenBrace, pieces)?;
@@ -138,11 +138,7 @@ fn put_part<'a>(
 
 // Puts a command, in parentheses where its own level is below this one.
 #[cycle(command)]
-fn put_from<'a>(
-    limit: u8,
-    c: &'a CommandTree,
-    pieces: &mut Vec<Piece<'a>>,
-) -> Result<(), NoMemory>
+fn put_from<'a>(limit: u8, c: &'a CommandTree, pieces: &mut Vec<Piece<'a>>) -> Result<(), NoMemory>
     ensures { OnOk result (pieces.new.items ≡ pieces.old.items ++ in_parentheses_if (nat_lt (level (part_of_command c.now).form) limit) (command c.now)) }
 {
     put_part(level_of(c) < limit, c, pieces)

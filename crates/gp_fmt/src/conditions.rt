@@ -16,7 +16,9 @@ use gp_syntax::{Comparison, Cond, Expr, Name, VariableType};
 use gp_tokens::{Keyword, Kind};
 
 const OR_LEVEL: u8 = 0;
+
 const AND_LEVEL: u8 = 1;
+
 const NOT_LEVEL: u8 = 2;
 
 // How tightly the own operator of a condition binds.
@@ -156,7 +158,13 @@ pub(crate) fn put_condition<'a>(
         }
         Cond::Not(part) => put_not(part.get(), pieces),
         Cond::And(first, rest) => {
-            put_chain(Keyword::And, AND_LEVEL, first.get(), rest.as_slice(), pieces)
+            put_chain(
+                Keyword::And,
+                AND_LEVEL,
+                first.get(),
+                rest.as_slice(),
+                pieces,
+            )
         }
         Cond::Or(first, rest) => {
             put_chain(Keyword::Or, OR_LEVEL, first.get(), rest.as_slice(), pieces)
@@ -184,10 +192,7 @@ fn put_part<'a>(
 
 // Puts a `not` and its operand.
 #[cycle(condition)]
-fn put_not<'a>(
-    c: &'a Cond<Name, Option<Name>>,
-    pieces: &mut Vec<Piece<'a>>,
-) -> Result<(), NoMemory>
+fn put_not<'a>(c: &'a Cond<Name, Option<Name>>, pieces: &mut Vec<Piece<'a>>) -> Result<(), NoMemory>
     ensures { OnOk result (pieces.new.items ≡ pieces.old.items ++ p.Word words.Not ∷ operand not_level (part_of_condition c.now)) }
 {
     put_word(Keyword::Not, pieces)?;

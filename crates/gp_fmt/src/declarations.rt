@@ -1,6 +1,6 @@
 //! The tokens of declarations.
 
-ghost use Rattle.std.specs.Prelude.{◌≡◌, map, ◌∷◌, ◌++◌, OnOk};
+ghost use Rattle.std.specs.Prelude.{◌≡◌, map, [], ◌∷◌, ◌++◌, OnOk};
 ghost use Rattle.std.specs.List.{flat_map};
 ghost use Rattle.gp_tokens.specs.declared.token.Kind.TheVariants as k;
 ghost use Rattle.gp_fmt.specs.declared.piece.Piece.TheVariants as p;
@@ -17,10 +17,7 @@ use gp_tokens::Kind;
 
 /// Puts a declaration.
 #[cycle(declaration)]
-pub(crate) fn put_declaration<'a>(
-    d: &'a Decl,
-    pieces: &mut Vec<Piece<'a>>,
-) -> Result<(), NoMemory>
+pub(crate) fn put_declaration<'a>(d: &'a Decl, pieces: &mut Vec<Piece<'a>>) -> Result<(), NoMemory>
     ensures { OnOk result (pieces.new.items ≡ pieces.old.items ++ declaration d.now) }
 {
     match d {
@@ -51,15 +48,23 @@ fn put_procedure<'a>(
 
 // Puts local declarations in brackets, where there are any.
 #[cycle(declaration)]
-fn put_locals<'a>(
-    declarations: &'a [Decl],
-    pieces: &mut Vec<Piece<'a>>,
-) -> Result<(), NoMemory>
+fn put_locals<'a>(declarations: &'a [Decl], pieces: &mut Vec<Piece<'a>>) -> Result<(), NoMemory>
     ensures { OnOk result (pieces.new.items ≡ pieces.old.items ++ locals (map declaration declarations.now)) }
 {
     if declarations.is_empty() {
         return Ok(());
     }
+    put_in_brackets(declarations, pieces)
+}
+
+// Puts declarations in brackets.
+#[cycle(declaration)]
+fn put_in_brackets<'a>(
+    declarations: &'a [Decl],
+    pieces: &mut Vec<Piece<'a>>,
+) -> Result<(), NoMemory>
+    ensures { OnOk result (pieces.new.items ≡ pieces.old.items ++ (p.Sign k.OpenBracket ∷ flat_map declaration declarations.now ++ p.Sign k.CloseBracket ∷ [])) }
+{
     put_sign(Kind::OpenBracket, pieces)?;
     put_declarations(declarations, pieces)?;
     put_sign(Kind::CloseBracket, pieces)

@@ -13,9 +13,13 @@ use gp_syntax::{Expr, Name, ProductSign, Signed, SumSign};
 use gp_tokens::{Keyword, Kind};
 
 const JOIN_LEVEL: u8 = 0;
+
 const DOT_LEVEL: u8 = 1;
+
 const SUM_LEVEL: u8 = 2;
+
 const PRODUCT_LEVEL: u8 = 3;
+
 const MINUS_LEVEL: u8 = 4;
 
 // How tightly the own operator of an expression binds.
@@ -39,10 +43,10 @@ fn level_of(e: &Expr<Name>) -> u8
 }
 
 // Whether the numeral has no minus in it.
-fn is_from_zero(value: i128) -> bool
-    ensures { result ≡ is_numeral (numeral value) }
+fn is_from_zero(value: &i128) -> bool
+    ensures { result ≡ is_numeral (numeral value.now) }
 {
-    value >= 0
+    *value >= 0
 }
 
 // Whether the operand of a minus stands in parentheses: a minus directly before a numeral from 0 up would be its own.
@@ -55,7 +59,7 @@ fn minus_needs_parentheses(e: &Expr<Name>) -> bool
         Expr::Sum(_, _) => true,
         Expr::Product(_, _) => true,
         Expr::Negated(_) => false,
-        Expr::Number(value) => is_from_zero(*value),
+        Expr::Number(value) => is_from_zero(value),
         Expr::Text(_) => false,
         Expr::Variable(_) => false,
         Expr::InDegree(_) => false,
@@ -92,10 +96,10 @@ fn put_below_zero(distance: u128, pieces: &mut Vec<Piece<'_>>) -> Result<(), NoM
 }
 
 // Puts a numeral.
-fn put_numeral(value: i128, pieces: &mut Vec<Piece<'_>>) -> Result<(), NoMemory>
-    ensures { OnOk result (pieces.new.items ≡ pieces.old.items ++ numeral value) }
+fn put_numeral(value: &i128, pieces: &mut Vec<Piece<'_>>) -> Result<(), NoMemory>
+    ensures { OnOk result (pieces.new.items ≡ pieces.old.items ++ numeral value.now) }
 {
-    if value >= 0 {
+    if *value >= 0 {
         put_number(value.unsigned_abs(), pieces)
     } else {
         put_below_zero(value.unsigned_abs(), pieces)
@@ -125,7 +129,7 @@ pub(crate) fn put_expression<'a>(
     ensures { OnOk result (pieces.new.items ≡ pieces.old.items ++ expression e.now) }
 {
     match e {
-        Expr::Number(value) => put_numeral(*value, pieces),
+        Expr::Number(value) => put_numeral(value, pieces),
         Expr::Text(characters) => put_string(characters.as_bytes(), pieces),
         Expr::Variable(name) => put_name(name, pieces),
         Expr::InDegree(name) => put_applied(Keyword::Indegree, name, pieces),
@@ -139,7 +143,13 @@ pub(crate) fn put_expression<'a>(
             put_chain(Kind::Dot, DOT_LEVEL, first.get(), rest.as_slice(), pieces)
         }
         Expr::Join(first, rest) => {
-            put_chain(Kind::Colon, JOIN_LEVEL, first.get(), rest.as_slice(), pieces)
+            put_chain(
+                Kind::Colon,
+                JOIN_LEVEL,
+                first.get(),
+                rest.as_slice(),
+                pieces,
+            )
         }
     }
 }
@@ -173,11 +183,7 @@ fn put_negated<'a>(e: &'a Expr<Name>, pieces: &mut Vec<Piece<'a>>) -> Result<(),
 
 // Puts a member of a chain of this level.
 #[cycle(expression)]
-fn put_member<'a>(
-    level: u8,
-    e: &'a Expr<Name>,
-    pieces: &mut Vec<Piece<'a>>,
-) -> Result<(), NoMemory>
+fn put_member<'a>(level: u8, e: &'a Expr<Name>, pieces: &mut Vec<Piece<'a>>) -> Result<(), NoMemory>
     ensures { OnOk result (pieces.new.items ≡ pieces.old.items ++ member level (part_of_expression e.now)) }
 {
     put_operand(level_of(e) <= level, e, pieces)

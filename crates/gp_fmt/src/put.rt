@@ -77,10 +77,7 @@ pub(crate) fn put_names_behind<'a>(
 }
 
 /// Puts names with commas between them.
-pub(crate) fn put_names<'a>(
-    all: &'a [Name],
-    pieces: &mut Vec<Piece<'a>>,
-) -> Result<(), NoMemory>
+pub(crate) fn put_names<'a>(all: &'a [Name], pieces: &mut Vec<Piece<'a>>) -> Result<(), NoMemory>
     ensures { OnOk result (pieces.new.items ≡ pieces.old.items ++ names all.now) }
 {
     match all.split_first() {

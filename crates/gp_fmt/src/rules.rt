@@ -20,10 +20,7 @@ use gp_syntax::{Cond, EdgeDecl, GraphDecl, Name, NodeDecl, RuleDecl, VariableGro
 use gp_tokens::{Keyword, Kind};
 
 // Puts variables that are declared together.
-fn put_group<'a>(
-    group: &'a VariableGroup,
-    pieces: &mut Vec<Piece<'a>>,
-) -> Result<(), NoMemory>
+fn put_group<'a>(group: &'a VariableGroup, pieces: &mut Vec<Piece<'a>>) -> Result<(), NoMemory>
     ensures { OnOk result (pieces.new.items ≡ pieces.old.items ++ variable_group group.now) }
 {
     put_name(&group.first, pieces)?;

@@ -4,7 +4,7 @@ use Rattle.gp_fmt.specs.declared.piece.Piece.TheVariants as p
 use Rattle.gp_fmt.specs.Commands.{command}
 use Rattle.gp_fmt.specs.Canonical.{declaration, locals}
 use Rattle.gp_fmt.specs.inside.Sizes.{declaration_size, declaration_sizes}
-use Rattle.gp_fmt.proofs.Forms.{told, declaration-Procedure, declaration-Rule}
+use Rattle.gp_fmt.proofs.Forms.{told, locals_are, declaration-Procedure, declaration-Rule}
 use Rattle.gp_fmt.proofs.Sizes.{size_within, declaration_size-Procedure}
 use Rattle.gp_fmt.proofs.declarations.+declaration.Goals as goal
 
@@ -26,3 +26,7 @@ pub put_declarations-put_declaration-requires : goal.put_declarations-put_declar
 put_declarations-put_declaration-requires t c =
     let l : declaration_size c.d-item.result ≤ declaration_sizes c.args.declarations.now = size_within declaration_size c.args.declarations.now c.each.d-index c.d-item.result c.each-test.true c.d-item.is in
     (omega arith, tt)
+
+pub put_locals-returns : goal.put_locals-returns
+put_locals-returns t c =
+    told c.put_in_brackets.result c.args.pieces.now.items c.put_in_brackets.new.pieces.items (locals_are c.args.declarations.now (sym c.is_empty.ensures ∙ c.if-is_empty.false)) c.put_in_brackets.ensures
