@@ -1,8 +1,7 @@
 -- Numerals, by their signs.
-use Rattle.std.proofs.Common.{◌≡◌, ℕ, ℤ, pos, negsuc, Bool, true, false, List, [], ◌∷◌, refl, sym, ◌∙◌, int_le, unsigned_abs, true≢false}
+use Rattle.std.proofs.Common.{◌≡◌, ℕ, ℤ, pos, negsuc, Bool, true, false, [], ◌∷◌, refl, sym, ◌∙◌, int_le, unsigned_abs, true≢false}
 use lib.Dec.{leb-zero}
 use Rattle.std.specs.Prelude.{◌||◌, nat_lt}
-use Rattle.gp_fmt.specs.declared.piece.Piece.{Piece}
 use Rattle.gp_fmt.specs.declared.piece.Piece.TheVariants as p
 use Rattle.gp_fmt.specs.Expressions.{Part, numeral, minus_level, is_numeral}
 

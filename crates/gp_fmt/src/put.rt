@@ -1,10 +1,8 @@
 //! Tokens that stand alone, and names with commas between them, put behind those that are there.
 
 ghost use Rattle.std.specs.Prelude.{◌≡◌, [], ◌∷◌, ◌++◌, OnOk};
-ghost use Rattle.std.specs.List.{flat_map};
 ghost use Rattle.gp_fmt.specs.declared.piece.Piece.TheVariants as p;
 ghost use Rattle.gp_fmt.specs.Commands.{names, names_behind};
-ghost use Rattle.gp_fmt.specs.inside.Links.{name_link};
 
 use crate::piece::Piece;
 use gp_memory::NoMemory;

@@ -1,6 +1,6 @@
 //! The tokens of rules.
 
-ghost use Rattle.std.specs.Prelude.{◌≡◌, [], ◌∷◌, ◌++◌, OnOk};
+ghost use Rattle.std.specs.Prelude.{◌≡◌, ◌∷◌, ◌++◌, OnOk};
 ghost use Rattle.std.specs.List.{flat_map};
 ghost use Rattle.gp_tokens.specs.declared.token.Kind.TheVariants as k;
 ghost use Rattle.gp_tokens.specs.declared.keyword.Keyword.TheVariants as words;

@@ -1,5 +1,5 @@
 -- The further parts of chains as they stand in a tree, each with what stands before it.
-use Rattle.std.specs.Prelude.{ℕ, List, [], ◌∷◌, Option}
+use Rattle.std.specs.Prelude.{ℕ, List, ◌∷◌, Option}
 use Rattle.gp_tokens.specs.declared.keyword.Keyword.{Keyword}
 use Rattle.gp_tokens.specs.declared.keyword.Keyword.TheVariants as words
 use Rattle.gp_tokens.specs.declared.token.Kind.{Kind}
@@ -35,9 +35,6 @@ sequence_link c = p.Sign k.Semicolon ∷ in_sequence (part_of_command c)
 
 abbrev pub choice_link : CommandTree → List Piece
 choice_link c = p.Word words.Or ∷ in_choice (part_of_command c)
-
-abbrev pub name_link : Name → List Piece
-name_link n = p.Sign k.Comma ∷ p.Name n ∷ []
 
 abbrev pub group_link : VariableGroup → List Piece
 group_link g = p.Sign k.Semicolon ∷ variable_group g
