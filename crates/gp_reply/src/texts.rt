@@ -202,7 +202,7 @@ fn refusal(alloc: Global, status: Status, text: &[u8]) -> Result<Reply, NoMemory
 
 // A refusal that is told by this line, unless memory is refused for it.
 fn told(alloc: Global, status: Status, line: Result<Vec<u8>, NoMemory>) -> Result<Reply, NoMemory>
-    ensures { (text : List ℕ) → IfOk line.entry (λ v. v.items ≡ text) → IfOk result (IsOnErr status text) }
+    ensures { (text : List ℕ) → IfOk line (λ v. v.items ≡ text) → IfOk result (IsOnErr status text) }
 {
     match line {
         Ok(line) => Ok(on_err(alloc, status, line)),
