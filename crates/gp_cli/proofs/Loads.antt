@@ -13,7 +13,6 @@ use Rattle.gp_syntax.specs.declared.found.Item.{Item}
 use Rattle.gp_syntax.specs.declared.command.ProgramParts.{ProgramParts}
 use Rattle.gp_syntax.specs.Run as meant
 use Rattle.gp_trace.specs.declared.version.Version.{Version}
-use Rattle.gp_derivation.specs.Derivation.{IsDerivation}
 use Rattle.gp_script.specs.declared.line.Line.{Line}
 use Rattle.gp_words.specs.CommandLine.{CheckCommand}
 use Rattle.gp_graph.specs.declared.graph.Graph.{Graph}
@@ -160,9 +159,7 @@ module _ {old mid new : KnownFiles} (same : mid.content ≡ old.content) (later 
 
 -- ---- whether it is a derivation, as it is said
 
-module _ {old new : KnownFiles} {k : CheckCommand} {p : meant.Program} {g : AnyGraph} {version : Version} {items : List meant.Item} {text : List ℕ} where
-  pub checked : HasTrace old.content k.trace version items → HasBytes old.content k.result text → (r : Result Bool NoMemory) →
-      IfOk r (λ b. Decides b (IsDerivation p g version items text)) → IfSettled (Checks old new k p g) (verdict r)
-  checked ht hr (Ok true) h = is_derivation ht hr (h.0 refl)
-  checked ht hr (Ok false) h = is_none ht hr (λ d. let e = h.1 d in absurd cc)
-  checked ht hr (Err e) h = tt
+pub checked : (P : texts.Said → Type 0) {D : Type 0} → (D → P texts.derivation) → ((D → ⊥) → P texts.no_derivation) → (r : Result Bool NoMemory) → IfOk r (λ b. Decides b D) → IfSettled P (verdict r)
+checked P one other (Ok true) h = one (h.0 refl)
+checked P one other (Ok false) h = other (λ d. let e = h.1 d in absurd cc)
+checked P one other (Err e) h = tt

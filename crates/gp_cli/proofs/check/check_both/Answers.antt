@@ -1,6 +1,6 @@
 use Rattle.std.proofs.lemmas.Result.{err_from_is_err_and}
 use Rattle.gp_reply.specs.Texts.{long_result}
-use Rattle.gp_cli.specs.Answer.{StopsAtTrace, Checks, at_trace, at_result}
+use Rattle.gp_cli.specs.Answer.{StopsAtTrace, Checks, at_trace, at_result, is_derivation, is_none}
 use Rattle.gp_cli.specs.inside.Parts.{StopsAtFile}
 use Rattle.gp_cli.proofs.Loads.{stopped_so, result_stop, result_since, bytes_since, checked}
 use Rattle.gp_cli.proofs.check.check_both.Goals as goal
@@ -20,5 +20,6 @@ returns-in_err-text g c =
 pub returns : goal.returns
 returns g c =
     let loaded = c.in_ok-trace.ensures in
+    let result = bytes_since loaded.same c.in_ok-text.ensures.loads in
     let d = rw (c.deref.ensures.value, c.deref-2.ensures.value) at c.is_derivation.ensures in
-    rw c.verdict.ensures (checked loaded.loads (bytes_since loaded.same c.in_ok-text.ensures.loads) _ d)
+    rw c.verdict.ensures (checked (Checks _ _ _ _ _) (λ x. is_derivation loaded.loads result x) (λ n. is_none loaded.loads result n) _ d)
