@@ -6,7 +6,7 @@ use Rattle.gp_values.specs.Names.{Name}
 use Rattle.gp_values.specs.Graph.{Graph}
 use Rattle.gp_syntax.specs.Run.{Program}
 use Rattle.gp_words.specs.CommandLine.{Command, run, demo, check, step, command_of}
-use Rattle.gp_cli.specs.Texts.{Said, usage}
+use Rattle.gp_reply.specs.Texts.{Said, usage}
 use Rattle.gp_cli.specs.Answer.{Comes, OfBoth, RunAnswers, Checks, CheckAnswers, Steps, StepAnswers, DemoAnswers, IsTrue, of_words, of_run, of_demo, of_check, of_step}
 use Rattle.gp_cli.specs.Completes.{files_of}
 

@@ -9,7 +9,7 @@ use Rattle.gp_reader.specs.Laws.{TextsHaveNoFault, TextsHaveOneProgram}
 use Rattle.gp_derivation.specs.Derivation.{IsDerivation}
 use Rattle.gp_trace.specs.declared.version.Version.TheVariants.{Two}
 use Rattle.gp_words.specs.CommandLine.{run, demo, check, step, command_of}
-use Rattle.gp_cli.specs.Texts.{Said}
+use Rattle.gp_reply.specs.Texts.{Said}
 use Rattle.gp_cli.specs.Answer.{HasProgram, HasHost, HasTrace, IsTrue, Answered, replied, no_memory, out_fault, err_fault}
 use Rattle.gp_cli.specs.Completes.{IsOneOf, Stays, NoSinkFails, NothingFails, Refuses, RunCompletes, CheckCompletes, ChecksRuns, StepCompletes, DemoCompletes, RefusesWords, files_of, RefusesProgram, RefusesHost, RefusesTrace, RefusesResult, RefusesScript, RefusesDemoProgram, RefusesDemoHost, TellsFaults, Completes}
 use Rattle.gp_cli.specs.Written.{TakesAll}

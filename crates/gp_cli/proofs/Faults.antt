@@ -14,7 +14,7 @@ use Rattle.gp_script.specs.declared.fault.ScriptFault.{ScriptFault}
 use Rattle.gp_script.specs.declared.fault.ScriptFault.TheVariants as unread
 use Rattle.gp_script.specs.Script as script
 use Rattle.gp_cli.specs.inside.Parts.{HostsOrFaults, TellsOrFaults, TracesOrFaults, ScriptsOrFaults}
-use Rattle.gp_cli.specs.inside.Told.{host_refused, program_refused, trace_refused, script_refused}
+use Rattle.gp_reply.specs.Said.{host_refused, program_refused, trace_refused, script_refused}
 
 -- ---- what is refused
 

@@ -2,14 +2,12 @@ pub mod Bits
 pub mod Causes
 pub mod Commands
 pub mod Completeness
-pub mod Counting
-pub mod Depths
+pub mod Demos
 pub mod Faults
 pub mod Held
 pub mod Loads
 pub mod Pieces
 pub mod Ran
 pub mod Runs
-pub mod Shown
 pub mod Stepped
 pub mod Written

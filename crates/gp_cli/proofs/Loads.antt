@@ -1,9 +1,11 @@
 -- From what is read of the files to what is answered.
-use Rattle.std.proofs.Common.{◌≡◌, ℕ, ◌≤◌, List, sym, subst, arith, inl, inr}
-use Rattle.std.specs.Prelude.{◌⊎◌, Option, Result, Ok, Err}
+use Rattle.std.proofs.Common.{◌≡◌, ℕ, ◌≤◌, List, refl, sym, subst, arith, inl, inr}
+use Rattle.std.specs.Prelude.{◌⊎◌, Bool, true, false, Option, Result, Ok, Err, IfOk}
+use Rattle.std.specs.Bool.{Decides}
 use Rattle.std.specs.declared.vec.Vec.{Vec}
 use Rattle.std.specs.declared.alloc.Global.{Global}
 use Rattle.gp_memory.specs.Free.{Free}
+use Rattle.gp_memory.specs.declared.refusal.NoMemory.{NoMemory}
 use Rattle.gp_io.specs.Outside.{Content, KnownFiles, Rose, LacksFile}
 use Rattle.gp_values.specs.Names.{Name}
 use Rattle.gp_values.specs.Graph.{Graph as AnyGraph}
@@ -11,20 +13,16 @@ use Rattle.gp_syntax.specs.declared.found.Item.{Item}
 use Rattle.gp_syntax.specs.declared.command.ProgramParts.{ProgramParts}
 use Rattle.gp_syntax.specs.Run as meant
 use Rattle.gp_trace.specs.declared.version.Version.{Version}
-use Rattle.gp_reader.specs.declared.fault.ProgramFault.{ProgramFault}
-use Rattle.gp_reader.specs.Program.{IsFaultyText}
-use Rattle.gp_hostfile.specs.declared.fault.HostFault.{HostFault}
-use Rattle.gp_hostfile.specs.Host.{IsHostFault}
 use Rattle.gp_script.specs.declared.line.Line.{Line}
-use Rattle.gp_words.specs.CommandLine.{DemoCommand, CheckCommand}
+use Rattle.gp_words.specs.CommandLine.{CheckCommand}
 use Rattle.gp_graph.specs.declared.graph.Graph.{Graph}
-use Rattle.gp_cli.specs.declared.said.Said.{Said}
-use Rattle.gp_cli.specs.declared.said.Stop.{Stop}
-use Rattle.gp_cli.specs.declared.said.Stop.TheVariants as stops
-use Rattle.gp_cli.specs.Texts as texts
-use Rattle.gp_cli.specs.Answer.{HasBytes, HasLongFile, HasTrace, HasScript, TellsProgram, demo_program, demo_host, DemoAnswers, demo_program_is_bad, demo_host_is_bad, CannotRead, risen, lacking, StopsAtProgram, program_is_long, program_is_bad, program_is_unread, StopsAtHost, host_is_long, host_is_bad, host_is_unread, StopsAtTrace, trace_is_long, trace_is_bad, trace_is_unread, StopsAtResult, result_is_long, result_is_unread, StopsAtScript, script_is_long, script_is_bad, script_is_unread, Checks, at_trace, at_result, is_derivation, is_none}
-use Rattle.gp_cli.specs.inside.Parts.{StopsAtFile, too_long, unread, TellsOrFaults, HostsOrFaults, TracesOrFaults, ScriptsOrFaults, LoadsProgram, LoadsHost, LoadsTrace, LoadsScript}
-use Rattle.gp_cli.specs.inside.Told.{said_of, IsAnswer}
+use Rattle.gp_reply.specs.declared.said.Said.{Said}
+use Rattle.gp_reply.specs.declared.said.Stop.{Stop}
+use Rattle.gp_reply.specs.declared.said.Stop.TheVariants as stops
+use Rattle.gp_reply.specs.Texts as texts
+use Rattle.gp_cli.specs.Answer.{HasBytes, HasLongFile, HasTrace, HasScript, CannotRead, risen, lacking, StopsAtProgram, program_is_long, program_is_bad, program_is_unread, StopsAtHost, host_is_long, host_is_bad, host_is_unread, StopsAtTrace, trace_is_long, trace_is_bad, trace_is_unread, StopsAtResult, result_is_long, result_is_unread, StopsAtScript, script_is_long, script_is_bad, script_is_unread, OfBoth, at_program, at_host, behind_both, Checks, at_trace, at_result, is_derivation, is_none}
+use Rattle.gp_cli.specs.inside.Parts.{StopsAtFile, too_long, unread, StopsAtBoth, verdict, TellsOrFaults, HostsOrFaults, TracesOrFaults, ScriptsOrFaults, LoadsProgram, LoadsHost, LoadsTrace, LoadsScript}
+use Rattle.gp_reply.specs.Said.{said_of, IsAnswer, or_stopped}
 
 pub read_cause : (old new : KnownFiles) (name : Name) → Rose old.faults new.faults ⊎ (LacksFile old.content name × (new.faults ≡ old.faults)) → CannotRead old new name
 read_cause old new name (inl r) = risen r
@@ -55,6 +53,10 @@ answered P (Ok s) h is = subst P is h
 answered P (Err (stops.Said s)) h is = subst P is h
 answered P (Err stops.NoMemory) h is = absurd is
 
+pub outcome_so : {R : Said → Type 0} (Q : texts.Said → Type 0) (so : (s : Said) → R s → Q (said_of s)) (r : Result Said NoMemory) → IfOk r R → IfSettled Q (or_stopped r)
+outcome_so Q so (Ok s) h = so s h
+outcome_so Q so (Err e) h = tt
+
 -- ---- what stops at a file stops at what it is read for
 
 module _ {old new : KnownFiles} {name : Name} where
@@ -78,14 +80,11 @@ module _ {old new : KnownFiles} {name : Name} where
   script_stop _ (too_long f) = script_is_long f
   script_stop _ (unread u) = script_is_unread u
 
--- ---- and so does a fault of a demo's text
-
-module _ {k : DemoCommand} where
-  pub demo_program_stop : (said : texts.Said) → (f : ProgramFault) × (said ≡ texts.bad_program f) × IsFaultyText (demo_program k) f → DemoAnswers k said
-  demo_program_stop _ h = subst (DemoAnswers k) (sym h.1) (demo_program_is_bad h.2)
-
-  pub demo_host_stop : {p : meant.Program} {names : List Name} → TellsProgram (demo_program k) p names → (said : texts.Said) → (f : HostFault) × (said ≡ texts.bad_host f) × IsHostFault (demo_host k) f → DemoAnswers k said
-  demo_host_stop t _ h = subst (DemoAnswers k) (sym h.1) (demo_host_is_bad t h.2)
+  -- and in place of both files so does what stops at one
+  pub both_stop : {host : Name} {Rest : meant.Program → List Name → AnyGraph → texts.Said → Type 0} (said : texts.Said) → StopsAtBoth old new name host said → OfBoth old new name host Rest said
+  both_stop _ (at_program x) = at_program x
+  both_stop _ (at_host h x) = at_host h x
+  both_stop _ (behind_both _ _ x) = absurd x
 
 -- ---- what was read of a file is understood
 
@@ -157,3 +156,10 @@ module _ {old mid new : KnownFiles} (same : mid.content ≡ old.content) (later 
   checks_since _ (at_result h x) = at_result (has_trace_since same h) (result_since _ x)
   checks_since _ (is_derivation h b d) = is_derivation (has_trace_since same h) (bytes_since same b) d
   checks_since _ (is_none h b n) = is_none (has_trace_since same h) (bytes_since same b) n
+
+-- ---- whether it is a derivation, as it is said
+
+pub checked : (P : texts.Said → Type 0) {D : Type 0} → (D → P texts.derivation) → ((D → ⊥) → P texts.no_derivation) → (r : Result Bool NoMemory) → IfOk r (λ b. Decides b D) → IfSettled P (verdict r)
+checked P one other (Ok true) h = one (h.0 refl)
+checked P one other (Ok false) h = other (λ d. let e = h.1 d in absurd cc)
+checked P one other (Err e) h = tt

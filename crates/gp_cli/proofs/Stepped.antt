@@ -10,12 +10,11 @@ use Rattle.gp_journal.specs.Journal.{items_of}
 use Rattle.gp_script.specs.declared.line.Line.{Line}
 use Rattle.gp_script.specs.Walk.{Walks}
 use Rattle.gp_words.specs.CommandLine.{StepCommand}
-use Rattle.gp_cli.specs.declared.said.Said.{Said}
-use Rattle.gp_cli.specs.declared.said.Said.TheVariants as code
-use Rattle.gp_cli.specs.Texts as texts
+use Rattle.gp_reply.specs.declared.said.Said.{Said}
+use Rattle.gp_reply.specs.declared.said.Said.TheVariants as code
+use Rattle.gp_reply.specs.Texts as texts
 use Rattle.gp_cli.specs.Answer.{HasScript, Comes, gives, fails, is_spent, is_faulty, IsEndless, Steps, walks, is_endless}
-use Rattle.gp_cli.specs.inside.Parts.{HasJournal, BeginsAt, WalksSaid}
-use Rattle.gp_cli.specs.inside.Told.{said_of}
+use Rattle.gp_reply.specs.Said.{said_of, HasJournal, BeginsAt, WalksSaid}
 
 -- ---- an answer without an end has no journal
 

@@ -21,7 +21,7 @@ use Rattle.gp_script.specs.Walk.{Walks}
 use Rattle.gp_gen.specs.Texts.{program_text, host_text}
 use Rattle.gp_words.specs.CommandLine.{RunCommand, DemoCommand, CheckCommand, StepCommand, Command, run, demo, check, step, command_of}
 use Rattle.gp_cli.specs.Choices.{AreSeeded}
-use Rattle.gp_cli.specs.Texts.{Said, graph, failed, demo_done, derivation, no_derivation, walked, usage, long_program, bad_program, long_host, bad_host, long_trace, bad_trace, long_result, long_script, bad_script, bound_spent, number_fault, unread, Shows}
+use Rattle.gp_reply.specs.Texts.{Said, graph, failed, derivation, no_derivation, walked, usage, long_program, bad_program, long_host, bad_host, long_trace, bad_trace, long_result, long_script, bad_script, bound_spent, number_fault, unread, of_demo_run, Shows}
 use Rattle.gp_cli.specs.Written.{out_pieces, TakesAll, IsCutShort}
 
 -- the greatest number of bytes of a file
@@ -222,11 +222,6 @@ demo_bound = 2 ^ 40
 -- with what the choices of its run begin
 abbrev pub demo_choices : ℕ
 demo_choices = 0
-
--- in place of a graph it answers what it has done
-abbrev pub of_demo_run : DemoCommand → Said → Said
-of_demo_run k (graph t h) = demo_done k.kind k.size t h
-of_demo_run k said = said
 
 -- The order is: program, host, run. No file is read.
 pub data DemoAnswers (k : DemoCommand) : Said → Type 0 where

@@ -1,5 +1,2 @@
 -- Stepping stones that bodies and proofs alone need.
-pub mod Depth
 pub mod Parts
-pub mod Statuses
-pub mod Told

@@ -2,12 +2,15 @@
 
 ghost use Rattle.gp_gen.specs.Host.{IsSize};
 ghost use Rattle.gp_words.specs.Told.{demo_now};
-ghost use Rattle.gp_cli.specs.inside.Parts.{RunsDemo};
+ghost use Rattle.gp_cli.specs.inside.Parts.{BothOrFaults, MakesBoth, SaysOfRun, RunsDemo};
 
 use crate::parsed::{host_of, program_of};
 use crate::run::run;
-use crate::said::{Said, Stop};
 use gp_gen::generate;
+use gp_graph::Graph;
+use gp_memory::NoMemory;
+use gp_reply::{Said, Stop};
+use gp_syntax::Program;
 use gp_system::Crew;
 use gp_words::DemoCommand;
 use opt_worker::Pacing;
@@ -21,6 +24,37 @@ const BOUND: u64 = 1 << 40;
 /// With what the choices of its run begin.
 const CHOICES: u64 = 0;
 
+// The program and the graph of two texts.
+fn both_of<'a>(alloc: Global, program: &[u8], host: &[u8]) -> Result<(Program, Graph), Stop<'a>>
+    ensures { BothOrFaults program.now host.now result }
+{
+    let program = program_of(alloc, program)?;
+    let graph = host_of(alloc, host)?;
+    Ok((program, graph))
+}
+
+// Those of the texts of the demo, which are made.
+fn made<'a>(alloc: Global, command: DemoCommand) -> Result<(Program, Graph), Stop<'a>>
+    requires { IsSize command.kind command.size }
+    ensures { MakesBoth (demo_now command) result }
+{
+    let texts = generate(alloc, command.kind, command.size, command.seed)?;
+    both_of(alloc, &texts.0, &texts.1)
+}
+
+// What a demo says of what its run comes to.
+fn demo_said<'a>(
+    command: DemoCommand,
+    ran: Result<Said<'a>, NoMemory>,
+) -> Result<Said<'a>, Stop<'a>>
+    ensures { SaysOfRun (demo_now command) ran.entry result }
+{
+    match ran {
+        Ok(said) => Ok(said.into_demo(command)),
+        Err(NoMemory) => Err(Stop::NoMemory),
+    }
+}
+
 /// What a demo comes to: its program's text and its host's are made, read and run.
 pub(crate) fn demo<'a, R: Threads + Wait + Sync>(
     rt: &R,
@@ -31,14 +65,14 @@ pub(crate) fn demo<'a, R: Threads + Wait + Sync>(
     requires { IsSize command.kind command.size }
     ensures { RunsDemo (demo_now command) result }
 {
-    let texts = generate(alloc, command.kind, command.size, command.seed)?;
-    let program = program_of(alloc, &texts.0)?;
-    let graph = host_of(alloc, &texts.1)?;
+    let (program, graph) = made(alloc, command)?;
     let crew = Crew {
         workers: command.workers,
         fan: command.fan,
         bound: BOUND,
     };
-    let said = run(rt, alloc, &program, graph, crew, CHOICES, pace)?;
-    Ok(said.into_demo(command))
+    demo_said(
+        command,
+        run(rt, alloc, &program, graph, crew, CHOICES, pace),
+    )
 }

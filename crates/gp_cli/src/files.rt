@@ -1,14 +1,14 @@
 //! The files of a command, read and understood, or the answer that says why not.
 
 ghost use Rattle.std.specs.Prelude.{◌≡◌, ◌≤◌};
-ghost use Rattle.gp_cli.specs.inside.Parts.{ReadsFile, LoadsProgram, LoadsHost, LoadsTrace, LoadsScript};
-ghost use Rattle.gp_cli.specs.Texts.{long_result};
-ghost use Rattle.gp_cli.specs.inside.Told.{said_of};
+ghost use Rattle.gp_cli.specs.inside.Parts.{ReadsFile, LoadsProgram, LoadsHost, LoadsBoth, LoadsTrace, LoadsScript};
+ghost use Rattle.gp_reply.specs.Texts.{long_result};
+ghost use Rattle.gp_reply.specs.Said.{said_of};
 
 use crate::parsed::{host_of, program_of, script_of, trace_of};
-use crate::said::{Said, Stop};
 use gp_graph::Graph;
 use gp_io::{Files, ReadRefusal};
+use gp_reply::{Said, Stop};
 use gp_script::Line;
 use gp_syntax::{Item, Program};
 use gp_trace::Version;
@@ -36,8 +36,8 @@ fn read_file<'a, F: Files>(
     }
 }
 
-/// The program of the file.
-pub(crate) fn load_program<'a, F: Files>(
+// The program of the file.
+fn load_program<'a, F: Files>(
     alloc: Global,
     files: &mut F,
     name: &'a str,
@@ -50,18 +50,30 @@ pub(crate) fn load_program<'a, F: Files>(
     program_of(alloc, &text)
 }
 
-/// The graph of the host's file.
-pub(crate) fn load_host<'a, F: Files>(
-    alloc: Global,
-    files: &mut F,
-    name: &'a str,
-) -> Result<Graph, Stop<'a>>
+// The graph of the host's file.
+fn load_host<'a, F: Files>(alloc: Global, files: &mut F, name: &'a str) -> Result<Graph, Stop<'a>>
     ensures loads { LoadsHost (F.known files.old) (F.known files.new) name.entry.now result }
     ensures later { (F.known files.old).faults ≤ (F.known files.new).faults }
     ensures same { (F.known files.new).content ≡ (F.known files.old).content }
 {
     let text = read_file(alloc, files, name, Said::LongHost)?;
     host_of(alloc, &text)
+}
+
+/// The program and the graph of two files; the first is read first.
+pub(crate) fn load_both<'a, F: Files>(
+    alloc: Global,
+    files: &mut F,
+    program: &'a str,
+    host: &'a str,
+) -> Result<(Program, Graph), Stop<'a>>
+    ensures loads { LoadsBoth (F.known files.old) (F.known files.new) program.entry.now host.entry.now result }
+    ensures later { (F.known files.old).faults ≤ (F.known files.new).faults }
+    ensures same { (F.known files.new).content ≡ (F.known files.old).content }
+{
+    let program = load_program(alloc, files, program)?;
+    let graph = load_host(alloc, files, host)?;
+    Ok((program, graph))
 }
 
 /// The items of the trace's file, with their version.

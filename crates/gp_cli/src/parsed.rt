@@ -2,56 +2,15 @@
 
 ghost use Rattle.std.specs.Prelude.{◌≡◌};
 ghost use Rattle.gp_cli.specs.inside.Parts.{TellsOrFaults, HostsOrFaults, TracesOrFaults, ScriptsOrFaults};
-ghost use Rattle.gp_cli.specs.inside.Told.{program_refused, host_refused, trace_refused, script_refused};
 
-use crate::said::{Said, Stop};
 use gp_graph::Graph;
-use gp_hostfile::{HostFault, read_host};
-use gp_reader::{ProgramFault, read_program};
-use gp_script::{Line, ScriptFault, read_script};
+use gp_hostfile::read_host;
+use gp_reader::read_program;
+use gp_reply::{Stop, host_refused, program_refused, script_refused, trace_refused};
+use gp_script::{Line, read_script};
 use gp_syntax::{Item, Program};
-use gp_trace::{TraceFault, Version, read_trace};
+use gp_trace::{Version, read_trace};
 use std::alloc::Global;
-
-// What is answered where a program is refused so.
-fn program_refused<'a>(fault: ProgramFault) -> Stop<'a>
-    ensures { result ≡ program_refused fault }
-{
-    match fault {
-        ProgramFault::NoMemory => Stop::NoMemory,
-        other => Stop::Said(Said::BadProgram(other)),
-    }
-}
-
-// The same of a host.
-fn host_refused<'a>(fault: HostFault) -> Stop<'a>
-    ensures { result ≡ host_refused fault }
-{
-    match fault {
-        HostFault::NoMemory => Stop::NoMemory,
-        other => Stop::Said(Said::BadHost(other)),
-    }
-}
-
-// The same of a trace.
-fn trace_refused<'a>(fault: TraceFault) -> Stop<'a>
-    ensures { result ≡ trace_refused fault }
-{
-    match fault {
-        TraceFault::Line(line) => Stop::Said(Said::BadTrace(line)),
-        TraceFault::NoMemory => Stop::NoMemory,
-    }
-}
-
-// The same of a script.
-fn script_refused<'a>(fault: ScriptFault) -> Stop<'a>
-    ensures { result ≡ script_refused fault }
-{
-    match fault {
-        ScriptFault::Line(line) => Stop::Said(Said::BadScript(line)),
-        ScriptFault::NoMemory => Stop::NoMemory,
-    }
-}
 
 /// The program of a text.
 pub(crate) fn program_of<'a>(alloc: Global, text: &[u8]) -> Result<Program, Stop<'a>>

@@ -3,10 +3,10 @@
 ghost use Rattle.gp_words.specs.Told.{step_now};
 ghost use Rattle.gp_cli.specs.inside.Parts.{StepsFiles};
 
-use crate::files::{load_host, load_program, load_script};
+use crate::files::{load_both, load_script};
 use crate::run::run;
-use crate::said::{Said, Stop};
 use gp_io::Files;
+use gp_reply::{Said, Stop, or_stopped};
 use gp_system::Crew;
 use gp_words::StepCommand;
 use opt_worker::Pacing;
@@ -24,8 +24,7 @@ pub(crate) fn step<'a, F: Files, R: Threads + Wait + Sync>(
 ) -> Result<Said<'a>, Stop<'a>>
     ensures { StepsFiles (F.known files.old) (F.known files.new) (step_now command.entry) result }
 {
-    let program = load_program(alloc, files, command.program)?;
-    let graph = load_host(alloc, files, command.host)?;
+    let (program, graph) = load_both(alloc, files, command.program, command.host)?;
     let script = load_script(alloc, files, command.script)?;
     let crew = Crew {
         workers: 1,
@@ -34,5 +33,5 @@ pub(crate) fn step<'a, F: Files, R: Threads + Wait + Sync>(
     };
     let said = run(rt, alloc, &program, graph, crew, command.seed, pace)?;
     let rules = program.parts().rules.as_slice();
-    Ok(said.into_walked(alloc, rules, &script)?)
+    or_stopped(said.into_walked(alloc, rules, &script))
 }

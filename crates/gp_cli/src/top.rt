@@ -7,24 +7,21 @@ ghost use Rattle.gp_words.specs.CommandLine as spec;
 ghost use Rattle.gp_words.specs.Told.{run_now, command_now, HasSize};
 ghost use Rattle.gp_cli.specs.Answer.{wants_journal, IsTrue, Replies, ReadsNone, Answered, IsSilent};
 ghost use Rattle.gp_cli.specs.Completes.{Completes};
-ghost use Rattle.gp_cli.specs.Texts.{Shows};
+ghost use Rattle.gp_reply.specs.Texts.{Shows};
 ghost use Rattle.gp_cli.specs.inside.Parts.{RunsFiles};
-ghost use Rattle.gp_cli.specs.inside.Statuses.{status_code};
-ghost use Rattle.gp_cli.specs.inside.Told.{said_of};
+ghost use Rattle.gp_reply.specs.Statuses.{status_code};
+ghost use Rattle.gp_reply.specs.Said.{said_of};
 
 use crate::check::check;
 use crate::deliver::deliver;
 use crate::demo::demo;
-use crate::files::{load_host, load_program};
-use crate::reply::Reply;
+use crate::files::load_both;
 use crate::run::run;
-use crate::said::{Said, Stop, settled};
-use crate::status::Status;
 use crate::step::step;
-use crate::texts::reply_of;
 use gp_io::{Files, Sink};
 use gp_memory::NoMemory;
 use gp_reader::laws::{texts_have_one_fault, texts_have_one_program};
+use gp_reply::{Reply, Said, Status, Stop, or_stopped, reply_of, settled};
 use gp_system::Crew;
 use gp_words::{Command, RunCommand, command_of};
 use opt_worker::Pacing;
@@ -42,14 +39,13 @@ fn said_by_files<'a, F: Files, R: Threads + Wait + Sync>(
 ) -> Result<Said<'a>, Stop<'a>>
     ensures { RunsFiles (F.known files.old) (F.known files.new) (run_now command.entry) result }
 {
-    let program = load_program(alloc, files, command.program)?;
-    let graph = load_host(alloc, files, command.host)?;
+    let (program, graph) = load_both(alloc, files, command.program, command.host)?;
     let crew = Crew {
         workers: command.workers,
         fan: command.fan,
         bound: command.bound,
     };
-    Ok(run(rt, alloc, &program, graph, crew, command.seed, pace)?)
+    or_stopped(run(rt, alloc, &program, graph, crew, command.seed, pace))
 }
 
 // What a command comes to.

@@ -1,21 +1,18 @@
 -- What the parts of the top call do.
-use Rattle.std.specs.Prelude.{◌≡◌, ℕ, List, [], map, Result, Ok, Err}
+use Rattle.std.specs.Prelude.{◌≡◌, ℕ, Bool, true, false, List, [], map, Result, Ok, Err}
 use Rattle.std.specs.declared.vec.Vec.{Vec}
 use Rattle.std.specs.declared.alloc.Global.{Global}
 use Rattle.gp_io.specs.Outside.{KnownFiles, KnownSink}
 use Rattle.gp_io.specs.declared.outside.Failed.{Failed as Fault}
 use Rattle.gp_memory.specs.Free.{Free}
+use Rattle.gp_memory.specs.declared.refusal.NoMemory.{NoMemory}
 use Rattle.gp_values.specs.Names.{Name}
 use Rattle.gp_graph.specs.declared.graph.Graph.{Graph}
 use Rattle.gp_syntax.specs.declared.found.Item.{Item}
 use Rattle.gp_syntax.specs.declared.command.ProgramParts.{ProgramParts}
 use Rattle.gp_syntax.specs.declared.rule.RuleParts.{RuleParts}
 use Rattle.gp_syntax.specs.Tree.{program_of_tree, item_of}
-use Rattle.gp_syntax.specs.Rule.{Rule}
 use Rattle.gp_syntax.specs.Run.{Program}
-use Rattle.gp_journal.specs.Trail.{root_of}
-use Rattle.gp_journal.specs.Journal.{items_of, IsJournalOf}
-use Rattle.gp_script.specs.Walk.{Walks}
 use Rattle.gp_reader.specs.declared.fault.ProgramFault.{ProgramFault}
 use Rattle.gp_reader.specs.Program.{IsFaultyText}
 use Rattle.gp_hostfile.specs.declared.fault.HostFault.{HostFault}
@@ -27,16 +24,14 @@ use Rattle.gp_script.specs.Script.{IsScript}
 use Rattle.gp_script.specs.Script as script
 use Rattle.gp_values.specs.Graph.{Graph as AnyGraph}
 use Rattle.gp_words.specs.CommandLine.{RunCommand, DemoCommand, CheckCommand, StepCommand}
-use Rattle.gp_cli.specs.declared.said.Stop.{Stop}
-use Rattle.gp_cli.specs.declared.said.Stop.TheVariants as stops
-use Rattle.gp_cli.specs.declared.said.Said.{Said}
-use Rattle.gp_cli.specs.declared.said.Said.TheVariants as code
-use Rattle.gp_cli.specs.declared.status.Status.{Status}
-use Rattle.gp_cli.specs.declared.reply.Reply.{Reply}
-use Rattle.gp_cli.specs.Texts as texts
-use Rattle.gp_cli.specs.Answer.{HasBytes, HasLongFile, CannotRead, TellsProgram, HasProgram, HasHost, HasTrace, HasScript, StopsAtProgram, StopsAtHost, StopsAtTrace, StopsAtScript, RunAnswers, DemoAnswers, Checks, CheckAnswers, StepAnswers}
+use Rattle.gp_reply.specs.declared.said.Stop.{Stop}
+use Rattle.gp_reply.specs.declared.said.Stop.TheVariants as stops
+use Rattle.gp_reply.specs.declared.said.Said.{Said}
+use Rattle.gp_reply.specs.declared.said.Said.TheVariants as code
+use Rattle.gp_reply.specs.Texts as texts
+use Rattle.gp_reply.specs.Said.{said_of}
+use Rattle.gp_cli.specs.Answer.{HasBytes, HasLongFile, CannotRead, TellsProgram, HasProgram, HasHost, HasTrace, HasScript, StopsAtProgram, StopsAtHost, StopsAtTrace, StopsAtScript, OfBoth, RunAnswers, demo_program, demo_host, DemoAnswers, Checks, CheckAnswers, StepAnswers}
 use Rattle.gp_cli.specs.Written.{TakesAll, IsCutShort}
-use Rattle.gp_cli.specs.inside.Told.{said_of}
 
 -- ---- files
 
@@ -75,6 +70,35 @@ LoadsHost old new name (Ok g) = HasHost old.content name g.graph
 LoadsHost old new name (Err (stops.Said s)) = StopsAtHost old new name (said_of s)
 LoadsHost old new name (Err stops.NoMemory) = Free
 
+-- in place of a program and a host
+abbrev pub StopsAtBoth : KnownFiles → KnownFiles → Name → Name → texts.Said → Type 0
+StopsAtBoth old new program host = OfBoth old new program host (λ p rule_names g said. ⊥)
+
+-- a program and a host
+abbrev pub AreBoth : KnownFiles → Name → Name → ProgramParts → Graph → Type 0
+AreBoth old program host p g = HasProgram old.content program (program_of_tree p) (names_of p) × HasHost old.content host g.graph
+
+abbrev pub LoadsBoth : KnownFiles → KnownFiles → Name → Name → Result (ProgramParts × Graph) Stop → Type 0
+LoadsBoth old new program host (Ok t) = AreBoth old program host t.0 t.1
+LoadsBoth old new program host (Err (stops.Said s)) = StopsAtBoth old new program host (said_of s)
+LoadsBoth old new program host (Err stops.NoMemory) = Free
+
+-- a program and a host of two texts, or the first fault of one
+pub data FaultOfBoth (program host : List ℕ) : texts.Said → Type 0 where
+  in_program : {f : ProgramFault} → IsFaultyText program f → FaultOfBoth program host (texts.bad_program f)
+  in_host : {p : Program} {rule_names : List Name} {f : HostFault} → TellsProgram program p rule_names → IsHostFault host f → FaultOfBoth program host (texts.bad_host f)
+
+abbrev pub BothOrFaults : List ℕ → List ℕ → Result (ProgramParts × Graph) Stop → Type 0
+BothOrFaults program host (Ok t) = TellsProgram program (program_of_tree t.0) (names_of t.0) × IsHostText host t.1.graph
+BothOrFaults program host (Err (stops.Said s)) = FaultOfBoth program host (said_of s)
+BothOrFaults program host (Err stops.NoMemory) = Free
+
+-- those of the texts of a demo, or what is answered in their place
+abbrev pub MakesBoth : DemoCommand → Result (ProgramParts × Graph) Stop → Type 0
+MakesBoth k (Ok t) = TellsProgram (demo_program k) (program_of_tree t.0) (names_of t.0) × IsHostText (demo_host k) t.1.graph
+MakesBoth k (Err (stops.Said s)) = DemoAnswers k (said_of s)
+MakesBoth k (Err stops.NoMemory) = Free
+
 -- the items of the bytes, or the first line that is not of its form
 abbrev pub TracesOrFaults : List ℕ → Result (Version × Vec Item Global) Stop → Type 0
 TracesOrFaults bytes (Ok t) = IsTraceOf bytes t.0 (map item_of t.1.items)
@@ -104,10 +128,22 @@ RunsFiles old new k (Ok s) = RunAnswers old new k (said_of s)
 RunsFiles old new k (Err (stops.Said s)) = RunAnswers old new k (said_of s)
 RunsFiles old new k (Err stops.NoMemory) = Free
 
+-- a demo says this of what its run comes to
+abbrev pub SaysOfRun : DemoCommand → Result Said NoMemory → Result Said Stop → Type 0
+SaysOfRun k (Ok s) (Ok t) = said_of t ≡ texts.of_demo_run k (said_of s)
+SaysOfRun k (Ok s) (Err e) = ⊥
+SaysOfRun k (Err _) r = r ≡ Err stops.NoMemory
+
 abbrev pub RunsDemo : DemoCommand → Result Said Stop → Type 0
 RunsDemo k (Ok s) = DemoAnswers k (said_of s)
 RunsDemo k (Err (stops.Said s)) = DemoAnswers k (said_of s)
 RunsDemo k (Err stops.NoMemory) = Free
+
+-- what is said of it, whether it is a derivation
+abbrev pub verdict : Result Bool NoMemory → Result Said Stop
+verdict (Ok true) = Ok code.Derivation
+verdict (Ok false) = Ok code.NoDerivation
+verdict (Err _) = Err stops.NoMemory
 
 abbrev pub ChecksBoth : KnownFiles → KnownFiles → CheckCommand → Program → AnyGraph → Result Said Stop → Type 0
 ChecksBoth old new k p g (Ok s) = Checks old new k p g (said_of s)
@@ -123,40 +159,6 @@ abbrev pub StepsFiles : KnownFiles → KnownFiles → StepCommand → Result Sai
 StepsFiles old new k (Ok s) = StepAnswers old new k (said_of s)
 StepsFiles old new k (Err (stops.Said s)) = StepAnswers old new k (said_of s)
 StepsFiles old new k (Err stops.NoMemory) = Free
-
--- the journal of an answer that has one is of these rules
-abbrev pub HasJournal : List Rule → Said → Type 0
-HasJournal rules (code.Graph j) = IsJournalOf rules j
-HasJournal rules (code.Fail j) = IsJournalOf rules j
-HasJournal rules other = Unit {0}
-
--- and begins at this graph
-abbrev pub BeginsAt : AnyGraph → Said → Type 0
-BeginsAt g (code.Graph j) = root_of j.trail ≡ g
-BeginsAt g (code.Fail j) = root_of j.trail ≡ g
-BeginsAt g other = Unit {0}
-
--- in place of an answer with a journal comes what the script comes to over its items; any other stays
-abbrev pub WalksSaid : List Rule → List Line → Said → Said → Type 0
-WalksSaid rules lines (code.Graph j) s = (text : List ℕ) × (said_of s ≡ texts.walked text) × Walks rules (root_of j.trail) (items_of j.items) 0 lines text
-WalksSaid rules lines (code.Fail j) s = (text : List ℕ) × (said_of s ≡ texts.walked text) × Walks rules (root_of j.trail) (items_of j.items) 0 lines text
-WalksSaid rules lines other s = said_of s ≡ said_of other
-
--- ---- texts
-
--- the texts of an answer with this status: this one on err alone
-pub record IsOnErr (status : Status) (text : List ℕ) (r : Reply) : Type 0 where
-  pub status_is : r.status ≡ status
-  pub journal : r.journal.items ≡ []
-  pub result : r.result.items ≡ []
-  pub err : r.err.items ≡ text
-
--- and these on out alone
-pub record IsOnOut (status : Status) (journal text : List ℕ) (r : Reply) : Type 0 where
-  pub status_is : r.status ≡ status
-  pub journal_is : r.journal.items ≡ journal
-  pub result : r.result.items ≡ text
-  pub err : r.err.items ≡ []
 
 -- ---- what is written
 

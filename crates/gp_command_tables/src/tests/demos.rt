@@ -2,9 +2,9 @@
 
 use crate::tests::answers::expect;
 use crate::tests::calls::check_rows;
-use gp_cli::summary;
 use gp_gen::Kind;
 use gp_hostfile::read_host;
+use gp_reply::summary;
 use gp_trace::read_trace;
 use std::test::Fail;
 

@@ -1,8 +1,8 @@
 use Rattle.std.proofs.lemmas.Result.{err_from_is_err_and}
-use Rattle.gp_cli.specs.Texts.{long_result}
+use Rattle.gp_reply.specs.Texts.{long_result}
 use Rattle.gp_cli.specs.Answer.{StopsAtTrace, Checks, at_trace, at_result, is_derivation, is_none}
 use Rattle.gp_cli.specs.inside.Parts.{StopsAtFile}
-use Rattle.gp_cli.proofs.Loads.{stopped_so, result_stop, result_since, bytes_since}
+use Rattle.gp_cli.proofs.Loads.{stopped_so, result_stop, result_since, bytes_since, checked}
 use Rattle.gp_cli.proofs.check.check_both.Goals as goal
 
 pub returns-in_err-trace : goal.returns-in_err-trace
@@ -17,14 +17,9 @@ returns-in_err-text g c =
     rw (p.1, p.2) (stopped_so (StopsAtFile _ _ _ long_result) (Checks _ _ _ _ _)
     (λ said h. at_result loaded.loads (result_since loaded.same loaded.later said (result_stop said h))) _ c.in_err-text.ensures.loads)
 
-pub returns-then-branch : goal.returns-then-branch
-returns-then-branch g c =
-    let loaded = c.in_ok-trace.ensures in
-    let d = rw (c.deref.ensures.value, c.deref-2.ensures.value) at c.in_ok-is_derivation.ensures in
-    is_derivation loaded.loads (bytes_since loaded.same c.in_ok-text.ensures.loads) (d.0 c.if-branch.true)
-
 pub returns : goal.returns
 returns g c =
     let loaded = c.in_ok-trace.ensures in
-    let d = rw (c.deref.ensures.value, c.deref-2.ensures.value) at c.in_ok-is_derivation.ensures in
-    is_none loaded.loads (bytes_since loaded.same c.in_ok-text.ensures.loads) (λ x. let e = d.1 x in let f = c.if-branch.false in absurd cc)
+    let result = bytes_since loaded.same c.in_ok-text.ensures.loads in
+    let d = rw (c.deref.ensures.value, c.deref-2.ensures.value) at c.is_derivation.ensures in
+    rw c.verdict.ensures (checked (Checks _ _ _ _ _) (λ x. is_derivation loaded.loads result x) (λ n. is_none loaded.loads result n) _ d)

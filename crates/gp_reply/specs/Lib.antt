@@ -1,0 +1,5 @@
+pub mod Summary
+pub mod Texts
+pub mod Statuses
+pub mod Said
+pub mod inside

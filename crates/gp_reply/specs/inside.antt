@@ -1,0 +1,3 @@
+-- Stepping stones that bodies and proofs alone need.
+pub mod Depth
+pub mod Sides
