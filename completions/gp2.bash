@@ -6,7 +6,7 @@ _gp2() {
     --bound | --seed | --workers | --fan) return ;;
   esac
   if [ "$COMP_CWORD" -eq 1 ]; then
-    mapfile -t COMPREPLY < <(compgen -W "run demo check step" -- "$word")
+    mapfile -t COMPREPLY < <(compgen -W "run demo check fmt step" -- "$word")
     return
   fi
   if [ "${COMP_WORDS[1]}" = demo ]; then
@@ -19,6 +19,7 @@ _gp2() {
     mapfile -t COMPREPLY < <([ "$COMP_CWORD" -gt 5 ] || compgen -f -- "$word")
     return
   fi
+  if [ "${COMP_WORDS[1]}" = fmt ] && { [ "$COMP_CWORD" -gt 2 ] || [[ $word == -* ]]; }; then return; fi
   if [[ $word == -* ]] && [ "${COMP_WORDS[1]}" = step ]; then
     mapfile -t COMPREPLY < <(compgen -W "--bound --seed" -- "$word")
     return

@@ -11,6 +11,8 @@ complete -c gp2 -n '__fish_seen_subcommand_from run demo' -l fan -x -d 'With how
 complete -c gp2 -n '__fish_seen_subcommand_from demo' -a 'closure colour tree'
 complete -c gp2 -n __fish_use_subcommand -a check -d 'Say whether a journal and a result are those of a run'
 complete -c gp2 -n '__fish_seen_subcommand_from check' -F
+complete -c gp2 -n __fish_use_subcommand -a fmt -d 'Print a program as its canonical text'
+complete -c gp2 -n '__fish_seen_subcommand_from fmt' -k -a '(__fish_complete_suffix .gp2)'
 complete -c gp2 -n __fish_use_subcommand -a step -d 'Go through a run, forward and back'
 complete -c gp2 -n '__fish_seen_subcommand_from step' -F
 complete -c gp2 -n '__fish_seen_subcommand_from step' -l bound -x -d 'How many turns and steps a run may count'

@@ -2,7 +2,9 @@
 
 use crate::rules::{choices, hints, lists, matches, searches, steps, unification, values, walks};
 use crate::texts::programs::cuts;
-use crate::texts::{cursors, hosts, limits, lines, parts, programs, rules, scopes, tokens, traces};
+use crate::texts::{
+    cursors, formats, hosts, limits, lines, parts, programs, rules, scopes, tokens, traces,
+};
 use gp_rows::Answer;
 use std::alloc::Global;
 
@@ -24,6 +26,7 @@ pub(crate) enum Kind {
     Cuts,
     Ends,
     Arrows,
+    Formats,
     Rules,
     Scopes,
     Meanings,
@@ -54,7 +57,7 @@ pub(crate) enum Kind {
 }
 
 /// The files of rows, `NAME.rows`, and the kind of each.
-pub(crate) const FILES: [(&'static str, Kind); 61] = [
+pub(crate) const FILES: [(&'static str, Kind); 62] = [
     ("tokens", Kind::Tokens),
     ("token_lines", Kind::TokenLines),
     ("classes", Kind::Classes),
@@ -73,6 +76,7 @@ pub(crate) const FILES: [(&'static str, Kind); 61] = [
     ("programs_cuts", Kind::Cuts),
     ("programs_ends", Kind::Ends),
     ("programs_arrows", Kind::Arrows),
+    ("formats", Kind::Formats),
     ("rules_labels", Kind::Rules),
     ("rules_marks", Kind::Rules),
     ("rules_names", Kind::Rules),
@@ -136,6 +140,7 @@ pub(crate) fn answer(kind: Kind, alloc: Global, fields: &[Vec<u8>], out: &mut An
         Kind::Cuts => cuts::cut(alloc, fields, out),
         Kind::Ends => cuts::ends(alloc, fields, out),
         Kind::Arrows => cuts::arrows(alloc, fields, out),
+        Kind::Formats => formats::answer(alloc, fields, out),
         Kind::Rules => rules::answer(alloc, fields, out),
         Kind::Scopes => scopes::answer(alloc, fields, out),
         Kind::Meanings => scopes::meanings(alloc, fields, out),

@@ -1,6 +1,7 @@
 //! Kinds of rows that are about texts.
 
 pub(crate) mod cursors;
+pub(crate) mod formats;
 pub(crate) mod hosts;
 pub(crate) mod limits;
 pub(crate) mod lines;

@@ -4,4 +4,5 @@ pub mod Expressions
 pub mod Commands
 pub mod Rules
 pub mod Canonical
+pub mod Laws
 pub mod inside

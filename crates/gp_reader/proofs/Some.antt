@@ -1,5 +1,5 @@
--- A text without a fault is a program's.
-use Rattle.std.proofs.Common.{◌≡◌, ◌≢◌, ℕ, List, map, Option, Some, None, Ok, Err, refl}
+-- A text has a tree or a fault, and one without a fault is a program's.
+use Rattle.std.proofs.Common.{◌≡◌, ◌≢◌, ◌⊎◌, inl, inr, ℕ, List, map, Option, Some, None, Ok, Err, refl}
 use Rattle.std.specs.Prelude.{Result}
 use Rattle.gp_values.specs.Names.{Name}
 use Rattle.gp_tokens.specs.declared.fault.LexFault.{LexFault}
@@ -24,8 +24,8 @@ use Rattle.gp_check.specs.declared.fault.RuleFault.TheVariants as rule_faults
 use Rattle.gp_check.specs.Answer.{Refuses}
 use Rattle.gp_reader.specs.declared.fault.ProgramFault.{ProgramFault}
 use Rattle.gp_reader.specs.declared.fault.ProgramFault.TheVariants as faults
-use Rattle.gp_reader.specs.Program.{HasTree, IsScopedText, IsProgramText, IsFaultyText, lex, too_deep, syntax, number_range, scope, rule, declared_rules, first_faulty}
-use Rattle.gp_reader.specs.Laws.{TextsHaveAnAnswer}
+use Rattle.gp_reader.specs.Program.{HasTree, IsScopedText, IsProgramText, IsTreelessText, IsFaultyText, lex, too_deep, syntax, number_range, treeless, scope, rule, declared_rules, first_faulty}
+use Rattle.gp_reader.specs.Laws.{TextsHaveATreeOrAFault, TextsHaveAnAnswer}
 use Rattle.gp_reader.proofs.Unique.{scope_answer, is_told, rule_answer}
 
 -- ---- the lexer is never in want of memory
@@ -65,7 +65,24 @@ is_known meant.NotSimple h = cc
 is_known meant.BadMark h = cc
 is_known (meant.BadBidi n) h = cc
 
--- ---- stages
+-- ---- trees
+
+module _ (bytes : List ℕ) where
+  parsed : (tokens : List Token) → tokens_of bytes ≡ Ok tokens → (r : Result Ast ParseFault) → r ≢ Err parse_faults.NoMemory → ParsesProgram tokens r → ((t : Ast) × HasTree bytes t) ⊎ ((e : ProgramFault) × IsTreelessText bytes e)
+  parsed tokens lexed (Ok tree) known h = inl (tree, record { tokens = tokens; has_tokens = record { lexed = lexed; shallow = h.0 }; is_tree = h.1 })
+  parsed tokens lexed (Err (parse_faults.TooDeep k)) known h = inr (_, too_deep tokens k lexed h)
+  parsed tokens lexed (Err (parse_faults.Syntax k)) known h = inr (_, syntax tokens k (record { lexed = lexed; shallow = h.0 }) h.1)
+  parsed tokens lexed (Err (parse_faults.NumberRange k)) known h = inr (_, number_range tokens k (record { lexed = lexed; shallow = h.0 }) h.1)
+  parsed tokens lexed (Err parse_faults.NoMemory) known h = absurd (known refl)
+
+  lexed_as : RefusalsAreTheFault → TokensHaveAnAnswer → (o : Outcome) → tokens_of bytes ≡ o → ((t : Ast) × HasTree bytes t) ⊎ ((e : ProgramFault) × IsTreelessText bytes e)
+  lexed_as refusals answers (Ok tokens) h = let a = answers tokens in parsed tokens h a.0 a.1 a.2
+  lexed_as refusals answers (Err e) h = inr (faults.Lex e, lex h (fault_is_no_memory bytes 0 e (refusals.is_fault bytes e h)))
+
+pub a_tree_or_a_fault : RefusalsAreTheFault → TokensHaveAnAnswer → TextsHaveATreeOrAFault
+a_tree_or_a_fault refusals answers bytes = lexed_as bytes refusals answers (tokens_of bytes) refl
+
+-- ---- programs
 
 module _ (bytes : List ℕ) (none : (e : ProgramFault) → IsFaultyText bytes e → ⊥) where
   checked : (tree : Ast) (scoped : IsScopedText bytes tree) (o : Option (Name × Fault)) → first_faulty (declared_rules tree) ≡ o → (p : Program) × IsProgramText bytes p
@@ -75,18 +92,9 @@ module _ (bytes : List ℕ) (none : (e : ProgramFault) → IsFaultyText bytes e 
   faultless : (tree : Ast) → HasTree bytes tree → IsFaultless (outline tree.declarations)
   faultless tree has f fault = none (faults.Scope (scope_answer f)) (scope tree has fault (is_told f))
 
-  parsed : (tokens : List Token) → tokens_of bytes ≡ Ok tokens → (r : Result Ast ParseFault) → r ≢ Err parse_faults.NoMemory → ParsesProgram tokens r → (p : Program) × IsProgramText bytes p
-  parsed tokens lexed (Ok tree) known h =
-      let has : HasTree bytes tree = record { tokens = tokens; has_tokens = record { lexed = lexed; shallow = h.0 }; is_tree = h.1 } in
-      checked tree (record { has_tree = has; faultless = faultless tree has }) (first_faulty (declared_rules tree)) refl
-  parsed tokens lexed (Err (parse_faults.TooDeep k)) known h = absurd (none _ (too_deep tokens k lexed h))
-  parsed tokens lexed (Err (parse_faults.Syntax k)) known h = absurd (none _ (syntax tokens k (record { lexed = lexed; shallow = h.0 }) h.1))
-  parsed tokens lexed (Err (parse_faults.NumberRange k)) known h = absurd (none _ (number_range tokens k (record { lexed = lexed; shallow = h.0 }) h.1))
-  parsed tokens lexed (Err parse_faults.NoMemory) known h = absurd (known refl)
-
-  lexed_as : RefusalsAreTheFault → TokensHaveAnAnswer → (o : Outcome) → tokens_of bytes ≡ o → (p : Program) × IsProgramText bytes p
-  lexed_as refusals answers (Ok tokens) h = let a = answers tokens in parsed tokens h a.0 a.1 a.2
-  lexed_as refusals answers (Err e) h = absurd (none (faults.Lex e) (lex h (fault_is_no_memory bytes 0 e (refusals.is_fault bytes e h))))
+  of_tree : ((t : Ast) × HasTree bytes t) ⊎ ((e : ProgramFault) × IsTreelessText bytes e) → (p : Program) × IsProgramText bytes p
+  of_tree (inl (tree, has)) = checked tree (record { has_tree = has; faultless = faultless tree has }) (first_faulty (declared_rules tree)) refl
+  of_tree (inr (e, f)) = absurd (none e (treeless f))
 
 pub an_answer : RefusalsAreTheFault → TokensHaveAnAnswer → TextsHaveAnAnswer
-an_answer refusals answers bytes none = lexed_as bytes none refusals answers (tokens_of bytes) refl
+an_answer refusals answers bytes none = of_tree bytes none (a_tree_or_a_fault refusals answers bytes)

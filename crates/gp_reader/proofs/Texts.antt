@@ -24,13 +24,13 @@ use Rattle.gp_resolve.specs.declared.scoped.ScopedParts.{ScopedParts}
 use Rattle.gp_resolve.specs.Resolution.{IsResolved}
 use Rattle.gp_reader.specs.declared.fault.ProgramFault.{ProgramFault}
 use Rattle.gp_reader.specs.declared.fault.ProgramFault.TheVariants as faults
-use Rattle.gp_reader.specs.Program.{HasTree, IsScopedText, IsProgramText, IsRefusal, ReadsProgram, ReadsRules, declared_rules}
+use Rattle.gp_reader.specs.Program.{HasTree, IsScopedText, IsProgramText, IsTreeRefusal, IsRefusal, ReadsProgram, ReadsRules, declared_rules}
 use Rattle.gp_reader.specs.Program as spec
 use Rattle.gp_reader.specs.inside.Stages.{lex_fault, scope_fault, with_line, RefusesRules, AreChecked, ChecksRules, HasScoped}
 
 -- ---- tokens
 
-pub lex_refused : (bytes : List ℕ) (e : LexFault) → Fails e (tokens_of bytes) → IsRefusal bytes (lex_fault e)
+pub lex_refused : (bytes : List ℕ) (e : LexFault) → Fails e (tokens_of bytes) → IsTreeRefusal bytes (lex_fault e)
 lex_refused bytes lex_faults.NoMemory h = tt
 lex_refused bytes (lex_faults.BadByte at) h = spec.lex h (λ e. cc)
 lex_refused bytes (lex_faults.OpenString at) h = spec.lex h (λ e. cc)
@@ -43,11 +43,21 @@ module _ (bytes : List ℕ) (tokens : List Token) (lexed : tokens_of bytes ≡ O
   pub tree_read : (tree : Ast) → ParsesProgram tokens (Ok tree) → HasTree bytes tree
   tree_read tree h = record { tokens = tokens; has_tokens = record { lexed = lexed; shallow = h.0 }; is_tree = h.1 }
 
-  pub tree_refused : (f : ParseFault) → ParsesProgram tokens (Err f) → IsRefusal bytes (with_line bytes tokens f)
+  pub tree_refused : (f : ParseFault) → ParsesProgram tokens (Err f) → IsTreeRefusal bytes (with_line bytes tokens f)
   tree_refused (parse_faults.TooDeep k) h = spec.too_deep tokens k lexed h
   tree_refused (parse_faults.Syntax k) h = spec.syntax tokens k (record { lexed = lexed; shallow = h.0 }) h.1
   tree_refused (parse_faults.NumberRange k) h = spec.number_range tokens k (record { lexed = lexed; shallow = h.0 }) h.1
   tree_refused parse_faults.NoMemory h = tt
+
+-- the fault of a text without a tree is the first of the text
+pub tree_fault : (bytes : List ℕ) (e : ProgramFault) → IsTreeRefusal bytes e → IsRefusal bytes e
+tree_fault bytes faults.NoMemory h = tt
+tree_fault bytes (faults.Lex e) h = spec.treeless h
+tree_fault bytes (faults.TooDeep line) h = spec.treeless h
+tree_fault bytes (faults.Syntax line) h = spec.treeless h
+tree_fault bytes (faults.NumberRange line) h = spec.treeless h
+tree_fault bytes (faults.Scope e) h = absurd h
+tree_fault bytes (faults.Rule name e) h = absurd h
 
 -- ---- names and calls
 

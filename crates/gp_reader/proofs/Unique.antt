@@ -26,7 +26,7 @@ use Rattle.gp_check.specs.declared.fault.RuleFault.TheVariants as rule_faults
 use Rattle.gp_check.specs.Answer.{Refuses}
 use Rattle.gp_reader.specs.declared.fault.ProgramFault.{ProgramFault}
 use Rattle.gp_reader.specs.declared.fault.ProgramFault.TheVariants as faults
-use Rattle.gp_reader.specs.Program.{HasTokens, HasTree, IsScopedText, IsProgramText, IsFaultyText, lex, too_deep, syntax, number_range, scope, rule, declared_rules, first_faulty}
+use Rattle.gp_reader.specs.Program.{HasTokens, HasTree, IsScopedText, IsProgramText, IsTreelessText, IsFaultyText, lex, too_deep, syntax, number_range, treeless, scope, rule, declared_rules, first_faulty}
 use Rattle.gp_reader.specs.Laws.{AreSyntax}
 
 -- ---- faults by what they tell
@@ -148,16 +148,37 @@ module _ (one_tree : TokensHaveOneTree) (bytes : List ℕ) where
       let e : h.tree ≡ k.tree = same_tree h.tree k.tree h.scoped.has_tree k.scoped.has_tree in
       h.is ∙ ap (λ (x : Ast). program_with (outline x.declarations) (map rule_of (declared_rules x))) e ∙ sym k.is
 
+  pub no_tree_fault : (t : Ast) (e : ProgramFault) → HasTree bytes t → IsTreelessText bytes e → ⊥
+  no_tree_fault t _ h (lex l n) = not_both (tokens_of bytes) h.tokens _ l h.has_tokens.lexed
+  no_tree_fault t _ h (too_deep ts k l d) = not_deep bytes ts h.tokens l h.has_tokens.lexed k d h.has_tokens.shallow
+  no_tree_fault t _ h (syntax ts k a n) = no_program ts h.tokens _ a h.has_tokens n.none h.is_tree
+  no_tree_fault t _ h (number_range ts k a r) = in_range ts k t a r h
+
   pub no_fault : (p : Program) (e : ProgramFault) → IsProgramText bytes p → IsFaultyText bytes e → ⊥
-  no_fault p _ h (lex l n) = not_both (tokens_of bytes) h.scoped.has_tree.tokens _ l h.scoped.has_tree.has_tokens.lexed
-  no_fault p _ h (too_deep ts k l d) = not_deep bytes ts h.scoped.has_tree.tokens l h.scoped.has_tree.has_tokens.lexed k d h.scoped.has_tree.has_tokens.shallow
-  no_fault p _ h (syntax ts k a n) = no_program ts h.scoped.has_tree.tokens _ a h.scoped.has_tree.has_tokens n.none h.scoped.has_tree.is_tree
-  no_fault p _ h (number_range ts k a r) = in_range ts k h.tree a r h.scoped.has_tree
+  no_fault p _ h (treeless f) = no_tree_fault h.tree _ h.scoped.has_tree f
   no_fault p _ h (scope {f} t a fault told) = no_scope_fault t h.tree f a fault h.scoped
   no_fault p _ h (rule {name} {e} {f} t a first r known) =
       let e : t ≡ h.tree = same_tree t h.tree a.has_tree h.scoped.has_tree in
       let c : first_faulty (declared_rules t) ≡ None = ap (λ (x : Ast). first_faulty (declared_rules x)) e ∙ h.checked in
       cc
+
+  one_tree_fault : (d e : ProgramFault) → IsTreelessText bytes d → IsTreelessText bytes e → (d ≡ e) ⊎ AreSyntax d e
+  one_tree_fault _ _ (lex {e = x} h m) (lex {e = y} i n) = inl (ap faults.Lex (same_fault (tokens_of bytes) x y h i))
+  one_tree_fault _ _ (lex h m) (too_deep us k i d) = absurd (not_both (tokens_of bytes) us _ h i)
+  one_tree_fault _ _ (lex h m) (syntax us k a n) = absurd (not_both (tokens_of bytes) us _ h a.lexed)
+  one_tree_fault _ _ (lex h m) (number_range us k a r) = absurd (not_both (tokens_of bytes) us _ h a.lexed)
+  one_tree_fault _ _ (too_deep ts j h d) (lex i n) = absurd (not_both (tokens_of bytes) ts _ i h)
+  one_tree_fault _ _ (too_deep ts j h d) (too_deep us k i e) = inl (ap faults.TooDeep (same_deep bytes ts us h i j k d e))
+  one_tree_fault _ _ (too_deep ts j h d) (syntax us k a n) = absurd (not_deep bytes ts us h a.lexed j d a.shallow)
+  one_tree_fault _ _ (too_deep ts j h d) (number_range us k a r) = absurd (not_deep bytes ts us h a.lexed j d a.shallow)
+  one_tree_fault _ _ (syntax ts j h p) (lex i n) = absurd (not_both (tokens_of bytes) ts _ i h.lexed)
+  one_tree_fault _ _ (syntax ts j h p) (too_deep us k i e) = absurd (not_deep bytes us ts i h.lexed k e h.shallow)
+  one_tree_fault _ _ (syntax ts j h p) (syntax us k a n) = inr (record { one = token_line bytes ts j; other = token_line bytes us k; one_is = refl; other_is = refl })
+  one_tree_fault _ _ (syntax ts j h p) (number_range us k a r) = absurd (no_program ts us _ h a p.none r.shape)
+  one_tree_fault _ _ (number_range ts j h p) (lex i n) = absurd (not_both (tokens_of bytes) ts _ i h.lexed)
+  one_tree_fault _ _ (number_range ts j h p) (too_deep us k i e) = absurd (not_deep bytes us ts i h.lexed k e h.shallow)
+  one_tree_fault _ _ (number_range ts j h p) (syntax us k a n) = absurd (no_program us ts _ a h n.none p.shape)
+  one_tree_fault _ _ (number_range ts j h p) (number_range us k a r) = inl (ap faults.NumberRange (same_range ts us j k h a p r))
 
   module _ (one_scope_fault : OneFault) where
     same_scope : (t u : Ast) (d e : ScopeFault) (f g : scoping.Fault) → HasTree bytes t → HasTree bytes u → IsFault (outline t.declarations) f → IsFault (outline u.declarations) g → told d ≡ Some f → told e ≡ Some g → d ≡ e
@@ -175,39 +196,12 @@ module _ (one_tree : TokensHaveOneTree) (bytes : List ℕ) where
         ap (λ z. faults.Rule z d) names ∙ ap (faults.Rule n) (refused_by d f x p ∙ ap rule_answer known ∙ sym (refused_by e g y q))
 
     pub one_fault : (d e : ProgramFault) → IsFaultyText bytes d → IsFaultyText bytes e → (d ≡ e) ⊎ AreSyntax d e
-    one_fault _ _ (lex {e = x} h m) (lex {e = y} i n) = inl (ap faults.Lex (same_fault (tokens_of bytes) x y h i))
-    one_fault _ _ (lex h m) (too_deep us k i d) = absurd (not_both (tokens_of bytes) us _ h i)
-    one_fault _ _ (lex h m) (syntax us k a n) = absurd (not_both (tokens_of bytes) us _ h a.lexed)
-    one_fault _ _ (lex h m) (number_range us k a r) = absurd (not_both (tokens_of bytes) us _ h a.lexed)
-    one_fault _ _ (lex h m) (scope u a f t) = absurd (not_both (tokens_of bytes) a.tokens _ h a.has_tokens.lexed)
-    one_fault _ _ (lex h m) (rule u a f t w) = absurd (not_both (tokens_of bytes) a.has_tree.tokens _ h a.has_tree.has_tokens.lexed)
-    one_fault _ _ (too_deep ts j h d) (lex i n) = absurd (not_both (tokens_of bytes) ts _ i h)
-    one_fault _ _ (too_deep ts j h d) (too_deep us k i e) = inl (ap faults.TooDeep (same_deep bytes ts us h i j k d e))
-    one_fault _ _ (too_deep ts j h d) (syntax us k a n) = absurd (not_deep bytes ts us h a.lexed j d a.shallow)
-    one_fault _ _ (too_deep ts j h d) (number_range us k a r) = absurd (not_deep bytes ts us h a.lexed j d a.shallow)
-    one_fault _ _ (too_deep ts j h d) (scope u a f t) = absurd (not_deep bytes ts a.tokens h a.has_tokens.lexed j d a.has_tokens.shallow)
-    one_fault _ _ (too_deep ts j h d) (rule u a f t w) = absurd (not_deep bytes ts a.has_tree.tokens h a.has_tree.has_tokens.lexed j d a.has_tree.has_tokens.shallow)
-    one_fault _ _ (syntax ts j h p) (lex i n) = absurd (not_both (tokens_of bytes) ts _ i h.lexed)
-    one_fault _ _ (syntax ts j h p) (too_deep us k i e) = absurd (not_deep bytes us ts i h.lexed k e h.shallow)
-    one_fault _ _ (syntax ts j h p) (syntax us k a n) = inr (record { one = token_line bytes ts j; other = token_line bytes us k; one_is = refl; other_is = refl })
-    one_fault _ _ (syntax ts j h p) (number_range us k a r) = absurd (no_program ts us _ h a p.none r.shape)
-    one_fault _ _ (syntax ts j h p) (scope u a f t) = absurd (no_program ts a.tokens _ h a.has_tokens p.none a.is_tree)
-    one_fault _ _ (syntax ts j h p) (rule u a f t w) = absurd (no_program ts a.has_tree.tokens _ h a.has_tree.has_tokens p.none a.has_tree.is_tree)
-    one_fault _ _ (number_range ts j h p) (lex i n) = absurd (not_both (tokens_of bytes) ts _ i h.lexed)
-    one_fault _ _ (number_range ts j h p) (too_deep us k i e) = absurd (not_deep bytes us ts i h.lexed k e h.shallow)
-    one_fault _ _ (number_range ts j h p) (syntax us k a n) = absurd (no_program us ts _ a h n.none p.shape)
-    one_fault _ _ (number_range ts j h p) (number_range us k a r) = inl (ap faults.NumberRange (same_range ts us j k h a p r))
-    one_fault _ _ (number_range ts j h p) (scope u a f t) = absurd (in_range ts j u h p a)
-    one_fault _ _ (number_range ts j h p) (rule u a f t w) = absurd (in_range ts j u h p a.has_tree)
-    one_fault _ _ (scope t h f o) (lex i n) = absurd (not_both (tokens_of bytes) h.tokens _ i h.has_tokens.lexed)
-    one_fault _ _ (scope t h f o) (too_deep us k i e) = absurd (not_deep bytes us h.tokens i h.has_tokens.lexed k e h.has_tokens.shallow)
-    one_fault _ _ (scope t h f o) (syntax us k a n) = absurd (no_program us h.tokens _ a h.has_tokens n.none h.is_tree)
-    one_fault _ _ (scope t h f o) (number_range us k a r) = absurd (in_range us k t a r h)
+    one_fault _ _ (treeless h) (treeless k) = one_tree_fault _ _ h k
+    one_fault _ _ (treeless h) (scope u a f t) = absurd (no_tree_fault u _ a h)
+    one_fault _ _ (treeless h) (rule u a f t w) = absurd (no_tree_fault u _ a.has_tree h)
+    one_fault _ _ (scope t h f o) (treeless k) = absurd (no_tree_fault t _ h k)
     one_fault _ _ (scope t h f o) (scope u a g p) = inl (ap faults.Scope (same_scope t u _ _ _ _ h a f g o p))
     one_fault _ _ (scope t h f o) (rule u a g p w) = absurd (no_scope_fault t u _ h f a)
-    one_fault _ _ (rule t h f o v) (lex i n) = absurd (not_both (tokens_of bytes) h.has_tree.tokens _ i h.has_tree.has_tokens.lexed)
-    one_fault _ _ (rule t h f o v) (too_deep us k i e) = absurd (not_deep bytes us h.has_tree.tokens i h.has_tree.has_tokens.lexed k e h.has_tree.has_tokens.shallow)
-    one_fault _ _ (rule t h f o v) (syntax us k a n) = absurd (no_program us h.has_tree.tokens _ a h.has_tree.has_tokens n.none h.has_tree.is_tree)
-    one_fault _ _ (rule t h f o v) (number_range us k a r) = absurd (in_range us k t a r h.has_tree)
+    one_fault _ _ (rule t h f o v) (treeless k) = absurd (no_tree_fault t _ h.has_tree k)
     one_fault _ _ (rule t h f o v) (scope u a g p) = absurd (no_scope_fault u t _ a g h)
     one_fault _ _ (rule t h f o v) (rule u a g p w) = inl (same_rule t u _ _ _ _ _ _ h a f g o p v w)

@@ -1,9 +1,22 @@
 -- What holds of program texts.
 use Rattle.std.specs.Prelude.{◌≡◌, ◌⊎◌, ℕ, List}
+use Rattle.gp_syntax.specs.declared.tree.Ast.{Ast}
 use Rattle.gp_syntax.specs.Run.{Program}
 use Rattle.gp_reader.specs.declared.fault.ProgramFault.{ProgramFault}
 use Rattle.gp_reader.specs.declared.fault.ProgramFault.TheVariants as faults
-use Rattle.gp_reader.specs.Program.{IsProgramText, IsFaultyText}
+use Rattle.gp_reader.specs.Program.{HasTree, IsTreelessText, IsProgramText, IsFaultyText}
+
+-- A text has a tree, or a fault of tokens, nesting, syntax or numerals.
+abbrev pub TextsHaveATreeOrAFault : Type 0
+TextsHaveATreeOrAFault = (bytes : List ℕ) → ((t : Ast) × HasTree bytes t) ⊎ ((e : ProgramFault) × IsTreelessText bytes e)
+
+-- A text has at most one tree.
+abbrev pub TextsHaveOneTree : Type 0
+TextsHaveOneTree = (bytes : List ℕ) (t u : Ast) → HasTree bytes t → HasTree bytes u → t ≡ u
+
+-- A text with a tree has no such fault.
+abbrev pub TreesHaveNoFault : Type 0
+TreesHaveNoFault = (bytes : List ℕ) (t : Ast) (e : ProgramFault) → HasTree bytes t → IsTreelessText bytes e → ⊥
 
 -- A text without a fault is a program's.
 abbrev pub TextsHaveAnAnswer : Type 0

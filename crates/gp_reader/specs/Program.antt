@@ -66,15 +66,34 @@ pub record IsProgramText (bytes : List ℕ) (p : Program) : Type 0 where
   pub checked : first_faulty (declared_rules tree) ≡ None
   pub is : p ≡ program_with (outline tree.declarations) (map rule_of (declared_rules tree))
 
--- The first fault of the text. It is left open which token a fault of syntax tells the line of.
+-- The first fault of a text that has no tree. It is left open which token a fault of syntax tells the line of.
+pub data IsTreelessText (bytes : List ℕ) : ProgramFault → Type 0 where
+  lex : {e : LexFault} → tokens_of bytes ≡ Err e → e ≢ lex_faults.NoMemory → IsTreelessText bytes (faults.Lex e)
+  too_deep : (tokens : List Token) (k : ℕ) → tokens_of bytes ≡ Ok tokens → IsTooDeep tokens k → IsTreelessText bytes (faults.TooDeep (token_line bytes tokens k))
+  syntax : (tokens : List Token) (k : ℕ) → HasTokens bytes tokens → IsNoProgram tokens k → IsTreelessText bytes (faults.Syntax (token_line bytes tokens k))
+  number_range : (tokens : List Token) (k : ℕ) → HasTokens bytes tokens → IsPastRange tokens k → IsTreelessText bytes (faults.NumberRange (token_line bytes tokens k))
+
+-- The first fault of the text.
 pub data IsFaultyText (bytes : List ℕ) : ProgramFault → Type 0 where
-  lex : {e : LexFault} → tokens_of bytes ≡ Err e → e ≢ lex_faults.NoMemory → IsFaultyText bytes (faults.Lex e)
-  too_deep : (tokens : List Token) (k : ℕ) → tokens_of bytes ≡ Ok tokens → IsTooDeep tokens k → IsFaultyText bytes (faults.TooDeep (token_line bytes tokens k))
-  syntax : (tokens : List Token) (k : ℕ) → HasTokens bytes tokens → IsNoProgram tokens k → IsFaultyText bytes (faults.Syntax (token_line bytes tokens k))
-  number_range : (tokens : List Token) (k : ℕ) → HasTokens bytes tokens → IsPastRange tokens k → IsFaultyText bytes (faults.NumberRange (token_line bytes tokens k))
+  treeless : {e : ProgramFault} → IsTreelessText bytes e → IsFaultyText bytes e
   scope : {e : ScopeFault} {f : scoping.Fault} (tree : Ast) → HasTree bytes tree → IsFault (outline tree.declarations) f → told e ≡ Some f → IsFaultyText bytes (faults.Scope e)
   rule : {name : Name} {e : RuleFault} {f : Fault} (tree : Ast) → IsScopedText bytes tree → first_faulty (declared_rules tree) ≡ Some (name, f) → Refuses e (Some f) → e ≢ rule_faults.NoMemory →
       IsFaultyText bytes (faults.Rule name e)
+
+-- a fault is that of a text without a tree; want of memory may come at any text
+abbrev pub IsTreeRefusal : List ℕ → ProgramFault → Type 0
+IsTreeRefusal bytes faults.NoMemory = Free
+IsTreeRefusal bytes (faults.Lex e) = IsTreelessText bytes (faults.Lex e)
+IsTreeRefusal bytes (faults.TooDeep line) = IsTreelessText bytes (faults.TooDeep line)
+IsTreeRefusal bytes (faults.Syntax line) = IsTreelessText bytes (faults.Syntax line)
+IsTreeRefusal bytes (faults.NumberRange line) = IsTreelessText bytes (faults.NumberRange line)
+IsTreeRefusal bytes (faults.Scope e) = ⊥
+IsTreeRefusal bytes (faults.Rule name e) = ⊥
+
+-- the answer is the tree of the text, or the first fault of a text that has none
+abbrev pub ReadsTree : List ℕ → Result Ast ProgramFault → Type 0
+ReadsTree bytes (Ok tree) = HasTree bytes tree
+ReadsTree bytes (Err f) = IsTreeRefusal bytes f
 
 -- a fault is the first of the text; want of memory may come at any text
 abbrev pub IsRefusal : List ℕ → ProgramFault → Type 0

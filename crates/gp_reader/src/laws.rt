@@ -1,10 +1,26 @@
 //! What holds of program texts. Each function calls laws alone: its contract is the law.
 
-ghost use Rattle.gp_reader.specs.Laws.{TextsHaveAnAnswer, TextsHaveNoFault, TextsHaveOneFault, TextsHaveOneProgram};
+ghost use Rattle.gp_reader.specs.Laws.{TextsHaveATreeOrAFault, TextsHaveAnAnswer, TextsHaveNoFault, TextsHaveOneFault, TextsHaveOneProgram, TextsHaveOneTree, TreesHaveNoFault};
 
 use gp_program::laws::{tokens_have_an_answer, tokens_have_one_tree};
 use gp_resolve::laws::fault_is_unique;
 use gp_tokens::laws::tokens_are_the_cut;
+
+/// A text has a tree, or a fault of tokens, nesting, syntax or numerals.
+pub fn texts_have_a_tree_or_a_fault()
+    ensures { TextsHaveATreeOrAFault }
+{
+    tokens_are_the_cut();
+    tokens_have_an_answer();
+}
+
+/// A text has at most one tree, and a text with a tree has no such fault.
+pub fn texts_have_one_tree()
+    ensures one { TextsHaveOneTree }
+    ensures none { TreesHaveNoFault }
+{
+    tokens_have_one_tree();
+}
 
 /// A text without a fault is that of a program.
 pub fn texts_have_an_answer()

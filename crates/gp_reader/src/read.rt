@@ -1,8 +1,8 @@
 //! Program texts.
 
 ghost use Rattle.std.specs.Prelude.{◌≡◌};
-ghost use Rattle.gp_reader.specs.Program.{IsRefusal, ReadsProgram, ReadsRules};
-ghost use Rattle.gp_reader.specs.inside.Stages.{IsParsed, ReadsScoped, ReadsTree, with_line};
+ghost use Rattle.gp_reader.specs.Program.{ReadsProgram, ReadsRules, ReadsTree};
+ghost use Rattle.gp_reader.specs.inside.Stages.{IsParsed, ReadsScoped, with_line};
 
 use crate::fault::ProgramFault;
 use crate::rules::checked_rules;
@@ -29,20 +29,21 @@ pub fn read_rules(alloc: Global, bytes: &[u8]) -> Result<Items<Rule>, ProgramFau
     checked_rules(alloc, scoped.rules())
 }
 
-// A text without a fault of names or calls, or one before.
-fn scoped_text(alloc: Global, bytes: &[u8]) -> Result<Scoped, ProgramFault>
-    ensures { ReadsScoped bytes.now result }
-{
-    let tree = tree_of_text(alloc, bytes)?;
-    Ok(resolve(alloc, tree)?)
-}
-
-// The tree of a text. Its tokens are let go.
-fn tree_of_text(alloc: Global, bytes: &[u8]) -> Result<Ast, ProgramFault>
+/// The tree of a text, whatever its names mean. A text that has none is answered with its first fault. Its tokens are
+/// let go.
+pub fn read_tree(alloc: Global, bytes: &[u8]) -> Result<Ast, ProgramFault>
     ensures { ReadsTree bytes.now result }
 {
     let tokens = lex(alloc, bytes)?;
     tree_of_tokens(alloc, bytes, &tokens)
+}
+
+// A text without a fault of names or calls, or one before.
+fn scoped_text(alloc: Global, bytes: &[u8]) -> Result<Scoped, ProgramFault>
+    ensures { ReadsScoped bytes.now result }
+{
+    let tree = read_tree(alloc, bytes)?;
+    Ok(resolve(alloc, tree)?)
 }
 
 // The tree of the tokens of a text.

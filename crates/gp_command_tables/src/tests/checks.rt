@@ -8,7 +8,7 @@ use std::test::Fail;
 // version 1; and what is refused, in the order in which the files are read.
 const CHECKS: &str = "check p h t r
 % Main = link!
-link(a,b,x,y,z:list) [ (n0, x) (n1, y) (n2, z) | (e0, n0, n1, a) (e1, n1, n2, b) ] => [ (n0, x) (n1, y) (n2, z) | (e0, n0, n1, a) (e1, n1, n2, b) (e2, n0, n2, empty) ] interface = {n0, n1, n2} where not edge(n0, n2)
+link(a, b, x, y, z:list) [ (n0, x) (n1, y) (n2, z) | (e0, n0, n1, a) (e1, n1, n2, b) ] => [ (n0, x) (n1, y) (n2, z) | (e0, n0, n1, a) (e1, n1, n2, b) (e2, n0, n2, empty) ] interface = {n0, n1, n2} where not edge(n0, n2)
 % [ (a, empty) (b, empty) (c, empty) | (e0, a, b, empty) (e1, b, c, empty) ]
 % gp2-trace 2
 turn
@@ -30,7 +30,7 @@ derivation
 
 check p h t r
 % Main = link!
-link(a,b,x,y,z:list) [ (n0, x) (n1, y) (n2, z) | (e0, n0, n1, a) (e1, n1, n2, b) ] => [ (n0, x) (n1, y) (n2, z) | (e0, n0, n1, a) (e1, n1, n2, b) (e2, n0, n2, empty) ] interface = {n0, n1, n2} where not edge(n0, n2)
+link(a, b, x, y, z:list) [ (n0, x) (n1, y) (n2, z) | (e0, n0, n1, a) (e1, n1, n2, b) ] => [ (n0, x) (n1, y) (n2, z) | (e0, n0, n1, a) (e1, n1, n2, b) (e2, n0, n2, empty) ] interface = {n0, n1, n2} where not edge(n0, n2)
 % [ (a, empty) (b, empty) (c, empty) | (e0, a, b, empty) (e1, b, c, empty) ]
 % gp2-trace 2
 turn
@@ -44,7 +44,7 @@ no derivation
 
 check p h t r
 % Main = (inc; red)!
-inc(n:int) [ (n0, n) | ] => [ (n0, n+1) | ] interface = {n0}
+inc(n:int) [ (n0, n) | ] => [ (n0, n + 1) | ] interface = {n0}
 red(x:list) [ (n0, x # red) | ] => [ (n0, x # red) | ] interface = {n0}
 % [ (a, 1) | ]
 % gp2-trace 2
@@ -80,8 +80,8 @@ derivation
 
 check p h t r
 % Main = paint; wipe
-paint(x,y,a:list) [ (n0, x) (n1, y) | (e0, n0, n1, a) ] => [ (n0, x) (n1, y) | (e0, n0, n1, a # red) ] interface = {n0, n1}
-wipe(x,y,a:list) [ (n0, x) (n1, y) | (e0, n0, n1, a # red) ] => [ (n0, x) (n1, y) | (e0, n0, n1, a) ] interface = {n0, n1}
+paint(x, y, a:list) [ (n0, x) (n1, y) | (e0, n0, n1, a) ] => [ (n0, x) (n1, y) | (e0, n0, n1, a # red) ] interface = {n0, n1}
+wipe(x, y, a:list) [ (n0, x) (n1, y) | (e0, n0, n1, a # red) ] => [ (n0, x) (n1, y) | (e0, n0, n1, a) ] interface = {n0, n1}
 % [ (a, 1) (b, 2) | (x, a, b, 3) ]
 % gp2-trace 1
 step 0 nodes 0 1 edges 0
@@ -98,8 +98,8 @@ derivation
 
 check p h t r
 % Main = paint; wipe
-paint(x,y,a:list) [ (n0, x) (n1, y) | (e0, n0, n1, a) ] => [ (n0, x) (n1, y) | (e0, n0, n1, a # red) ] interface = {n0, n1}
-wipe(x,y,a:list) [ (n0, x) (n1, y) | (e0, n0, n1, a # red) ] => [ (n0, x) (n1, y) | (e0, n0, n1, a) ] interface = {n0, n1}
+paint(x, y, a:list) [ (n0, x) (n1, y) | (e0, n0, n1, a) ] => [ (n0, x) (n1, y) | (e0, n0, n1, a # red) ] interface = {n0, n1}
+wipe(x, y, a:list) [ (n0, x) (n1, y) | (e0, n0, n1, a # red) ] => [ (n0, x) (n1, y) | (e0, n0, n1, a) ] interface = {n0, n1}
 % [ (a, 1) (b, 2) | (x, a, b, 3) ]
 % gp2-trace 1
 step 0 nodes 0 1 edges 0

@@ -41,7 +41,7 @@ del(x:list) [ (n0, x) | ] => [ | ] interface = {}
 bound 3
 
 Main = link!
-link(a,b,x,y,z:list) [ (n0, x) (n1, y) (n2, z) | (e0, n0, n1, a) (e1, n1, n2, b) ] => [ (n0, x) (n1, y) (n2, z) | (e0, n0, n1, a) (e1, n1, n2, b) (e2, n0, n2, empty) ] interface = {n0, n1, n2} where not edge(n0, n2)
+link(a, b, x, y, z:list) [ (n0, x) (n1, y) (n2, z) | (e0, n0, n1, a) (e1, n1, n2, b) ] => [ (n0, x) (n1, y) (n2, z) | (e0, n0, n1, a) (e1, n1, n2, b) (e2, n0, n2, empty) ] interface = {n0, n1, n2} where not edge(n0, n2)
 % [ (a, empty) (b, empty) (c, empty) | (e0, a, b, empty) (e1, b, c, empty) ]
 % run p h
 % 0 out
@@ -56,7 +56,7 @@ link(a,b,x,y,z:list) [ (n0, x) (n1, y) (n2, z) | (e0, n0, n1, a) (e1, n1, n2, b)
 ]
 
 Main = link!
-link(a,b,x,y,z:list) [ (n0, x) (n1, y) (n2, z) | (e0, n0, n1, a) (e1, n1, n2, b) ] => [ (n0, x) (n1, y) (n2, z) | (e0, n0, n1, a) (e1, n1, n2, b) (e2, n0, n2, empty) ] interface = {n0, n1, n2} where not edge(n0, n2)
+link(a, b, x, y, z:list) [ (n0, x) (n1, y) (n2, z) | (e0, n0, n1, a) (e1, n1, n2, b) ] => [ (n0, x) (n1, y) (n2, z) | (e0, n0, n1, a) (e1, n1, n2, b) (e2, n0, n2, empty) ] interface = {n0, n1, n2} where not edge(n0, n2)
 % [ (a, empty) (b, empty) (c, empty) | (e0, a, b, empty) (e1, b, c, empty) ]
 % run p h --journal
 % 0 out
@@ -77,7 +77,7 @@ end
 ]
 
 Main = link!
-link(a,b,x,y,z:list) [ (n0, x) (n1, y) (n2, z) | (e0, n0, n1, a) (e1, n1, n2, b) ] => [ (n0, x) (n1, y) (n2, z) | (e0, n0, n1, a) (e1, n1, n2, b) (e2, n0, n2, empty) ] interface = {n0, n1, n2} where not edge(n0, n2)
+link(a, b, x, y, z:list) [ (n0, x) (n1, y) (n2, z) | (e0, n0, n1, a) (e1, n1, n2, b) ] => [ (n0, x) (n1, y) (n2, z) | (e0, n0, n1, a) (e1, n1, n2, b) (e2, n0, n2, empty) ] interface = {n0, n1, n2} where not edge(n0, n2)
 % [ (a, 1) (b, 2) (c, 3) | (x, a, b, empty) (y, b, c, empty) (z, c, a, empty) ]
 % run p h
 % 0 out
@@ -123,7 +123,7 @@ end
 ]
 
 Main = (inc; red)!
-inc(n:int) [ (n0, n) | ] => [ (n0, n+1) | ] interface = {n0}
+inc(n:int) [ (n0, n) | ] => [ (n0, n + 1) | ] interface = {n0}
 red(x:list) [ (n0, x # red) | ] => [ (n0, x # red) | ] interface = {n0}
 % [ (a, 1) | ]
 % run p h --journal
@@ -139,7 +139,7 @@ end
 ]
 
 Main = (inc; break)!
-inc(n:int) [ (n0, n) | ] => [ (n0, n+1) | ] interface = {n0}
+inc(n:int) [ (n0, n) | ] => [ (n0, n + 1) | ] interface = {n0}
 % [ (a, 1) | ]
 % run p h --journal
 % 0 out
@@ -159,7 +159,7 @@ Main = (skip)!
 bound 10
 
 Main = link!
-link(a,b,x,y,z:list) [ (n0, x) (n1, y) (n2, z) | (e0, n0, n1, a) (e1, n1, n2, b) ] => [ (n0, x) (n1, y) (n2, z) | (e0, n0, n1, a) (e1, n1, n2, b) (e2, n0, n2, empty) ] interface = {n0, n1, n2} where not edge(n0, n2)
+link(a, b, x, y, z:list) [ (n0, x) (n1, y) (n2, z) | (e0, n0, n1, a) (e1, n1, n2, b) ] => [ (n0, x) (n1, y) (n2, z) | (e0, n0, n1, a) (e1, n1, n2, b) (e2, n0, n2, empty) ] interface = {n0, n1, n2} where not edge(n0, n2)
 % [ (a, empty) (b, empty) (c, empty) | (e0, a, b, empty) (e1, b, c, empty) ]
 % run p h --bound 3
 % 0 out
@@ -174,21 +174,21 @@ link(a,b,x,y,z:list) [ (n0, x) (n1, y) (n2, z) | (e0, n0, n1, a) (e1, n1, n2, b)
 ]
 
 Main = link!
-link(a,b,x,y,z:list) [ (n0, x) (n1, y) (n2, z) | (e0, n0, n1, a) (e1, n1, n2, b) ] => [ (n0, x) (n1, y) (n2, z) | (e0, n0, n1, a) (e1, n1, n2, b) (e2, n0, n2, empty) ] interface = {n0, n1, n2} where not edge(n0, n2)
+link(a, b, x, y, z:list) [ (n0, x) (n1, y) (n2, z) | (e0, n0, n1, a) (e1, n1, n2, b) ] => [ (n0, x) (n1, y) (n2, z) | (e0, n0, n1, a) (e1, n1, n2, b) (e2, n0, n2, empty) ] interface = {n0, n1, n2} where not edge(n0, n2)
 % [ (a, empty) (b, empty) (c, empty) | (e0, a, b, empty) (e1, b, c, empty) ]
 % run p h --bound 2
 % 5 err
 bound 2
 
 Main = link!
-link(a,b,x,y,z:list) [ (n0, x) (n1, y) (n2, z) | (e0, n0, n1, a) (e1, n1, n2, b) ] => [ (n0, x) (n1, y) (n2, z) | (e0, n0, n1, a) (e1, n1, n2, b) (e2, n0, n2, empty) ] interface = {n0, n1, n2} where not edge(n0, n2)
+link(a, b, x, y, z:list) [ (n0, x) (n1, y) (n2, z) | (e0, n0, n1, a) (e1, n1, n2, b) ] => [ (n0, x) (n1, y) (n2, z) | (e0, n0, n1, a) (e1, n1, n2, b) (e2, n0, n2, empty) ] interface = {n0, n1, n2} where not edge(n0, n2)
 % [ (a, empty) (b, empty) (c, empty) | (e0, a, b, empty) (e1, b, c, empty) ]
 % run p h --bound 1
 % 5 err
 bound 1
 
 Main = link!
-link(a,b,x,y,z:list) [ (n0, x) (n1, y) (n2, z) | (e0, n0, n1, a) (e1, n1, n2, b) ] => [ (n0, x) (n1, y) (n2, z) | (e0, n0, n1, a) (e1, n1, n2, b) (e2, n0, n2, empty) ] interface = {n0, n1, n2} where not edge(n0, n2)
+link(a, b, x, y, z:list) [ (n0, x) (n1, y) (n2, z) | (e0, n0, n1, a) (e1, n1, n2, b) ] => [ (n0, x) (n1, y) (n2, z) | (e0, n0, n1, a) (e1, n1, n2, b) (e2, n0, n2, empty) ] interface = {n0, n1, n2} where not edge(n0, n2)
 % [ (a, empty) (b, empty) (c, empty) | (e0, a, b, empty) (e1, b, c, empty) ]
 % run p h --bound 0
 % 5 err

@@ -100,7 +100,7 @@ fn a_graph_is_cut_at_any_byte(rt: HostRuntime) -> Result<(), Fail> {
 }
 
 const CLOSURE: &str = "Main = link!
-link(a,b,x,y,z:list) [ (n0, x) (n1, y) (n2, z) | (e0, n0, n1, a) (e1, n1, n2, b) ] => [ (n0, x) (n1, y) (n2, z) | (e0, n0, n1, a) (e1, n1, n2, b) (e2, n0, n2, empty) ] interface = {n0, n1, n2} where not edge(n0, n2)";
+link(a, b, x, y, z:list) [ (n0, x) (n1, y) (n2, z) | (e0, n0, n1, a) (e1, n1, n2, b) ] => [ (n0, x) (n1, y) (n2, z) | (e0, n0, n1, a) (e1, n1, n2, b) (e2, n0, n2, empty) ] interface = {n0, n1, n2} where not edge(n0, n2)";
 
 const PATH: &str = "[ (a, empty) (b, empty) (c, empty) | (e0, a, b, empty) (e1, b, c, empty) ]";
 

@@ -76,7 +76,7 @@ Main = one one() [ | ] => [ | ] interface = {} one() [ | ] => [ | ] interface = 
 % 3 err
 program: TwoRules one
 
-Main = skip r(x,y:list) [ (n0, x:y) | ] => [ | ] interface = {}
+Main = skip r(x, y:list) [ (n0, x:y) | ] => [ | ] interface = {}
 % [ | ]
 % run p h
 % 3 err

@@ -8,7 +8,7 @@ use std::test::Fail;
 // the order in which the files are read.
 const STEPS: &str = "step p h s
 % Main = (inc; red)!
-inc(n:int) [ (n0, n) | ] => [ (n0, n+1) | ] interface = {n0}
+inc(n:int) [ (n0, n) | ] => [ (n0, n + 1) | ] interface = {n0}
 red(x:list) [ (n0, x # red) | ] => [ (n0, x # red) | ] interface = {n0}
 % [ (a, 1) | ]
 % forward
@@ -44,7 +44,7 @@ at 2
 
 step p h s
 % Main = (inc; red)!
-inc(n:int) [ (n0, n) | ] => [ (n0, n+1) | ] interface = {n0}
+inc(n:int) [ (n0, n) | ] => [ (n0, n + 1) | ] interface = {n0}
 red(x:list) [ (n0, x # red) | ] => [ (n0, x # red) | ] interface = {n0}
 % [ (a, 1) | ]
 % forward
@@ -57,7 +57,7 @@ start
 
 step p h s
 % Main = inc; red
-inc(n:int) [ (n0, n) | ] => [ (n0, n+1) | ] interface = {n0}
+inc(n:int) [ (n0, n) | ] => [ (n0, n + 1) | ] interface = {n0}
 red(x:list) [ (n0, x # red) | ] => [ (n0, x # red) | ] interface = {n0}
 % [ (a, 1) | ]
 % forward
@@ -80,7 +80,7 @@ bound 2
 
 step p h s
 % Main = half
-half(n:int) [ (n0, n) | ] => [ (n0, 1/n) | ] interface = {n0}
+half(n:int) [ (n0, n) | ] => [ (n0, 1 / n) | ] interface = {n0}
 % [ (a, 0) | ]
 % forward
 % 6 err

@@ -24,7 +24,7 @@ use Rattle.gp_check.specs.declared.fault.RuleFault.TheVariants as rule_faults
 use Rattle.gp_check.specs.Answer.{Refuses}
 use Rattle.gp_reader.specs.declared.fault.ProgramFault.{ProgramFault}
 use Rattle.gp_reader.specs.declared.fault.ProgramFault.TheVariants as faults
-use Rattle.gp_reader.specs.Program.{HasTree, IsScopedText, IsRefusal, HasNames, rule_names, first_faulty}
+use Rattle.gp_reader.specs.Program.{IsScopedText, IsRefusal, ReadsTree, HasNames, rule_names, first_faulty}
 
 -- ---- faults of the stages as those of a program
 
@@ -67,12 +67,7 @@ with_line bytes tokens parse_faults.NoMemory = faults.NoMemory
 
 -- ---- what the stages answer
 
--- the tree of a text, or why it has none
-abbrev pub ReadsTree : List ℕ → Result Ast ProgramFault → Type 0
-ReadsTree bytes (Ok tree) = HasTree bytes tree
-ReadsTree bytes (Err e) = IsRefusal bytes e
-
--- the same, where these are its tokens
+-- the tree of a text, or why it has none, where these are its tokens
 abbrev pub IsParsed : List ℕ → List Token → Result Ast ProgramFault → Type 0
 IsParsed bytes tokens r = tokens_of bytes ≡ Ok tokens → ReadsTree bytes r
 

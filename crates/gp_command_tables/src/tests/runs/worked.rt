@@ -142,14 +142,14 @@ del(x:list) [ (n0, x) | ] => [ | ] interface = {}
 ]
 
 Main = inc
-inc(n:int) [ (n0, n) | ] => [ (n0, n+1) | ] interface = {n0}
+inc(n:int) [ (n0, n) | ] => [ (n0, n + 1) | ] interface = {n0}
 % [ (a, 170141183460469231731687303715884105727) | ]
 % run p h
 % 6 err
 number inc past-128-bits
 
 Main = dec
-dec(n:int) [ (n0, n) | ] => [ (n0, n-1) | ] interface = {n0}
+dec(n:int) [ (n0, n) | ] => [ (n0, n - 1) | ] interface = {n0}
 % [ (a, 170141183460469231731687303715884105727) | ]
 % run p h
 % 0 out
@@ -159,21 +159,21 @@ dec(n:int) [ (n0, n) | ] => [ (n0, n-1) | ] interface = {n0}
 ]
 
 Main = safe
-safe(d:int) [ (n0, d) | ] => [ (n0, 10/d) | ] interface = {n0} where d != 0 and 10/d > 1
+safe(d:int) [ (n0, d) | ] => [ (n0, 10 / d) | ] interface = {n0} where d != 0 and 10 / d > 1
 % [ (a, 0) | ]
 % run p h
 % 1 out
 fail
 
 Main = bare
-bare(d:int) [ (n0, d) | ] => [ (n0, 10/d) | ] interface = {n0} where 10/d > 1 and d != 0
+bare(d:int) [ (n0, d) | ] => [ (n0, 10 / d) | ] interface = {n0} where 10 / d > 1 and d != 0
 % [ (a, 0) | ]
 % run p h
 % 6 err
 number bare zero-divisor
 
 Main = safe
-safe(d:int) [ (n0, d) | ] => [ (n0, 10/d) | ] interface = {n0} where d != 0 and 10/d > 1
+safe(d:int) [ (n0, d) | ] => [ (n0, 10 / d) | ] interface = {n0} where d != 0 and 10 / d > 1
 % [ (a, 4) | ]
 % run p h
 % 0 out
@@ -183,7 +183,7 @@ safe(d:int) [ (n0, d) | ] => [ (n0, 10/d) | ] interface = {n0} where d != 0 and 
 ]
 
 Main = bare
-bare(d:int) [ (n0, d) | ] => [ (n0, 10/d) | ] interface = {n0} where 10/d > 1 and d != 0
+bare(d:int) [ (n0, d) | ] => [ (n0, 10 / d) | ] interface = {n0} where 10 / d > 1 and d != 0
 % [ (a, 4) | ]
 % run p h
 % 0 out
@@ -193,7 +193,7 @@ bare(d:int) [ (n0, d) | ] => [ (n0, 10/d) | ] interface = {n0} where 10/d > 1 an
 ]
 
 Main = quo
-quo(d:int) [ (n0, d) | ] => [ (n0, d/2) | ] interface = {n0}
+quo(d:int) [ (n0, d) | ] => [ (n0, d / 2) | ] interface = {n0}
 % [ (a, -7) | ]
 % run p h
 % 0 out
@@ -203,7 +203,7 @@ quo(d:int) [ (n0, d) | ] => [ (n0, d/2) | ] interface = {n0}
 ]
 
 Main = cut
-cut(s:string; c:char) [ (n0, \"a\".s.c) | ] => [ (n0, s:c) | ] interface = {n0}
+cut(s:string; c:char) [ (n0, "a\".s.c) | ] => [ (n0, s:c) | ] interface = {n0}
 % [ (a, \"ab\") | ]
 % run p h
 % 0 out
@@ -213,7 +213,7 @@ cut(s:string; c:char) [ (n0, \"a\".s.c) | ] => [ (n0, s:c) | ] interface = {n0}
 ]
 
 Main = cut
-cut(s:string; c:char) [ (n0, \"a\".s.c) | ] => [ (n0, s:c) | ] interface = {n0}
+cut(s:string; c:char) [ (n0, "a\".s.c) | ] => [ (n0, s:c) | ] interface = {n0}
 % [ (a, \"abc\") | ]
 % run p h
 % 0 out
@@ -223,14 +223,14 @@ cut(s:string; c:char) [ (n0, \"a\".s.c) | ] => [ (n0, s:c) | ] interface = {n0}
 ]
 
 Main = cut
-cut(s:string; c:char) [ (n0, \"a\".s.c) | ] => [ (n0, s:c) | ] interface = {n0}
+cut(s:string; c:char) [ (n0, "a\".s.c) | ] => [ (n0, s:c) | ] interface = {n0}
 % [ (a, \"a\") | ]
 % run p h
 % 1 out
 fail
 
 Main = cut
-cut(s:string; c:char) [ (n0, \"a\".s.c) | ] => [ (n0, s:c) | ] interface = {n0}
+cut(s:string; c:char) [ (n0, "a\".s.c) | ] => [ (n0, s:c) | ] interface = {n0}
 % [ (a, 1) | ]
 % run p h
 % 1 out
@@ -271,7 +271,7 @@ del(x:list) [ (n0, x) | ] => [ | ] interface = {}
 ]
 
 Main = hop; hop
-hop(x,y,a:list) [ (n0(R), x) (n1, y) | (e0, n0, n1, a) ] => [ (n0, x) (n1(R), y) | (e0, n0, n1, a) ] interface = {n0, n1}
+hop(x, y, a:list) [ (n0(R), x) (n1, y) | (e0, n0, n1, a) ] => [ (n0, x) (n1(R), y) | (e0, n0, n1, a) ] interface = {n0, n1}
 % [ (a(R), 1) (b, 2) | (x, a, b, 3) (y, b, a, 3) ]
 % run p h
 % 0 out
@@ -284,7 +284,7 @@ hop(x,y,a:list) [ (n0(R), x) (n1, y) | (e0, n0, n1, a) ] => [ (n0, x) (n1(R), y)
 ]
 
 Main = hop; hop
-hop(x,y,a:list) [ (n0(R), x) (n1, y) | (e0, n0, n1, a) ] => [ (n0, x) (n1(R), y) | (e0, n0, n1, a) ] interface = {n0, n1}
+hop(x, y, a:list) [ (n0(R), x) (n1, y) | (e0, n0, n1, a) ] => [ (n0, x) (n1(R), y) | (e0, n0, n1, a) ] interface = {n0, n1}
 % [ (a(R), 1) (b(R), 2) | (x, a, b, 3) (y, b, a, 3) ]
 % run p h
 % 1 out
@@ -313,8 +313,8 @@ bid(z:list) [ (n0, 1) (n1, 2) | (e0(B), n0, n1, z) ] => [ (n0, 1 # red) (n1, 2) 
 fail
 
 Main = paint; wipe
-paint(x,y,a:list) [ (n0, x) (n1, y) | (e0, n0, n1, a) ] => [ (n0, x) (n1, y) | (e0, n0, n1, a # red) ] interface = {n0, n1}
-wipe(x,y,a:list) [ (n0, x) (n1, y) | (e0, n0, n1, a # red) ] => [ (n0, x) (n1, y) | (e0, n0, n1, a) ] interface = {n0, n1}
+paint(x, y, a:list) [ (n0, x) (n1, y) | (e0, n0, n1, a) ] => [ (n0, x) (n1, y) | (e0, n0, n1, a # red) ] interface = {n0, n1}
+wipe(x, y, a:list) [ (n0, x) (n1, y) | (e0, n0, n1, a # red) ] => [ (n0, x) (n1, y) | (e0, n0, n1, a) ] interface = {n0, n1}
 % [ (a, 1) (b, 2) | (x, a, b, 3) ]
 % run p h --journal
 % 0 out
@@ -347,14 +347,14 @@ keep(x:list) [ (n0, x # any) | ] => [ (n0, 5 # any) | ] interface = {n0}
 ]
 
 Main = par
-par(x,y,z,w:list) [ (n0, x) (n1, y) | (e0, n0, n1, z) (e1, n0, n1, w) ] => [ (n0, x) (n1, y) | ] interface = {n0, n1}
+par(x, y, z, w:list) [ (n0, x) (n1, y) | (e0, n0, n1, z) (e1, n0, n1, w) ] => [ (n0, x) (n1, y) | ] interface = {n0, n1}
 % [ (a, 1) (b, 2) | (x, a, b, 3) ]
 % run p h
 % 1 out
 fail
 
 Main = par
-par(x,y,z,w:list) [ (n0, x) (n1, y) | (e0, n0, n1, z) (e1, n0, n1, w) ] => [ (n0, x) (n1, y) | ] interface = {n0, n1}
+par(x, y, z, w:list) [ (n0, x) (n1, y) | (e0, n0, n1, z) (e1, n0, n1, w) ] => [ (n0, x) (n1, y) | ] interface = {n0, n1}
 % [ (a, 1) (b, 2) | (x, a, b, 3) (y, a, b, 3) ]
 % run p h
 % 0 out

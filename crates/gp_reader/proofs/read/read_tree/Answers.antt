@@ -3,7 +3,7 @@ use Rattle.std.proofs.lemmas.Result.{err_from_is_err_and}
 use Rattle.gp_tokens.specs.declared.token.Token.{Token}
 use Rattle.gp_reader.specs.inside.Stages.{IsParsed}
 use Rattle.gp_reader.proofs.Texts.{lex_refused}
-use Rattle.gp_reader.proofs.read.tree_of_text.Goals as goal
+use Rattle.gp_reader.proofs.read.read_tree.Goals as goal
 
 pub returns-in_err-tokens : goal.returns-in_err-tokens
 returns-in_err-tokens c =

@@ -1,0 +1,4 @@
+pub mod Behind
+pub mod Standing
+pub mod Texts
+pub mod Whole

@@ -1,0 +1,13 @@
+pub mod Nestings
+pub mod Under
+pub mod Roles
+pub mod Quiet
+pub mod Texts
+pub mod Forms
+pub mod Parts
+pub mod Expressions
+pub mod Conditions
+pub mod Commands
+pub mod Rules
+pub mod Programs
+pub mod Whole

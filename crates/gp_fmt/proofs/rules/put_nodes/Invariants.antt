@@ -1,0 +1,7 @@
+use Rattle.std.proofs.Common.{◌≡◌, ◌++◌, take}
+use Rattle.std.specs.List.{flat_map}
+use Rattle.gp_fmt.specs.Rules.{node}
+use Rattle.gp_fmt.proofs.rules.put_nodes.Given as goal
+
+abbrev pub invariant-each : goal.invariant-each
+invariant-each l = l.pieces.items ≡ l.initial.pieces.items ++ flat_map node (take l.n-index l.nodes)
