@@ -5,15 +5,16 @@ use Rattle.gp_io.specs.Outside.{KnownFiles}
 use Rattle.gp_values.specs.Names.{Name}
 use Rattle.gp_values.specs.Graph.{Graph}
 use Rattle.gp_syntax.specs.Run.{Program}
-use Rattle.gp_words.specs.CommandLine.{Command, run, demo, check, step, command_of}
+use Rattle.gp_words.specs.CommandLine.{Command, run, demo, check, fmt, step, command_of}
 use Rattle.gp_reply.specs.Texts.{Said, usage}
-use Rattle.gp_cli.specs.Answer.{Comes, OfBoth, RunAnswers, Checks, CheckAnswers, Steps, StepAnswers, DemoAnswers, IsTrue, of_words, of_run, of_demo, of_check, of_step}
+use Rattle.gp_cli.specs.Answer.{Comes, OfBoth, RunAnswers, Checks, CheckAnswers, FmtAnswers, Steps, StepAnswers, DemoAnswers, IsTrue, of_words, of_run, of_demo, of_check, of_fmt, of_step}
 use Rattle.gp_cli.specs.Completes.{files_of}
 
 abbrev pub Answers : Command → KnownFiles → KnownFiles → Said → Type 0
 Answers (run k) old new said = RunAnswers old new k said
 Answers (demo k) old new said = DemoAnswers k said
 Answers (check k) old new said = CheckAnswers old new k said
+Answers (fmt k) old new said = FmtAnswers old new k said
 Answers (step k) old new said = StepAnswers old new k said
 
 same_command : (words : List Name) (c d : Command) → command_of words ≡ Some c → command_of words ≡ Some d → c ≡ d
@@ -24,6 +25,7 @@ by_command c w (of_words v) = absurd cc
 by_command {words} {old} {new} {said} c w (of_run {k} v x) = subst (λ (c : Command). Answers c old new said) (same_command words (run k) c v w) x
 by_command {words} {old} {new} {said} c w (of_demo {k} v x) = subst (λ (c : Command). Answers c old new said) (same_command words (demo k) c v w) x
 by_command {words} {old} {new} {said} c w (of_check {k} v x) = subst (λ (c : Command). Answers c old new said) (same_command words (check k) c v w) x
+by_command {words} {old} {new} {said} c w (of_fmt {k} v x) = subst (λ (c : Command). Answers c old new said) (same_command words (fmt k) c v w) x
 by_command {words} {old} {new} {said} c w (of_step {k} v x) = subst (λ (c : Command). Answers c old new said) (same_command words (step k) c v w) x
 
 pub no_command : {words : List Name} {old new : KnownFiles} {said : Said} → command_of words ≡ None → IsTrue words old new said → said ≡ usage
@@ -31,6 +33,7 @@ no_command w (of_words v) = λ i. usage
 no_command w (of_run v x) = absurd cc
 no_command w (of_demo v x) = absurd cc
 no_command w (of_check v x) = absurd cc
+no_command w (of_fmt v x) = absurd cc
 no_command w (of_step v x) = absurd cc
 
 same_files : (a b c d : Name) → ◌≡◌ {A = Option (Name × Name)} (Some (a, b)) (Some (c, d)) → ◌≡◌ {A = Name × Name} (a, b) (c, d)
@@ -44,5 +47,6 @@ both_of_command {program} {host} {old} {new} {said} (run k) e x =
 both_of_command (demo k) e x = absurd cc
 both_of_command {program} {host} {old} {new} {said} (check k) e x =
     (λ p names g. Checks old new k p g, subst (λ (n : Name × Name). OfBoth old new n.0 n.1 (λ p names g. Checks old new k p g) said) (same_files k.program k.host program host e) x)
+both_of_command (fmt k) e x = absurd cc
 both_of_command {program} {host} {old} {new} {said} (step k) e x =
     (Steps old new k, subst (λ (n : Name × Name). OfBoth old new n.0 n.1 (Steps old new k) said) (same_files k.program k.host program host e) x)

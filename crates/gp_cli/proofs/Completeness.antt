@@ -5,18 +5,28 @@ use Rattle.gp_io.specs.Outside.{KnownFiles, KnownSink}
 use Rattle.gp_values.specs.Names.{Name}
 use Rattle.gp_values.specs.Graph.{Graph}
 use Rattle.gp_syntax.specs.Run.{Program}
-use Rattle.gp_reader.specs.Laws.{TextsHaveNoFault, TextsHaveOneProgram}
+use Rattle.gp_reader.specs.Laws.{TextsHaveNoFault, TextsHaveOneProgram, TreesHaveNoFault}
+use Rattle.gp_fmt.specs.Laws.{CanonicalTextsAreRead, CanonicalTextsStay}
 use Rattle.gp_derivation.specs.Derivation.{IsDerivation}
 use Rattle.gp_trace.specs.declared.version.Version.TheVariants.{Two}
-use Rattle.gp_words.specs.CommandLine.{run, demo, check, step, command_of}
+use Rattle.gp_words.specs.CommandLine.{run, demo, check, fmt, step, command_of}
 use Rattle.gp_reply.specs.Texts.{Said}
-use Rattle.gp_cli.specs.Answer.{HasProgram, HasHost, HasTrace, IsTrue, Answered, replied, no_memory, out_fault, err_fault}
-use Rattle.gp_cli.specs.Completes.{IsOneOf, Stays, NoSinkFails, NothingFails, Refuses, RunCompletes, CheckCompletes, ChecksRuns, StepCompletes, DemoCompletes, RefusesWords, files_of, RefusesProgram, RefusesHost, RefusesTrace, RefusesResult, RefusesScript, RefusesDemoProgram, RefusesDemoHost, TellsFaults, Completes}
+use Rattle.gp_cli.specs.Answer.{HasProgram, HasProgramTree, HasHost, HasTrace, IsTrue, Answered, replied, no_memory, out_fault, err_fault}
+use Rattle.gp_cli.specs.Completes.{IsOneOf, Stays, NoSinkFails, NothingFails, Refuses, RunCompletes, CheckCompletes, ChecksRuns, FmtCompletes, FormatsAgain, StepCompletes, DemoCompletes, RefusesWords, files_of, RefusesProgram, RefusesHost, RefusesTrace, RefusesResult, RefusesScript, RefusesTree, RefusesDemoProgram, RefusesDemoHost, TellsFaults, Completes}
 use Rattle.gp_cli.specs.Written.{TakesAll}
 use Rattle.gp_cli.proofs.Held.{same_program, same_host}
 use Rattle.gp_cli.proofs.Causes.{status_of, shown, OfRun, OfDemo, of_run, of_demo_answer, of_demo_program, of_demo_host, MayBeUnread, never_unread, of_both, of_faulty_program, of_faulty_host, of_check, of_faulty_trace, of_long_result, of_step, of_faulty_script}
 use Rattle.gp_cli.proofs.Commands.{by_command, no_command, both_of_command}
+use Rattle.gp_cli.proofs.Formats.{of_tree, of_treeless, is_written, read_back, gives_again}
 use Rattle.gp_cli.proofs.Ran.{derived}
+
+-- what holds of the texts of programs
+pub record Laws : Type 0 where
+  pub faultless : TextsHaveNoFault
+  pub one_program : TextsHaveOneProgram
+  pub trees : TreesHaveNoFault
+  pub read : CanonicalTextsAreRead
+  pub stay : CanonicalTextsStay
 
 stayed : {before now : KnownSink} {pieces : List (List ℕ)} → TakesAll before now pieces → before.faults < now.faults → ⊥
 stayed t h = let e = t.faultless in omega arith
@@ -86,6 +96,17 @@ module _ {words : List Name} {old new : KnownFiles} {out_old out_new err_old err
       (subst (λ (q : Program). IsDerivation q d.g Two d.items result) (same_program known one_program hp kp) d.derivation)))) x)
       (by_command (check k) w is)) not_out not_err a
 
+  fmts_complete : {s : ℕ} → TreesHaveNoFault → Answered words old new out_old out_new err_old err_new s → FmtCompletes words old new out_old out_new err_old err_new s
+  fmts_complete faultless a held k tree known w h n not_out not_err =
+      let Good : ℕ → Type 0 = IsOneOf (0 ∷ 7 ∷ []) in
+      answers_well Good (inr (inl refl)) (λ said is. of_tree known Good (never_unread Good n) faultless h (inl refl) (by_command (fmt k) w is)) not_out not_err a
+
+  fmts_again : {s : ℕ} → TreesHaveNoFault → CanonicalTextsAreRead → CanonicalTextsStay → Answered words old new out_old out_new err_old err_new s → FormatsAgain words old new out_old out_new err_old err_new s
+  fmts_again faultless read stay a held k result known w f b n not_out not_err =
+      let f = is_written f in
+      let h : HasProgramTree old.content k.program f.tree = record { bytes = result; has = b; has_tree = read_back read f } in
+      (fmts_complete faultless a held k f.tree known w h n not_out not_err, gives_again k stay known w f b)
+
   steps_complete : {s : ℕ} → TextsHaveNoFault → Answered words old new out_old out_new err_old err_new s → StepCompletes words old new out_old out_new err_old err_new s
   steps_complete faultless a held k p names g lines known w hp hh hs n not_out not_err =
       let never = never_unread OfStep n in
@@ -123,6 +144,10 @@ module _ {words : List Name} {old new : KnownFiles} {out_old out_new err_old err
   scripts_refuse faultless a held k p names g known w hp hh f =
       refuses_unread 11 (λ Good eleven unread said is. of_both known Good unread faultless hp hh (λ q others h kp kh x. of_faulty_script known Good unread eleven f x) (by_command (step k) w is)) a
 
+  trees_refuse : {s : ℕ} → TreesHaveNoFault → Answered words old new out_old out_new err_old err_new s → RefusesTree words old new out_old out_new err_old err_new s
+  trees_refuse faultless a held k known w f =
+      refuses_unread 3 (λ Good three unread said is. of_treeless known Good unread faultless three f (by_command (fmt k) w is)) a
+
   demo_programs_refuse : {s : ℕ} → TextsHaveNoFault → Answered words old new out_old out_new err_old err_new s → RefusesDemoProgram words out_old out_new err_old err_new s
   demo_programs_refuse faultless a k f w x = refuses_surely 3 (λ said is. of_demo_program faultless x (by_command (demo k) w is)) a
 
@@ -143,21 +168,24 @@ module _ {words : List Name} {old new : KnownFiles} {out_old out_new err_old err
   err_tells (out_fault _ _ _) h = refl
   err_tells (err_fault _ _ _) h = refl
 
-  pub completes : {s : ℕ} → TextsHaveNoFault → TextsHaveOneProgram → Answered words old new out_old out_new err_old err_new s → Completes words old new out_old out_new err_old err_new s
-  completes faultless one_program a = record {
-    runs = runs_complete faultless a;
-    checks = checks_complete faultless a;
-    checks_runs = checks_run faultless one_program a;
-    steps = steps_complete faultless a;
+  pub completes : {s : ℕ} → Laws → Answered words old new out_old out_new err_old err_new s → Completes words old new out_old out_new err_old err_new s
+  completes laws a = record {
+    runs = runs_complete laws.faultless a;
+    checks = checks_complete laws.faultless a;
+    checks_runs = checks_run laws.faultless laws.one_program a;
+    formats = fmts_complete laws.trees a;
+    formats_again = fmts_again laws.trees laws.read laws.stay a;
+    steps = steps_complete laws.faultless a;
     demos = demos_complete a;
     words_refused = words_refuse a;
-    program_refused = programs_refuse faultless a;
-    host_refused = hosts_refuse faultless a;
-    trace_refused = traces_refuse faultless a;
-    result_refused = results_refuse faultless a;
-    script_refused = scripts_refuse faultless a;
-    demo_program_refused = demo_programs_refuse faultless a;
-    demo_host_refused = demo_hosts_refuse faultless a;
+    program_refused = programs_refuse laws.faultless a;
+    host_refused = hosts_refuse laws.faultless a;
+    trace_refused = traces_refuse laws.faultless a;
+    result_refused = results_refuse laws.faultless a;
+    script_refused = scripts_refuse laws.faultless a;
+    tree_refused = trees_refuse laws.trees a;
+    demo_program_refused = demo_programs_refuse laws.faultless a;
+    demo_host_refused = demo_hosts_refuse laws.faultless a;
     out_faults = out_tells a;
     err_faults = err_tells a;
   }

@@ -13,7 +13,7 @@ use Rattle.gp_trace.specs.Reading.{HasFault}
 use Rattle.gp_script.specs.declared.fault.ScriptFault.{ScriptFault}
 use Rattle.gp_script.specs.declared.fault.ScriptFault.TheVariants as unread
 use Rattle.gp_script.specs.Script as script
-use Rattle.gp_cli.specs.inside.Parts.{HostsOrFaults, TellsOrFaults, TracesOrFaults, ScriptsOrFaults}
+use Rattle.gp_cli.specs.inside.Parts.{HostsOrFaults, TellsOrFaults, TreesOrFaults, TracesOrFaults, ScriptsOrFaults}
 use Rattle.gp_reply.specs.Said.{host_refused, program_refused, trace_refused, script_refused}
 
 -- ---- what is refused
@@ -36,6 +36,16 @@ program_faults bytes (faulty.NumberRange k) h = (faulty.NumberRange k, refl, h)
 program_faults bytes (faulty.Scope x) h = (faulty.Scope x, refl, h)
 program_faults bytes (faulty.Rule n x) h = (faulty.Rule n x, refl, h)
 program_faults bytes faulty.NoMemory h = tt
+
+-- want of memory is no fault of a text
+pub tree_faults : (bytes : List ℕ) (e : ProgramFault) → program.IsTreeRefusal bytes e → TreesOrFaults bytes (Err (program_refused e))
+tree_faults bytes (faulty.Lex x) h = (faulty.Lex x, refl, h)
+tree_faults bytes (faulty.TooDeep k) h = (faulty.TooDeep k, refl, h)
+tree_faults bytes (faulty.Syntax k) h = (faulty.Syntax k, refl, h)
+tree_faults bytes (faulty.NumberRange k) h = (faulty.NumberRange k, refl, h)
+tree_faults bytes (faulty.Scope x) h = absurd h
+tree_faults bytes (faulty.Rule n x) h = absurd h
+tree_faults bytes faulty.NoMemory h = tt
 
 pub trace_faults : (bytes : List ℕ) (e : TraceFault) → HasFault bytes e → TracesOrFaults bytes (Err (trace_refused e))
 trace_faults bytes (breaks.Line k) h = (k, refl, h)

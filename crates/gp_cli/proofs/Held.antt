@@ -5,9 +5,10 @@ use Rattle.std.specs.FinMap as map
 use Rattle.gp_io.specs.Outside.{Content, KnownFiles, HasFile, LacksFile}
 use Rattle.gp_values.specs.Names.{Name}
 use Rattle.gp_values.specs.Graph.{Graph}
+use Rattle.gp_syntax.specs.declared.tree.Ast.{Ast}
 use Rattle.gp_syntax.specs.Run.{Program, Item}
-use Rattle.gp_reader.specs.Program.{IsProgramText}
-use Rattle.gp_reader.specs.Laws.{TextsHaveNoFault, TextsHaveOneProgram}
+use Rattle.gp_reader.specs.Program.{HasTree, IsProgramText}
+use Rattle.gp_reader.specs.Laws.{TextsHaveNoFault, TextsHaveOneProgram, TreesHaveNoFault}
 use Rattle.gp_hostfile.specs.Host.{IsHostText}
 use Rattle.gp_hostfile.proofs.Hosts.{one_host, no_fault}
 use Rattle.gp_trace.specs.declared.version.Version.{Version}
@@ -16,7 +17,7 @@ use Rattle.gp_trace.proofs.Told.{told, breaks_told}
 use Rattle.gp_script.specs.declared.line.Line.{Line}
 use Rattle.gp_script.specs.Script.{IsScript}
 use Rattle.gp_script.proofs.Words.{breaks_once}
-use Rattle.gp_cli.specs.Answer.{HasBytes, HasLongFile, CannotRead, risen, lacking, HasProgram, HasHost, HasTrace, HasScript, HasFaultyProgram, has_long_program, has_bad_program, HasFaultyHost, has_long_host, has_bad_host, HasFaultyTrace, has_long_trace, has_bad_trace, HasFaultyScript, has_long_script, has_bad_script}
+use Rattle.gp_cli.specs.Answer.{HasBytes, HasLongFile, CannotRead, risen, lacking, HasProgram, HasProgramTree, HasHost, HasTrace, HasScript, HasFaultyProgram, has_long_program, has_bad_program, HasTreelessProgram, has_long_text, has_no_tree, HasFaultyHost, has_long_host, has_bad_host, HasFaultyTrace, has_long_trace, has_bad_trace, HasFaultyScript, has_long_script, has_bad_script}
 use Rattle.gp_cli.specs.Completes.{Stays}
 
 pub same_bytes : {held : Content} (content : Option Content) (name : Name) (a b : List ℕ) → content ≡ Some held → HasFile content name a → HasFile content name b → a ≡ b
@@ -44,6 +45,10 @@ module _ {content : Option Content} {name : Name} where
   program_bytes (has_long_program f) = (f.bytes, f.file)
   program_bytes (has_bad_program {bytes} b x) = (bytes, b.file)
 
+  pub tree_bytes : HasTreelessProgram content name → (bytes : List ℕ) × HasFile content name bytes
+  tree_bytes (has_long_text f) = (f.bytes, f.file)
+  tree_bytes (has_no_tree {bytes} b x) = (bytes, b.file)
+
   pub host_bytes : HasFaultyHost content name → (bytes : List ℕ) × HasFile content name bytes
   host_bytes (has_long_host f) = (f.bytes, f.file)
   host_bytes (has_bad_host {bytes} b x) = (bytes, b.file)
@@ -69,6 +74,9 @@ module _ {content : Option Content} {held : Content} (known : content ≡ Some h
   pub program_again : {p : Program} {names : List Name} (bytes : List ℕ) → HasFile content name bytes → HasProgram content name p names → IsProgramText bytes p
   program_again {p} bytes f h = subst (λ (b : List ℕ). IsProgramText b p) (same_bytes content name h.bytes bytes known h.has.file f) h.tells.text
 
+  pub tree_again : {tree : Ast} (bytes : List ℕ) → HasFile content name bytes → HasProgramTree content name tree → HasTree bytes tree
+  tree_again {tree} bytes f h = subst (λ (b : List ℕ). HasTree b tree) (same_bytes content name h.bytes bytes known h.has.file f) h.has_tree
+
   pub host_again : {g : Graph} (bytes : List ℕ) → HasFile content name bytes → HasHost content name g → IsHostText bytes g
   host_again {g} bytes f h = subst (λ (b : List ℕ). IsHostText b g) (same_bytes content name h.bytes bytes known h.has.file f) h.text
 
@@ -92,6 +100,10 @@ module _ {content : Option Content} {held : Content} (known : content ≡ Some h
   pub sound_program : {p : Program} {names : List Name} → TextsHaveNoFault → HasProgram content name p names → HasFaultyProgram content name → ⊥
   sound_program faultless h (has_long_program f) = too_long h.has f
   sound_program {p} faultless h (has_bad_program {bytes} {f} b x) = faultless bytes p f (program_again bytes b.file h) x
+
+  pub sound_tree : {tree : Ast} → TreesHaveNoFault → HasProgramTree content name tree → HasTreelessProgram content name → ⊥
+  sound_tree faultless h (has_long_text f) = too_long h.has f
+  sound_tree {tree} faultless h (has_no_tree {bytes} {f} b x) = faultless bytes tree f (tree_again bytes b.file h) x
 
   pub sound_host : {g : Graph} → HasHost content name g → HasFaultyHost content name → ⊥
   sound_host h (has_long_host f) = too_long h.has f

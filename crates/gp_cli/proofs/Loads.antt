@@ -10,6 +10,7 @@ use Rattle.gp_io.specs.Outside.{Content, KnownFiles, Rose, LacksFile}
 use Rattle.gp_values.specs.Names.{Name}
 use Rattle.gp_values.specs.Graph.{Graph as AnyGraph}
 use Rattle.gp_syntax.specs.declared.found.Item.{Item}
+use Rattle.gp_syntax.specs.declared.tree.Ast.{Ast}
 use Rattle.gp_syntax.specs.declared.command.ProgramParts.{ProgramParts}
 use Rattle.gp_syntax.specs.Run as meant
 use Rattle.gp_trace.specs.declared.version.Version.{Version}
@@ -20,8 +21,8 @@ use Rattle.gp_reply.specs.declared.said.Said.{Said}
 use Rattle.gp_reply.specs.declared.said.Stop.{Stop}
 use Rattle.gp_reply.specs.declared.said.Stop.TheVariants as stops
 use Rattle.gp_reply.specs.Texts as texts
-use Rattle.gp_cli.specs.Answer.{HasBytes, HasLongFile, HasTrace, HasScript, CannotRead, risen, lacking, StopsAtProgram, program_is_long, program_is_bad, program_is_unread, StopsAtHost, host_is_long, host_is_bad, host_is_unread, StopsAtTrace, trace_is_long, trace_is_bad, trace_is_unread, StopsAtResult, result_is_long, result_is_unread, StopsAtScript, script_is_long, script_is_bad, script_is_unread, OfBoth, at_program, at_host, behind_both, Checks, at_trace, at_result, is_derivation, is_none}
-use Rattle.gp_cli.specs.inside.Parts.{StopsAtFile, too_long, unread, StopsAtBoth, verdict, TellsOrFaults, HostsOrFaults, TracesOrFaults, ScriptsOrFaults, LoadsProgram, LoadsHost, LoadsTrace, LoadsScript}
+use Rattle.gp_cli.specs.Answer.{HasBytes, HasLongFile, HasTrace, HasScript, CannotRead, risen, lacking, StopsAtProgram, program_is_long, program_is_bad, program_is_unread, StopsAtTree, tree_is_long, tree_is_none, tree_is_unread, StopsAtHost, host_is_long, host_is_bad, host_is_unread, StopsAtTrace, trace_is_long, trace_is_bad, trace_is_unread, StopsAtResult, result_is_long, result_is_unread, StopsAtScript, script_is_long, script_is_bad, script_is_unread, OfBoth, at_program, at_host, behind_both, Checks, at_trace, at_result, is_derivation, is_none}
+use Rattle.gp_cli.specs.inside.Parts.{StopsAtFile, too_long, unread, StopsAtBoth, verdict, TellsOrFaults, TreesOrFaults, HostsOrFaults, TracesOrFaults, ScriptsOrFaults, LoadsProgram, LoadsTree, LoadsHost, LoadsTrace, LoadsScript}
 use Rattle.gp_reply.specs.Said.{said_of, IsAnswer, or_stopped}
 
 pub read_cause : (old new : KnownFiles) (name : Name) → Rose old.faults new.faults ⊎ (LacksFile old.content name × (new.faults ≡ old.faults)) → CannotRead old new name
@@ -64,6 +65,10 @@ module _ {old new : KnownFiles} {name : Name} where
   program_stop _ (too_long f) = program_is_long f
   program_stop _ (unread u) = program_is_unread u
 
+  pub tree_stop : (said : texts.Said) → StopsAtFile old new name texts.long_program said → StopsAtTree old new name said
+  tree_stop _ (too_long f) = tree_is_long f
+  tree_stop _ (unread u) = tree_is_unread u
+
   pub host_stop : (said : texts.Said) → StopsAtFile old new name texts.long_host said → StopsAtHost old new name said
   host_stop _ (too_long f) = host_is_long f
   host_stop _ (unread u) = host_is_unread u
@@ -93,6 +98,11 @@ module _ (old new : KnownFiles) (name : Name) (bytes : List ℕ) where
   program_loads (Ok p) has t = record { bytes = bytes; has = has; tells = t }
   program_loads (Err (stops.Said s)) has t = subst (StopsAtProgram old new name) (sym t.1) (program_is_bad has t.2)
   program_loads (Err stops.NoMemory) has t = tt
+
+  pub tree_loads : (r : Result Ast Stop) → HasBytes old.content name bytes → TreesOrFaults bytes r → LoadsTree old new name r
+  tree_loads (Ok tree) has t = record { bytes = bytes; has = has; has_tree = t }
+  tree_loads (Err (stops.Said s)) has t = subst (StopsAtTree old new name) (sym t.1) (tree_is_none has t.2)
+  tree_loads (Err stops.NoMemory) has t = tt
 
   pub host_loads : (r : Result Graph Stop) → HasBytes old.content name bytes → HostsOrFaults bytes r → LoadsHost old new name r
   host_loads (Ok g) has t = record { bytes = bytes; has = has; text = t }

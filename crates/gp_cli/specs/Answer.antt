@@ -5,10 +5,12 @@ use Rattle.gp_io.specs.Outside.{Content, KnownFiles, KnownSink, Rose, HasFile, L
 use Rattle.gp_values.specs.Names.{Name}
 use Rattle.gp_values.specs.Graph.{Graph}
 use Rattle.gp_syntax.specs.declared.kinds.NumberKind.{NumberKind}
+use Rattle.gp_syntax.specs.declared.tree.Ast.{Ast}
 use Rattle.gp_syntax.specs.Declaration.{Declaration}
 use Rattle.gp_syntax.specs.Run.{Program, Item, Ending, Gives, Fails, At, Run, counted, MayGoOn, HasFaultyCall}
 use Rattle.gp_reader.specs.declared.fault.ProgramFault.{ProgramFault}
-use Rattle.gp_reader.specs.Program.{IsProgramText, IsFaultyText, declared_rules}
+use Rattle.gp_reader.specs.Program.{HasTree, IsProgramText, IsFaultyText, IsTreelessText, declared_rules}
+use Rattle.gp_fmt.specs.Canonical.{canonical_text}
 use Rattle.gp_hostfile.specs.declared.fault.HostFault.{HostFault}
 use Rattle.gp_hostfile.specs.Host.{IsHostText, IsHostFault}
 use Rattle.gp_trace.specs.declared.version.Version.{Version}
@@ -19,9 +21,9 @@ use Rattle.gp_script.specs.Script.{IsScript}
 use Rattle.gp_script.specs.Script as script
 use Rattle.gp_script.specs.Walk.{Walks}
 use Rattle.gp_gen.specs.Texts.{program_text, host_text}
-use Rattle.gp_words.specs.CommandLine.{RunCommand, DemoCommand, CheckCommand, StepCommand, Command, run, demo, check, step, command_of}
+use Rattle.gp_words.specs.CommandLine.{RunCommand, DemoCommand, CheckCommand, FmtCommand, StepCommand, Command, run, demo, check, fmt, step, command_of}
 use Rattle.gp_cli.specs.Choices.{AreSeeded}
-use Rattle.gp_reply.specs.Texts.{Said, graph, failed, derivation, no_derivation, walked, usage, long_program, bad_program, long_host, bad_host, long_trace, bad_trace, long_result, long_script, bad_script, bound_spent, number_fault, unread, of_demo_run, Shows}
+use Rattle.gp_reply.specs.Texts.{Said, graph, failed, derivation, no_derivation, formatted, walked, usage, long_program, bad_program, long_host, bad_host, long_trace, bad_trace, long_result, long_script, bad_script, bound_spent, number_fault, unread, of_demo_run, Shows}
 use Rattle.gp_cli.specs.Written.{out_pieces, TakesAll, IsCutShort}
 
 -- the greatest number of bytes of a file
@@ -59,6 +61,12 @@ pub record HasProgram (content : Option Content) (name : Name) (p : Program) (ru
   pub has : HasBytes content name bytes
   pub tells : TellsProgram bytes p rule_names
 
+-- its bytes have this tree
+pub record HasProgramTree (content : Option Content) (name : Name) (tree : Ast) : Type 0 where
+  pub bytes : List ℕ
+  pub has : HasBytes content name bytes
+  pub has_tree : HasTree bytes tree
+
 -- its bytes are this host graph
 pub record HasHost (content : Option Content) (name : Name) (g : Graph) : Type 0 where
   pub bytes : List ℕ
@@ -81,6 +89,11 @@ pub record HasScript (content : Option Content) (name : Name) (lines : List Line
 pub data HasFaultyProgram (content : Option Content) (name : Name) : Type 0 where
   has_long_program : HasLongFile content name → HasFaultyProgram content name
   has_bad_program : {bytes : List ℕ} {f : ProgramFault} → HasBytes content name bytes → IsFaultyText bytes f → HasFaultyProgram content name
+
+-- it is longer than the limit, or its bytes have no tree
+pub data HasTreelessProgram (content : Option Content) (name : Name) : Type 0 where
+  has_long_text : HasLongFile content name → HasTreelessProgram content name
+  has_no_tree : {bytes : List ℕ} {f : ProgramFault} → HasBytes content name bytes → IsTreelessText bytes f → HasTreelessProgram content name
 
 -- it is longer than the limit, or its bytes have a fault of a host's text
 pub data HasFaultyHost (content : Option Content) (name : Name) : Type 0 where
@@ -150,6 +163,12 @@ pub data StopsAtScript (old new : KnownFiles) (name : Name) : Said → Type 0 wh
   script_is_bad : {bytes : List ℕ} {line : ℕ} → HasBytes old.content name bytes → script.BreaksAt bytes line → StopsAtScript old new name (bad_script line)
   script_is_unread : CannotRead old new name → StopsAtScript old new name (unread name)
 
+-- and of the tree of a program
+pub data StopsAtTree (old new : KnownFiles) (name : Name) : Said → Type 0 where
+  tree_is_long : HasLongFile old.content name → StopsAtTree old new name long_program
+  tree_is_none : {bytes : List ℕ} {f : ProgramFault} → HasBytes old.content name bytes → IsTreelessText bytes f → StopsAtTree old new name (bad_program f)
+  tree_is_unread : CannotRead old new name → StopsAtTree old new name (unread name)
+
 -- A program and a host are read, and then comes what is done with both. The order is: program read, program, host read,
 -- host, the rest.
 pub data OfBoth (old new : KnownFiles) (program host : Name) (Rest : Program → List Name → Graph → Said → Type 0) : Said → Type 0 where
@@ -180,6 +199,13 @@ pub data Checks (old new : KnownFiles) (k : CheckCommand) (p : Program) (g : Gra
 -- the trace and the result are checked against the program and the host
 abbrev pub CheckAnswers : KnownFiles → KnownFiles → CheckCommand → Said → Type 0
 CheckAnswers old new k = OfBoth old new k.program k.host (λ p rule_names g. Checks old new k p g)
+
+-- ---- `fmt`
+
+-- The program is written in the canonical text of its tree. Its names, its calls and its rules are not checked.
+pub data FmtAnswers (old new : KnownFiles) (k : FmtCommand) : Said → Type 0 where
+  stops : {said : Said} → StopsAtTree old new k.program said → FmtAnswers old new k said
+  formats : {tree : Ast} → HasProgramTree old.content k.program tree → FmtAnswers old new k (formatted (canonical_text tree))
 
 -- ---- `step`
 
@@ -238,6 +264,7 @@ pub data IsTrue (words : List Name) (old new : KnownFiles) : Said → Type 0 whe
   of_run : {k : RunCommand} {said : Said} → command_of words ≡ Some (run k) → RunAnswers old new k said → IsTrue words old new said
   of_demo : {k : DemoCommand} {said : Said} → command_of words ≡ Some (demo k) → DemoAnswers k said → IsTrue words old new said
   of_check : {k : CheckCommand} {said : Said} → command_of words ≡ Some (check k) → CheckAnswers old new k said → IsTrue words old new said
+  of_fmt : {k : FmtCommand} {said : Said} → command_of words ≡ Some (fmt k) → FmtAnswers old new k said → IsTrue words old new said
   of_step : {k : StepCommand} {said : Said} → command_of words ≡ Some (step k) → StepAnswers old new k said → IsTrue words old new said
 
 -- ---- what is written
@@ -247,6 +274,7 @@ abbrev pub wants_journal : Command → Bool
 wants_journal (run k) = k.journal
 wants_journal (demo k) = false
 wants_journal (check k) = false
+wants_journal (fmt k) = false
 wants_journal (step k) = false
 
 -- the words ask for it
@@ -284,4 +312,5 @@ ReadsNone None = Unit {0}
 ReadsNone (Some (run k)) = ⊥
 ReadsNone (Some (demo k)) = Unit {0}
 ReadsNone (Some (check k)) = ⊥
+ReadsNone (Some (fmt k)) = ⊥
 ReadsNone (Some (step k)) = ⊥

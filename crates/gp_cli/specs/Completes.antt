@@ -3,6 +3,7 @@ use Rattle.std.specs.Prelude.{◌≡◌, ◌⊎◌, ℕ, ◌<◌, true, List, []
 use Rattle.gp_io.specs.Outside.{Content, KnownFiles, KnownSink, Rose}
 use Rattle.gp_values.specs.Names.{Name}
 use Rattle.gp_values.specs.Graph.{Graph}
+use Rattle.gp_syntax.specs.declared.tree.Ast.{Ast}
 use Rattle.gp_syntax.specs.Run.{Program, Item}
 use Rattle.gp_reader.specs.declared.fault.ProgramFault.{ProgramFault}
 use Rattle.gp_reader.specs.Program.{IsProgramText, IsFaultyText}
@@ -10,8 +11,8 @@ use Rattle.gp_hostfile.specs.declared.fault.HostFault.{HostFault}
 use Rattle.gp_hostfile.specs.Host.{IsHostFault}
 use Rattle.gp_trace.specs.declared.version.Version.{Version}
 use Rattle.gp_script.specs.declared.line.Line.{Line}
-use Rattle.gp_words.specs.CommandLine.{RunCommand, DemoCommand, CheckCommand, StepCommand, Command, run, demo, check, step, command_of}
-use Rattle.gp_cli.specs.Answer.{HasBytes, HasLongFile, HasProgram, HasHost, HasTrace, HasScript, HasFaultyProgram, HasFaultyHost, HasFaultyTrace, HasFaultyScript, demo_program, demo_host, asks_journal, Replies}
+use Rattle.gp_words.specs.CommandLine.{RunCommand, DemoCommand, CheckCommand, FmtCommand, StepCommand, Command, run, demo, check, fmt, step, command_of}
+use Rattle.gp_cli.specs.Answer.{HasBytes, HasLongFile, HasProgram, HasProgramTree, HasHost, HasTrace, HasScript, HasFaultyProgram, HasTreelessProgram, HasFaultyHost, HasFaultyTrace, HasFaultyScript, demo_program, demo_host, asks_journal, Replies}
 
 abbrev pub IsOneOf : List ℕ → ℕ → Type 0
 IsOneOf [] status = ⊥
@@ -63,6 +64,34 @@ ChecksRuns words old new out_old out_new err_old err_new status =
     HasBytes old.content k.program program → HasBytes old.content k.host host → HasBytes old.content k.trace journal → HasBytes old.content k.result result →
     Stays old.faults new.faults → Stays out_old.faults out_new.faults → Stays err_old.faults err_new.faults → IsOneOf (0 ∷ 7 ∷ []) status
 
+-- `fmt` of a file that has a tree gives its canonical text.
+abbrev pub FmtCompletes : List Name → KnownFiles → KnownFiles → KnownSink → KnownSink → KnownSink → KnownSink → ℕ → Type 0
+FmtCompletes words old new out_old out_new err_old err_new status =
+    (held : Content) (k : FmtCommand) (tree : Ast) → old.content ≡ Some held → command_of words ≡ Some (fmt k) → HasProgramTree old.content k.program tree →
+    Stays old.faults new.faults → Stays out_old.faults out_new.faults → Stays err_old.faults err_new.faults → IsOneOf (0 ∷ 7 ∷ []) status
+
+-- The result that a call of `fmt` wrote with status 0.
+pub record HasFormatted (result : List ℕ) : Type 0 where
+  pub words : List Name
+  pub command : FmtCommand
+  pub is_fmt : command_of words ≡ Some (fmt command)
+  pub old : KnownFiles
+  pub new : KnownFiles
+  pub journal : List ℕ
+  pub text : List ℕ
+  pub replies : Replies words old new 0 journal result text
+
+-- Where a reply tells that the program was written, this is its result.
+abbrev pub GivesAgain : List Name → KnownFiles → KnownFiles → List ℕ → Type 0
+GivesAgain words old new result = (journal again text : List ℕ) → Replies words old new 0 journal again text → again ≡ result
+
+-- Of what it wrote, where it is not too long, `fmt` gives the same text again.
+abbrev pub FormatsAgain : List Name → KnownFiles → KnownFiles → KnownSink → KnownSink → KnownSink → KnownSink → ℕ → Type 0
+FormatsAgain words old new out_old out_new err_old err_new status =
+    (held : Content) (k : FmtCommand) (result : List ℕ) → old.content ≡ Some held → command_of words ≡ Some (fmt k) → HasFormatted result → HasBytes old.content k.program result →
+    Stays old.faults new.faults → Stays out_old.faults out_new.faults → Stays err_old.faults err_new.faults →
+    IsOneOf (0 ∷ 7 ∷ []) status × GivesAgain words old new result
+
 -- `step` of a program, a host and a script gives what the script comes to, the spent bound or a number fault.
 abbrev pub StepCompletes : List Name → KnownFiles → KnownFiles → KnownSink → KnownSink → KnownSink → KnownSink → ℕ → Type 0
 StepCompletes words old new out_old out_new err_old err_new status =
@@ -95,11 +124,12 @@ Refuses code of_devices NoneFails status = IsOneOf (code ∷ 7 ∷ of_devices) s
 abbrev pub RefusesWords : List Name → KnownSink → KnownSink → KnownSink → KnownSink → ℕ → Type 0
 RefusesWords words out_old out_new err_old err_new status = command_of words ≡ None → Refuses 2 (9 ∷ []) (NoSinkFails out_old out_new err_old err_new) status
 
--- the files of a program and of a host that a command reads
+-- the files of a program and of a host that a command reads, where it reads both
 abbrev pub files_of : Command → Option (Name × Name)
 files_of (run k) = Some (k.program, k.host)
 files_of (demo k) = None
 files_of (check k) = Some (k.program, k.host)
+files_of (fmt k) = None
 files_of (step k) = Some (k.program, k.host)
 
 -- those of the words
@@ -140,6 +170,12 @@ RefusesScript words old new out_old out_new err_old err_new status =
     HasProgram old.content k.program p rule_names → HasHost old.content k.host g → HasFaultyScript old.content k.script →
     Refuses 11 (8 ∷ 9 ∷ []) (NothingFails old new out_old out_new err_old err_new) status
 
+-- Where the files' content is known, a program of `fmt` that has no tree is refused.
+abbrev pub RefusesTree : List Name → KnownFiles → KnownFiles → KnownSink → KnownSink → KnownSink → KnownSink → ℕ → Type 0
+RefusesTree words old new out_old out_new err_old err_new status =
+    (held : Content) (k : FmtCommand) → old.content ≡ Some held → command_of words ≡ Some (fmt k) → HasTreelessProgram old.content k.program →
+    Refuses 3 (8 ∷ 9 ∷ []) (NothingFails old new out_old out_new err_old err_new) status
+
 -- A faulty text of `demo` is refused.
 abbrev pub RefusesDemoProgram : List Name → KnownSink → KnownSink → KnownSink → KnownSink → ℕ → Type 0
 RefusesDemoProgram words out_old out_new err_old err_new status =
@@ -159,6 +195,8 @@ pub record Completes (words : List Name) (old new : KnownFiles) (out_old out_new
   pub runs : RunCompletes words old new out_old out_new err_old err_new status
   pub checks : CheckCompletes words old new out_old out_new err_old err_new status
   pub checks_runs : ChecksRuns words old new out_old out_new err_old err_new status
+  pub formats : FmtCompletes words old new out_old out_new err_old err_new status
+  pub formats_again : FormatsAgain words old new out_old out_new err_old err_new status
   pub steps : StepCompletes words old new out_old out_new err_old err_new status
   pub demos : DemoCompletes words out_old out_new err_old err_new status
   pub words_refused : RefusesWords words out_old out_new err_old err_new status
@@ -167,6 +205,7 @@ pub record Completes (words : List Name) (old new : KnownFiles) (out_old out_new
   pub trace_refused : RefusesTrace words old new out_old out_new err_old err_new status
   pub result_refused : RefusesResult words old new out_old out_new err_old err_new status
   pub script_refused : RefusesScript words old new out_old out_new err_old err_new status
+  pub tree_refused : RefusesTree words old new out_old out_new err_old err_new status
   pub demo_program_refused : RefusesDemoProgram words out_old out_new err_old err_new status
   pub demo_host_refused : RefusesDemoHost words out_old out_new err_old err_new status
   pub out_faults : TellsFaults out_old out_new status

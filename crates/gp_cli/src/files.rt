@@ -1,16 +1,16 @@
 //! The files of a command, read and understood, or the answer that says why not.
 
 ghost use Rattle.std.specs.Prelude.{◌≡◌, ◌≤◌};
-ghost use Rattle.gp_cli.specs.inside.Parts.{ReadsFile, LoadsProgram, LoadsHost, LoadsBoth, LoadsTrace, LoadsScript};
+ghost use Rattle.gp_cli.specs.inside.Parts.{ReadsFile, LoadsProgram, LoadsTree, LoadsHost, LoadsBoth, LoadsTrace, LoadsScript};
 ghost use Rattle.gp_reply.specs.Texts.{long_result};
 ghost use Rattle.gp_reply.specs.Said.{said_of};
 
-use crate::parsed::{host_of, program_of, script_of, trace_of};
+use crate::parsed::{host_of, program_of, script_of, trace_of, tree_of};
 use gp_graph::Graph;
 use gp_io::{Files, ReadRefusal};
 use gp_reply::{Said, Stop};
 use gp_script::Line;
-use gp_syntax::{Item, Program};
+use gp_syntax::{Ast, Item, Program};
 use gp_trace::Version;
 use std::alloc::Global;
 
@@ -48,6 +48,20 @@ fn load_program<'a, F: Files>(
 {
     let text = read_file(alloc, files, name, Said::LongProgram)?;
     program_of(alloc, &text)
+}
+
+/// The tree of the program's file.
+pub(crate) fn load_tree<'a, F: Files>(
+    alloc: Global,
+    files: &mut F,
+    name: &'a str,
+) -> Result<Ast, Stop<'a>>
+    ensures loads { LoadsTree (F.known files.old) (F.known files.new) name.entry.now result }
+    ensures later { (F.known files.old).faults ≤ (F.known files.new).faults }
+    ensures same { (F.known files.new).content ≡ (F.known files.old).content }
+{
+    let text = read_file(alloc, files, name, Said::LongProgram)?;
+    tree_of(alloc, &text)
 }
 
 // The graph of the host's file.

@@ -6,7 +6,7 @@
 //! answers and texts of gp_reply; which status comes of which cause is `specs/Completes`.
 //! Inside it: `gp_words` reads the words, `files` the files, or `demo` makes what stands in their place, `parsed`
 //! understands them, `run` runs the program, or `check` asks whether a trace and a result are a derivation of it
-//! (`gp_derivation`), `step` walks a script over its items (`gp_script`), `gp_reply` makes the texts of the answer, and
+//! (`gp_derivation`), `fmt` writes a program in its canonical text (`gp_fmt`), `step` walks a script over its items (`gp_script`), `gp_reply` makes the texts of the answer, and
 //! `deliver` writes. All text is made before the first write.
 #![tactic(auto)]
 
@@ -15,6 +15,7 @@ mod choices;
 mod deliver;
 mod demo;
 mod files;
+mod fmt;
 mod parsed;
 mod run;
 mod step;

@@ -1,14 +1,14 @@
 //! The program, the host, the trace and the script of texts, or the answer that says why not.
 
 ghost use Rattle.std.specs.Prelude.{◌≡◌};
-ghost use Rattle.gp_cli.specs.inside.Parts.{TellsOrFaults, HostsOrFaults, TracesOrFaults, ScriptsOrFaults};
+ghost use Rattle.gp_cli.specs.inside.Parts.{TellsOrFaults, TreesOrFaults, HostsOrFaults, TracesOrFaults, ScriptsOrFaults};
 
 use gp_graph::Graph;
 use gp_hostfile::read_host;
-use gp_reader::read_program;
+use gp_reader::{read_program, read_tree};
 use gp_reply::{Stop, host_refused, program_refused, script_refused, trace_refused};
 use gp_script::{Line, read_script};
-use gp_syntax::{Item, Program};
+use gp_syntax::{Ast, Item, Program};
 use gp_trace::{Version, read_trace};
 use std::alloc::Global;
 
@@ -18,6 +18,16 @@ pub(crate) fn program_of<'a>(alloc: Global, text: &[u8]) -> Result<Program, Stop
 {
     match read_program(alloc, text) {
         Ok(program) => Ok(program),
+        Err(fault) => Err(program_refused(fault)),
+    }
+}
+
+/// The tree of a text.
+pub(crate) fn tree_of<'a>(alloc: Global, text: &[u8]) -> Result<Ast, Stop<'a>>
+    ensures { TreesOrFaults text.now result }
+{
+    match read_tree(alloc, text) {
+        Ok(tree) => Ok(tree),
         Err(fault) => Err(program_refused(fault)),
     }
 }

@@ -16,11 +16,13 @@ use crate::check::check;
 use crate::deliver::deliver;
 use crate::demo::demo;
 use crate::files::load_both;
+use crate::fmt::fmt;
 use crate::run::run;
 use crate::step::step;
+use gp_fmt::laws::{canonical_texts_are_read, canonical_texts_stay};
 use gp_io::{Files, Sink};
 use gp_memory::NoMemory;
-use gp_reader::laws::{texts_have_one_fault, texts_have_one_program};
+use gp_reader::laws::{texts_have_one_fault, texts_have_one_program, texts_have_one_tree};
 use gp_reply::{Reply, Said, Status, Stop, or_stopped, reply_of, settled};
 use gp_system::Crew;
 use gp_words::{Command, RunCommand, command_of};
@@ -65,6 +67,7 @@ fn said_by_command<'a, F: Files, R: Threads + Wait + Sync>(
         Command::Run(command) => settled(said_by_files(rt, alloc, command, files, pace)),
         Command::Demo(command) => settled(demo(rt, alloc, command, pace)),
         Command::Check(command) => settled(check(alloc, command, files)),
+        Command::Fmt(command) => settled(fmt(alloc, command, files)),
         Command::Step(command) => settled(step(rt, alloc, command, files, pace)),
     }
 }
@@ -139,14 +142,17 @@ fn answer_words<F: Files, O: Sink, E: Sink, R: Threads + Wait + Sync>(
 {
     texts_have_one_fault();
     texts_have_one_program();
+    texts_have_one_tree();
+    canonical_texts_are_read();
+    canonical_texts_stay();
     match reply_to(rt, alloc, words, files, pace) {
         Ok(reply) => deliver(&reply, out, err),
         Err(NoMemory) => Status::NoMemory.code(),
     }
 }
 
-/// Runs the program's file on the host's, or a demo, checks a trace and a result, or walks a script over a run, as the
-/// words say, and writes what comes of it. The answer is the status of the process. The words are those behind the
+/// Runs the program's file on the host's, or a demo, checks a trace and a result, writes a program in its canonical
+/// text, or walks a script over a run, as the words say, and writes what comes of it. The answer is the status of the process. The words are those behind the
 /// program's name, or that memory was refused for them. With two workers or more the call starts threads, and the pace may
 /// hold them; it may wait then.
 pub fn gp2_main<R: AllocGlobal + Threads + Wait + Sync, F: Files, O: Sink, E: Sink>(

@@ -6,6 +6,7 @@ mod checks;
 mod crews;
 mod demos;
 mod devices;
+mod formats;
 mod outside;
 mod refusals;
 mod runs;

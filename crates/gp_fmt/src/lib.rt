@@ -5,11 +5,11 @@
 //! over the tokens of `specs/Expressions`, `Commands` and `Rules` and the spaces of `specs/Spaces`.
 #![tactic(auto)]
 
+pub mod laws;
 mod commands;
 mod conditions;
 mod declarations;
 mod expressions;
-pub mod laws;
 mod piece;
 mod print;
 mod put;

@@ -27,6 +27,7 @@ said_of (code.Fail j) = texts.failed (items_of j.items)
 said_of (code.Demo kind size j) = texts.demo_done kind size (items_of j.items) j.trail.graph
 said_of code.Derivation = texts.derivation
 said_of code.NoDerivation = texts.no_derivation
+said_of (code.Formatted text) = texts.formatted text.items
 said_of (code.Walked text) = texts.walked text.items
 said_of code.Usage = texts.usage
 said_of code.LongProgram = texts.long_program

@@ -8,6 +8,7 @@ status_code statuses.Graph = 0
 status_code statuses.Fail = 1
 status_code statuses.Derivation = 0
 status_code statuses.NoDerivation = 1
+status_code statuses.Formatted = 0
 status_code statuses.Walked = 0
 status_code statuses.Words = 2
 status_code statuses.Program = 3

@@ -28,6 +28,8 @@ pub data Said : Type 0 where
   -- the trace and the result that are checked are a derivation, or are none
   derivation : Said
   no_derivation : Said
+  -- the canonical text of a program
+  formatted : List ℕ → Said
   -- what a script comes to over the items of a run
   walked : List ℕ → Said
   usage : Said
@@ -58,7 +60,8 @@ usage_text =
     codes "usage: gp2 run PROGRAM HOST [--workers N] [--bound N] [--fan N] [--seed N] [--journal]\n"
     ++ (codes "       gp2 demo KIND SIZE SEED [--workers N] [--fan N]\n"
     ++ (codes "       gp2 check PROGRAM HOST TRACE RESULT\n"
-    ++ codes "       gp2 step PROGRAM HOST SCRIPT [--bound N] [--seed N]\n"))
+    ++ (codes "       gp2 fmt PROGRAM\n"
+    ++ codes "       gp2 step PROGRAM HOST SCRIPT [--bound N] [--seed N]\n")))
 
 abbrev pub derivation_text : List ℕ
 derivation_text = codes "derivation\n"
@@ -112,6 +115,7 @@ pub data Shows (asked : Bool) : Said → ℕ → List ℕ → List ℕ → List 
   demo_shown : {kind : Kind} {size : ℕ} {t : List Item} {h : Graph} → Shows asked (demo_done kind size t h) 0 [] (summary_text kind size h t) []
   derivation_shown : Shows asked derivation 0 [] derivation_text []
   no_derivation_shown : Shows asked no_derivation 1 [] no_derivation_text []
+  formatted_shown : {text : List ℕ} → Shows asked (formatted text) 0 [] text []
   walked_shown : {text : List ℕ} → Shows asked (walked text) 0 [] text []
   usage_shown : Shows asked usage 2 [] [] usage_text
   long_program_shown : Shows asked long_program 3 [] [] program_too_long

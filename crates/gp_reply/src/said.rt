@@ -26,6 +26,8 @@ pub enum Said<'a> {
     /// The trace and the result that are checked are a derivation, or are none.
     Derivation,
     NoDerivation,
+    /// The canonical text of a program.
+    Formatted(Vec<u8>),
     /// What a script comes to over the items of a run.
     Walked(Vec<u8>),
     Usage,
@@ -56,7 +58,7 @@ impl Drop for Said<'_> {
             Said::BadProgram(fault) => drop(fault),
             Said::BadHost(fault) => drop(fault),
             Said::Number(name, _) => drop(name),
-            Said::Walked(text) => drop(text),
+            Said::Formatted(text) | Said::Walked(text) => drop(text),
             Said::Derivation
             | Said::NoDerivation
             | Said::Usage

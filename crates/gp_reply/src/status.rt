@@ -14,6 +14,8 @@ pub enum Status {
     Derivation,
     /// It is none.
     NoDerivation,
+    /// A program was written in its canonical text.
+    Formatted,
     /// A script was walked over a run.
     Walked,
     /// The words are no command.
@@ -48,6 +50,7 @@ impl Status {
             Status::Fail => 1,
             Status::Derivation => 0,
             Status::NoDerivation => 1,
+            Status::Formatted => 0,
             Status::Walked => 0,
             Status::Words => 2,
             Status::Program => 3,

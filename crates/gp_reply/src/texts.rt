@@ -27,7 +27,7 @@ use itoa::Buffer;
 use std::alloc::Global;
 
 const USAGE: &[u8] =
-    b"usage: gp2 run PROGRAM HOST [--workers N] [--bound N] [--fan N] [--seed N] [--journal]\n       gp2 demo KIND SIZE SEED [--workers N] [--fan N]\n       gp2 check PROGRAM HOST TRACE RESULT\n       gp2 step PROGRAM HOST SCRIPT [--bound N] [--seed N]\n";
+    b"usage: gp2 run PROGRAM HOST [--workers N] [--bound N] [--fan N] [--seed N] [--journal]\n       gp2 demo KIND SIZE SEED [--workers N] [--fan N]\n       gp2 check PROGRAM HOST TRACE RESULT\n       gp2 fmt PROGRAM\n       gp2 step PROGRAM HOST SCRIPT [--bound N] [--seed N]\n";
 
 // A line of these three parts.
 fn line_of_parts(
@@ -185,7 +185,7 @@ fn demo_reply(alloc: Global, kind: Kind, size: u64, journal: &Journal) -> Result
     Ok(on_out(alloc, Status::Graph, Vec::new(alloc), text))
 }
 
-// What a check or a walk says, on standard output.
+// What a check, a format or a walk says, on standard output.
 fn verdict(alloc: Global, status: Status, text: &[u8]) -> Result<Reply, NoMemory>
     ensures { IfOk result (IsOnOut status [] text.now) }
 {
@@ -220,6 +220,7 @@ pub fn reply_of(alloc: Global, asked: bool, said: &Said<'_>) -> Result<Reply, No
         Said::Demo(kind, size, journal) => demo_reply(alloc, *kind, *size, journal),
         Said::Derivation => verdict(alloc, Status::Derivation, b"derivation\n"),
         Said::NoDerivation => verdict(alloc, Status::NoDerivation, b"no derivation\n"),
+        Said::Formatted(text) => verdict(alloc, Status::Formatted, text),
         Said::Walked(text) => verdict(alloc, Status::Walked, text),
         Said::Usage => refusal(alloc, Status::Words, USAGE),
         Said::LongProgram => refusal(alloc, Status::Program, b"program: TooLong\n"),

@@ -35,6 +35,10 @@ pub record CheckCommand : Type 0 where
   pub trace : Name
   pub result : Name
 
+-- `fmt`: the name of the program's file
+pub record FmtCommand : Type 0 where
+  pub program : Name
+
 -- `step`: the names of the files of the program, of the host and of the script, how many items may be counted, and with
 -- what the choices of `or` begin
 pub record StepCommand : Type 0 where
@@ -48,6 +52,7 @@ pub data Command : Type 0 where
   run : RunCommand → Command
   demo : DemoCommand → Command
   check : CheckCommand → Command
+  fmt : FmtCommand → Command
   step : StepCommand → Command
 
 -- ---- as clap reads them
@@ -80,6 +85,10 @@ demo_app = with_crew (with_rule (with_rule (with_rule (new_app (codes "demo")) (
 abbrev pub check_app : App
 check_app = with_rule (with_rule (with_rule (with_rule (new_app (codes "check")) (place (codes "program"))) (place (codes "host"))) (place (codes "trace"))) (place (codes "result"))
 
+-- `fmt PROGRAM`
+abbrev pub fmt_app : App
+fmt_app = with_rule (new_app (codes "fmt")) (place (codes "program"))
+
 -- `step PROGRAM HOST SCRIPT`, with its options in any order
 abbrev pub step_app : App
 step_app = with_rule (with_rule (with_rule (with_rule (with_rule (new_app (codes "step")) (place (codes "program"))) (place (codes "host"))) (place (codes "script"))) (option (codes "bound"))) (option (codes "seed"))
@@ -89,7 +98,7 @@ abbrev pub top : App
 top = record { top = record (new_app (codes "gp2")).top { no_binary_name = true; subcommand_required = true }; subs = [] }
 
 abbrev pub gp2 : App
-gp2 = with_subcommand (with_subcommand (with_subcommand (with_subcommand top run_app.top) demo_app.top) check_app.top) step_app.top
+gp2 = with_subcommand (with_subcommand (with_subcommand (with_subcommand (with_subcommand top run_app.top) demo_app.top) check_app.top) fmt_app.top) step_app.top
 
 -- ---- numbers
 
@@ -202,6 +211,14 @@ check_files program host trace result = None
 abbrev pub check_of : List Row → Option Command
 check_of rows = check_files (first_of (codes "program") rows) (first_of (codes "host") rows) (first_of (codes "trace") rows) (first_of (codes "result") rows)
 
+abbrev pub fmt_file : Option Name → Option Command
+fmt_file (Some program) = Some (fmt (record { program = program }))
+fmt_file None = None
+
+-- what clap found at `fmt`
+abbrev pub fmt_of : List Row → Option Command
+fmt_of rows = fmt_file (first_of (codes "program") rows)
+
 abbrev pub step_with : Name → Name → Name → Option ℕ → Option ℕ → Option Command
 step_with program host script (Some bound) (Some seed) = Some (step (record { program = program; host = host; script = script; bound = bound; seed = seed }))
 step_with program host script bound seed = None
@@ -220,7 +237,8 @@ command_at p =
     if same_name p.0 (codes "run") then run_of p.1 else
     (if same_name p.0 (codes "demo") then demo_of p.1 else
     (if same_name p.0 (codes "check") then check_of p.1 else
-    (if same_name p.0 (codes "step") then step_of p.1 else None)))
+    (if same_name p.0 (codes "fmt") then fmt_of p.1 else
+    (if same_name p.0 (codes "step") then step_of p.1 else None))))
 
 abbrev pub command_if : Bool → List Name → Option Command
 command_if refused words = if refused then None else option_and_then command_at (subcommand_of gp2 words)

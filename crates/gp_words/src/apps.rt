@@ -44,6 +44,8 @@ const CHECK: [(Form, &'static str); 4] = [
     (Form::Place, "result"),
 ];
 
+const FMT: [(Form, &'static str); 1] = [(Form::Place, "program")];
+
 const STEP: [(Form, &'static str); 5] = [
     (Form::Place, "program"),
     (Form::Place, "host"),
@@ -106,5 +108,6 @@ pub(crate) fn top_command<'a>(alloc: Global) -> Result<Command<'a>, AllocError>
     let above_run = above(alloc, plain_top(alloc), "run", &RUN)?;
     let above_demo = above(alloc, above_run, "demo", &DEMO)?;
     let above_check = above(alloc, above_demo, "check", &CHECK)?;
-    above(alloc, above_check, "step", &STEP)
+    let above_fmt = above(alloc, above_check, "fmt", &FMT)?;
+    above(alloc, above_fmt, "step", &STEP)
 }

@@ -35,6 +35,12 @@ pub struct CheckCommand<'a> {
     pub result: &'a str,
 }
 
+/// `fmt PROGRAM`: the name of the file.
+#[derive(Clone, Copy)]
+pub struct FmtCommand<'a> {
+    pub program: &'a str,
+}
+
 /// `step PROGRAM HOST SCRIPT` with its options: the names of the files, and the bound and the seed as for `run`.
 #[derive(Clone, Copy)]
 pub struct StepCommand<'a> {
@@ -51,5 +57,6 @@ pub enum Command<'a> {
     Run(RunCommand<'a>),
     Demo(DemoCommand),
     Check(CheckCommand<'a>),
+    Fmt(FmtCommand<'a>),
     Step(StepCommand<'a>),
 }

@@ -6,7 +6,7 @@ ghost use Rattle.gp_gen.specs.Host.{largest};
 ghost use Rattle.gp_words.specs.CommandLine as spec;
 ghost use Rattle.gp_words.specs.Told.{command_now, HasSize};
 
-use crate::command::{CheckCommand, Command, DemoCommand, RunCommand, StepCommand};
+use crate::command::{CheckCommand, Command, DemoCommand, FmtCommand, RunCommand, StepCommand};
 use crate::number::{number_between, value_or};
 use clap::ArgMatches;
 use gp_gen::Kind;
@@ -195,6 +195,16 @@ fn check_of<'a>(matches: &ArgMatches<'a>) -> Option<Command<'a>>
     }
 }
 
+fn fmt_of<'a>(matches: &ArgMatches<'a>) -> Option<Command<'a>>
+    ensures fmt { option_map command_now result ≡ spec.fmt_of (rows_of (found_of matches.now)) }
+    ensures size { IfSome result HasSize }
+{
+    match text_of(matches, "program") {
+        Some(program) => Some(Command::Fmt(FmtCommand { program })),
+        None => None,
+    }
+}
+
 // The walk of a script through the run of these files, with the values that clap found.
 fn step_files<'a>(
     matches: &ArgMatches<'a>,
@@ -242,6 +252,8 @@ pub(crate) fn command_at<'a>(name: &str, matches: &ArgMatches<'a>) -> Option<Com
         demo_of(matches)
     } else if name == "check" {
         check_of(matches)
+    } else if name == "fmt" {
+        fmt_of(matches)
     } else if name == "step" {
         step_of(matches)
     } else {

@@ -9,12 +9,13 @@ use Rattle.gp_memory.specs.declared.refusal.NoMemory.{NoMemory}
 use Rattle.gp_values.specs.Names.{Name}
 use Rattle.gp_graph.specs.declared.graph.Graph.{Graph}
 use Rattle.gp_syntax.specs.declared.found.Item.{Item}
+use Rattle.gp_syntax.specs.declared.tree.Ast.{Ast}
 use Rattle.gp_syntax.specs.declared.command.ProgramParts.{ProgramParts}
 use Rattle.gp_syntax.specs.declared.rule.RuleParts.{RuleParts}
 use Rattle.gp_syntax.specs.Tree.{program_of_tree, item_of}
 use Rattle.gp_syntax.specs.Run.{Program}
 use Rattle.gp_reader.specs.declared.fault.ProgramFault.{ProgramFault}
-use Rattle.gp_reader.specs.Program.{IsFaultyText}
+use Rattle.gp_reader.specs.Program.{HasTree, IsFaultyText, IsTreelessText}
 use Rattle.gp_hostfile.specs.declared.fault.HostFault.{HostFault}
 use Rattle.gp_hostfile.specs.Host.{IsHostText, IsHostFault}
 use Rattle.gp_trace.specs.declared.version.Version.{Version}
@@ -23,14 +24,14 @@ use Rattle.gp_script.specs.declared.line.Line.{Line}
 use Rattle.gp_script.specs.Script.{IsScript}
 use Rattle.gp_script.specs.Script as script
 use Rattle.gp_values.specs.Graph.{Graph as AnyGraph}
-use Rattle.gp_words.specs.CommandLine.{RunCommand, DemoCommand, CheckCommand, StepCommand}
+use Rattle.gp_words.specs.CommandLine.{RunCommand, DemoCommand, CheckCommand, FmtCommand, StepCommand}
 use Rattle.gp_reply.specs.declared.said.Stop.{Stop}
 use Rattle.gp_reply.specs.declared.said.Stop.TheVariants as stops
 use Rattle.gp_reply.specs.declared.said.Said.{Said}
 use Rattle.gp_reply.specs.declared.said.Said.TheVariants as code
 use Rattle.gp_reply.specs.Texts as texts
 use Rattle.gp_reply.specs.Said.{said_of}
-use Rattle.gp_cli.specs.Answer.{HasBytes, HasLongFile, CannotRead, TellsProgram, HasProgram, HasHost, HasTrace, HasScript, StopsAtProgram, StopsAtHost, StopsAtTrace, StopsAtScript, OfBoth, RunAnswers, demo_program, demo_host, DemoAnswers, Checks, CheckAnswers, StepAnswers}
+use Rattle.gp_cli.specs.Answer.{HasBytes, HasLongFile, CannotRead, TellsProgram, HasProgram, HasProgramTree, HasHost, HasTrace, HasScript, StopsAtProgram, StopsAtTree, StopsAtHost, StopsAtTrace, StopsAtScript, OfBoth, RunAnswers, demo_program, demo_host, DemoAnswers, Checks, CheckAnswers, FmtAnswers, StepAnswers}
 use Rattle.gp_cli.specs.Written.{TakesAll, IsCutShort}
 
 -- ---- files
@@ -54,6 +55,12 @@ TellsOrFaults bytes (Ok p) = TellsProgram bytes (program_of_tree p) (names_of p)
 TellsOrFaults bytes (Err (stops.Said s)) = (f : ProgramFault) × (said_of s ≡ texts.bad_program f) × IsFaultyText bytes f
 TellsOrFaults bytes (Err stops.NoMemory) = Free
 
+-- the tree of the bytes, or the fault by which they have none
+abbrev pub TreesOrFaults : List ℕ → Result Ast Stop → Type 0
+TreesOrFaults bytes (Ok tree) = HasTree bytes tree
+TreesOrFaults bytes (Err (stops.Said s)) = (f : ProgramFault) × (said_of s ≡ texts.bad_program f) × IsTreelessText bytes f
+TreesOrFaults bytes (Err stops.NoMemory) = Free
+
 -- a host of the bytes, or its first fault
 abbrev pub HostsOrFaults : List ℕ → Result Graph Stop → Type 0
 HostsOrFaults bytes (Ok g) = IsHostText bytes g.graph
@@ -64,6 +71,11 @@ abbrev pub LoadsProgram : KnownFiles → KnownFiles → Name → Result ProgramP
 LoadsProgram old new name (Ok p) = HasProgram old.content name (program_of_tree p) (names_of p)
 LoadsProgram old new name (Err (stops.Said s)) = StopsAtProgram old new name (said_of s)
 LoadsProgram old new name (Err stops.NoMemory) = Free
+
+abbrev pub LoadsTree : KnownFiles → KnownFiles → Name → Result Ast Stop → Type 0
+LoadsTree old new name (Ok tree) = HasProgramTree old.content name tree
+LoadsTree old new name (Err (stops.Said s)) = StopsAtTree old new name (said_of s)
+LoadsTree old new name (Err stops.NoMemory) = Free
 
 abbrev pub LoadsHost : KnownFiles → KnownFiles → Name → Result Graph Stop → Type 0
 LoadsHost old new name (Ok g) = HasHost old.content name g.graph
@@ -154,6 +166,11 @@ abbrev pub ChecksFiles : KnownFiles → KnownFiles → CheckCommand → Result S
 ChecksFiles old new k (Ok s) = CheckAnswers old new k (said_of s)
 ChecksFiles old new k (Err (stops.Said s)) = CheckAnswers old new k (said_of s)
 ChecksFiles old new k (Err stops.NoMemory) = Free
+
+abbrev pub FormatsFile : KnownFiles → KnownFiles → FmtCommand → Result Said Stop → Type 0
+FormatsFile old new k (Ok s) = FmtAnswers old new k (said_of s)
+FormatsFile old new k (Err (stops.Said s)) = FmtAnswers old new k (said_of s)
+FormatsFile old new k (Err stops.NoMemory) = Free
 
 abbrev pub StepsFiles : KnownFiles → KnownFiles → StepCommand → Result Said Stop → Type 0
 StepsFiles old new k (Ok s) = StepAnswers old new k (said_of s)

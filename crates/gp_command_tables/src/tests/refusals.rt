@@ -237,6 +237,7 @@ const USAGE: &str = "2 err
 usage: gp2 run PROGRAM HOST [--workers N] [--bound N] [--fan N] [--seed N] [--journal]
        gp2 demo KIND SIZE SEED [--workers N] [--fan N]
        gp2 check PROGRAM HOST TRACE RESULT
+       gp2 fmt PROGRAM
        gp2 step PROGRAM HOST SCRIPT [--bound N] [--seed N]";
 
 #[test]

@@ -9,8 +9,8 @@ use std::alloc::Global;
 use std::test::Fail;
 
 // Words, and the parts of their command: its names, and then its numbers, where a run has its workers, its bound, its fan,
-// its seed, and 1 for the journal, a demo its size, its seed, its workers and its fan, a check none, and a step its bound and its
-// seed.
+// its seed, and 1 for the journal, a demo its size, its seed, its workers and its fan, a check and a format none, and a step its bound and
+// its seed.
 const COMMANDS: &str = "run p h => p h 1 1000000 64 0 0
 run p h --bound 10 => p h 1 10 64 0 0
 run --bound=007 p h => p h 1 7 64 0 0
@@ -31,6 +31,8 @@ demo closure 500 18446744073709551615 => closure 500 18446744073709551615 1 64
 check p h t r => p h t r
 check -- -p --h t -r => -p --h t -r
 check p  t r => p  t r
+fmt p => p
+fmt -- -p => -p
 step p h s => p h s 1000000 0
 step --seed 7 p h --bound 5 s => p h s 5 7
 step -- -p --h s => -p --h s 1000000 0";
@@ -71,6 +73,9 @@ check p h t
 check p h t r x
 check p h t r --journal
 check p h t r --workers 2
+fmt
+fmt p h
+fmt p --seed 1
 step p h
 step p h s x
 step p h s --journal
@@ -130,6 +135,7 @@ fn told_of(alloc: Global, line: &str) -> Result<Answer, NoMemory> {
         Some(Command::Run(command)) => put_run(&command, &mut told),
         Some(Command::Demo(command)) => put_demo(&command, &mut told),
         Some(Command::Check(command)) => put_check(&command, &mut told),
+        Some(Command::Fmt(command)) => told.put(command.program.as_bytes()),
         Some(Command::Step(command)) => put_step(&command, &mut told),
         None => told.word("none"),
     }

@@ -1,6 +1,6 @@
 use Rattle.std.proofs.lemmas.Result.{IfOk-weaker}
-use Rattle.gp_words.specs.Told.{run_now, demo_now, check_now, step_now}
-use Rattle.gp_cli.specs.Answer.{RunAnswers, DemoAnswers, CheckAnswers, StepAnswers, of_run, of_demo, of_check, of_step}
+use Rattle.gp_words.specs.Told.{run_now, demo_now, check_now, fmt_now, step_now}
+use Rattle.gp_cli.specs.Answer.{RunAnswers, DemoAnswers, CheckAnswers, FmtAnswers, StepAnswers, of_run, of_demo, of_check, of_fmt, of_step}
 use Rattle.gp_cli.proofs.Loads.{answered}
 use Rattle.gp_cli.proofs.top.said_by_command.Goals as goal
 
@@ -24,6 +24,14 @@ returns-in-Check-clause-answer g c =
 
 pub returns-in-Check-clause-unread : goal.returns-in-Check-clause-unread
 returns-in-Check-clause-unread g c = λ none. absurd (rw c.in-Check.is at none)
+
+pub returns-in-Fmt-clause-answer : goal.returns-in-Fmt-clause-answer
+returns-in-Fmt-clause-answer g c =
+    let k = fmt_now c.in-Fmt.command in
+    IfOk-weaker c.settled-in-Fmt.result _ _ (λ s is words e. of_fmt {k = k} (rw c.in-Fmt.is at e) (answered (FmtAnswers _ _ k) c.fmt.result c.fmt.ensures is)) c.settled-in-Fmt.ensures
+
+pub returns-in-Fmt-clause-unread : goal.returns-in-Fmt-clause-unread
+returns-in-Fmt-clause-unread g c = λ none. absurd (rw c.in-Fmt.is at none)
 
 pub returns-in-Step-clause-answer : goal.returns-in-Step-clause-answer
 returns-in-Step-clause-answer g c =

@@ -203,7 +203,7 @@ quo(d:int) [ (n0, d) | ] => [ (n0, d / 2) | ] interface = {n0}
 ]
 
 Main = cut
-cut(s:string; c:char) [ (n0, "a\".s.c) | ] => [ (n0, s:c) | ] interface = {n0}
+cut(s:string; c:char) [ (n0, \"a\".s.c) | ] => [ (n0, s:c) | ] interface = {n0}
 % [ (a, \"ab\") | ]
 % run p h
 % 0 out
@@ -213,7 +213,7 @@ cut(s:string; c:char) [ (n0, "a\".s.c) | ] => [ (n0, s:c) | ] interface = {n0}
 ]
 
 Main = cut
-cut(s:string; c:char) [ (n0, "a\".s.c) | ] => [ (n0, s:c) | ] interface = {n0}
+cut(s:string; c:char) [ (n0, \"a\".s.c) | ] => [ (n0, s:c) | ] interface = {n0}
 % [ (a, \"abc\") | ]
 % run p h
 % 0 out
@@ -223,14 +223,14 @@ cut(s:string; c:char) [ (n0, "a\".s.c) | ] => [ (n0, s:c) | ] interface = {n0}
 ]
 
 Main = cut
-cut(s:string; c:char) [ (n0, "a\".s.c) | ] => [ (n0, s:c) | ] interface = {n0}
+cut(s:string; c:char) [ (n0, \"a\".s.c) | ] => [ (n0, s:c) | ] interface = {n0}
 % [ (a, \"a\") | ]
 % run p h
 % 1 out
 fail
 
 Main = cut
-cut(s:string; c:char) [ (n0, "a\".s.c) | ] => [ (n0, s:c) | ] interface = {n0}
+cut(s:string; c:char) [ (n0, \"a\".s.c) | ] => [ (n0, s:c) | ] interface = {n0}
 % [ (a, 1) | ]
 % run p h
 % 1 out

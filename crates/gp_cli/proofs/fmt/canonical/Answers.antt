@@ -1,0 +1,6 @@
+use Rattle.std.proofs.Common.{ap}
+use Rattle.gp_reply.specs.Texts.{formatted}
+use Rattle.gp_cli.proofs.fmt.canonical.Goals as goal
+
+pub returns : goal.returns
+returns c = ap formatted (rw c.new-text.ensures.items at c.in_ok-print_program.ensures.ok)
