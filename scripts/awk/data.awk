@@ -10,7 +10,11 @@ function told(text) {
   return "`" (length(text) > 60 ? substr(text, 1, 60) ".." : text) "`"
 }
 
-function is_name(text) { return text ~ /^[A-Za-z0-9_]+$/ && !is_reserved(text) }
+# A name is a word that is not reserved, or a number, which is at most 2^127.
+function is_name(text) {
+  if (text ~ /^[0-9]+$/) return !is_less("170141183460469231731687303715884105728", trimmed(text))
+  return text ~ /^[A-Za-z0-9_]+$/ && !is_reserved(text)
+}
 
 # An integer as the program prints it: other texts of digits, as `007`, are strings in a column without types.
 function is_integer(text) { return text ~ /^(0|-?[1-9][0-9]*)$/ }
