@@ -44,7 +44,7 @@ function write_places(file,   line, part) {
 
 function write_style() {
   print "<style>"
-  print "body { margin: 0 17em 0 0; font-family: Helvetica, Arial, sans-serif; color: #222; }"
+  print "body { margin: 0 19em 0 0; font-family: Helvetica, Arial, sans-serif; color: #222; }"
   print "header { padding: 0.5em 1em; border-bottom: 1px solid #ccc; }"
   print "header h1 { display: inline; font-size: 1em; margin-right: 1em; }"
   print "button { font-size: 1em; min-width: 2.5em; }"
@@ -52,12 +52,13 @@ function write_style() {
   print "svg { max-width: 100%; max-height: calc(100vh - 12em); height: auto; }"
   print "#item { font-family: monospace; font-size: 1.25em; margin: 0.5em; }"
   print "#note { margin: 0.5em; min-height: 1.2em; }"
-  print "nav { position: fixed; top: 0; right: 0; bottom: 0; width: 16em; overflow-y: auto; border-left: 1px solid #ccc; background: #fafafa; }"
+  print "nav { position: fixed; top: 0; right: 0; bottom: 0; width: 18em; overflow-y: auto; border-left: 1px solid #ccc; background: #fafafa; }"
   print "nav ol { margin: 0.5em 0; padding-left: 4em; font-family: monospace; }"
+  print ".moves { white-space: nowrap; }"
   print "nav li { cursor: pointer; padding: 0.1em 0.3em; overflow-wrap: anywhere; }"
   print "nav li.now { background: #ffe9a8; }"
   print "details { text-align: left; } pre { overflow-x: auto; }"
-  print "@media (max-width: 45em) { body { margin-right: 0; } nav { position: static; width: auto; border-left: 0; } }"
+  print "@media (max-width: 45em) { body { margin-right: 0; } nav { position: relative; width: auto; max-height: 40vh; border-left: 0; } }"
   print ".stepped .picture { display: none; } .stepped .picture.now { display: block; }"
   print "</style>"
 }
@@ -74,7 +75,8 @@ function write_script() {
   print "  at = Math.min(Math.max(place, 0), places.length - 1);"
   print "  const here = places[at];"
   print "  here.classList.add(\"now\");"
-  print "  here.scrollIntoView({ block: \"nearest\" });"
+  print "  const list = part(\"journal\"), end = here.offsetTop + here.offsetHeight - list.clientHeight;"
+  print "  list.scrollTop = Math.max(Math.min(list.scrollTop, here.offsetTop), end);"
   print "  part(\"picture-\" + here.dataset.picture).classList.add(\"now\");"
   print "  part(\"at\").textContent = \"at \" + at + \" of \" + (places.length - 1);"
   print "  part(\"item\").textContent = here.textContent;"
@@ -115,8 +117,8 @@ BEGIN {
   print "</head>"
   print "<body>"
   print "<header><h1>" title "</h1> <span id=\"at\"></span>"
-  print "<button data-key=\"Home\" title=\"Home\">|&lt;</button> <button data-key=\"ArrowLeft\" title=\"arrow left\">&lt;</button>"
-  print "<button data-key=\"ArrowRight\" title=\"arrow right\">&gt;</button> <button data-key=\"End\" title=\"End\">&gt;|</button>"
+  print "<span class=\"moves\"><button data-key=\"Home\" title=\"Home\">|&lt;</button> <button data-key=\"ArrowLeft\" title=\"arrow left\">&lt;</button>"
+  print "<button data-key=\"ArrowRight\" title=\"arrow right\">&gt;</button> <button data-key=\"End\" title=\"End\">&gt;|</button></span>"
   print "</header>"
   print "<main>"
   write_pictures(ENVIRON["PICTURES"])
@@ -126,7 +128,7 @@ BEGIN {
   write_file(ENVIRON["PROGRAM"])
   print "</pre></details>"
   print "</main>"
-  print "<nav><ol id=\"places\" start=\"0\">"
+  print "<nav id=\"journal\"><ol id=\"places\" start=\"0\">"
   write_places(ENVIRON["PLACES"])
   print "</ol></nav>"
   write_script()
