@@ -1,8 +1,8 @@
 # What the scripts that turn data into hosts and graphs into data share: names, atoms, lists and marks as hosts have them,
 # and refusals. A list is its atoms with a tab between each two; a string keeps its quotation marks.
 
-# Ends the script with one line on standard error: where it is, and what cannot be said.
-function refuse(where, what) { print name_of_script ": " (where == "" ? "" : where ": ") what >"/dev/stderr"; exit 1 }
+# Ends the script with one line on standard error: where it is, and what cannot be said. `advice` is what can be done.
+function refuse(where, what) { print name_of_script ": " (where == "" ? "" : where ": ") what advice >"/dev/stderr"; exit 1 }
 
 # A text as a refusal shows it: on one line, with `?` for what is no character of 32 to 126, and not for long.
 function told(text) {
@@ -100,7 +100,9 @@ function after_list(list, mark) { return shown(list) (mark == "" ? "" : " # " ma
 function write_host(   i, name, taken) {
   for (i = 0; i < made_nodes; i++) if (is_name(id_of[i])) taken[id_of[i]] = 1
   for (i = 0; i < made_nodes; i++) {
+    advice = " (a node's name is its label, unless --node-label says another or none)"
     if (!has_list[i]) n_list[i] = plain_atom(id_of[i], place_of[i])
+    advice = ""
     name[i] = id_of[i]
     if (is_name(name[i])) continue
     name[i] = "n" i
