@@ -126,12 +126,19 @@ function checked_list(first, last, where,   list) {
   return list
 }
 
+# Whether the tokens round a label are just a name, a comma, and behind the label a mark or none; graph.awk takes more.
+function is_item(name, is_rooted, comma, last, has_mark) {
+  if (is_rooted ? token[comma - 4] token[comma - 3] token[comma - 2] token[comma - 1] != name "(R)" : token[comma - 1] != name) return 0
+  return token[last + (has_mark ? 3 : 1)] ~ /^[)<]$/
+}
+
 function read_checked(file,   i, where, seen) {
   read_tokens(file)
   if (read_graph(1) <= tokens) refuse("", "no graph: something stands behind `]`")
   for (i = 0; i < node_count; i++) {
     where = "node " told(node[i])
     if (!is_name(node[i])) refuse(where, "no name of a host")
+    if (!is_item(node[i], root[i], from[i] - 1, to[i], mark[i] != "")) refuse(where, "no node as a host writes it")
     if (("node", node[i]) in seen) refuse(where, "two nodes have this name")
     seen["node", node[i]] = 1; called[node[i]] = node[i]
     n_list[node[i]] = checked_list(from[i], to[i], where); check_mark("node", mark[i], where)
@@ -140,7 +147,8 @@ function read_checked(file,   i, where, seen) {
     where = "edge " told(edge[i])
     if (!is_name(edge[i])) refuse(where, "no name of a host")
     if (("edge", edge[i]) in seen) refuse(where, "two edges have this name")
-    if (both[i]) refuse(where, "no edge of a host has a sign behind its name")
+    if (both[i] || token[edge_from[i] - 6] != edge[i] || token[edge_from[i] - 4] != source[i] ||
+      !is_item(target[i], 0, edge_from[i] - 1, edge_to[i], edge_mark[i] != "")) refuse(where, "no edge as a host writes it")
     seen["edge", edge[i]] = 1
     if (!(("node", source[i]) in seen)) refuse(where, "there is no node " told(source[i]))
     if (!(("node", target[i]) in seen)) refuse(where, "there is no node " told(target[i]))
