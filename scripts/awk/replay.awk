@@ -130,11 +130,11 @@ function add_edges(   k, name, w) {
 
 # ---- pictures
 
-function draw(name, caption,   i, bold_node, bold_edge, k) {
+function draw(name, caption, with_names,   i, bold_node, bold_edge, k) {
   for (k in image) bold_node[image[k]] = 1
   for (k in took_edge) bold_edge[took_edge[k]] = 1
   begin_dot(name, caption)
-  for (i = 0; i < next_node; i++) if (i in n_label) dot_node("n" i, n_label[i], n_mark[i], n_root[i], i in bold_node, 0)
+  for (i = 0; i < next_node; i++) if (i in n_label) dot_node("n" i, n_label[i], n_mark[i], n_root[i], i in bold_node, with_names)
   for (i = 0; i < next_edge; i++)
     if (i in e_label) dot_edge("n" e_source[i], "n" e_target[i], e_label[i], e_mark[i], i in bold_edge)
   end_dot()
@@ -153,9 +153,11 @@ function read_printed(   line, words, text) {
   while ((getline line) > 0) {
     if (line == "end") return
     words = split(line, word, " ")
+    split("", image); split("", took_edge)
+    if (word[1] == "step") take_images(words)
+    if (line !~ /^gp2-trace/) note_place(line, word[1] == "step" ? rule_name[now] : "")
     if (word[1] == "step") {
       text[++live] = as_text()
-      take_images(words)
       steps++
       draw_into(sprintf("step %03d", steps), "step " steps ": " rule_name[now])
       make_step()
@@ -183,20 +185,33 @@ function check_result(   line, key) {
   return "result"
 }
 
+# Where a list of the places of the run is asked for, each graph is drawn once, with what the next item takes, and the list
+# says of each place the number of its picture, the next item, and the rule of a step.
+function note_place(line, rule,   key, k) {
+  if (places == "") return
+  key = as_text()
+  for (k in image) key = key "\n" k "\001" image[k]
+  for (k in took_edge) key = key "\n" k "\001" took_edge[k] "\001"
+  if (!(key in picture_of)) { picture_of[key] = ++pictures; draw("picture " pictures, "", 1) }
+  print picture_of[key] "\t" line "\t" rule >places
+}
+
 # On standard output, or in a file of the folder.
 function draw_into(name, caption,   file) {
+  if (places != "") return
   file = name; gsub(/ /, "-", file)
   if (folder != "") dot_file = folder "/" file ".dot"
-  draw(name, caption)
+  draw(name, caption, 0)
 }
 
 BEGIN {
   name_of_script = "journal-to-dot"
-  program = ENVIRON["PROGRAM"]; host = ENVIRON["HOST"]; folder = ENVIRON["FOLDER"]
+  program = ENVIRON["PROGRAM"]; host = ENVIRON["HOST"]; folder = ENVIRON["FOLDER"]; places = ENVIRON["PLACES"]
   begin_host()
   read_tokens(program); read_rules()
   read_printed()
   split("", image); split("", took_edge)
   last = check_result()
+  note_place("end", last == "fail" ? "fail" : "")
   draw_into("step result", last == "fail" ? "fail, at this graph" : "the result")
 }
