@@ -1,4 +1,4 @@
-# Several results are right: edges of one weight may stand for each other. The sum is held against that of Kruskal's algorithm.
+# Several results are right: edges of one weight may stand for each other. The sum has to be that of Kruskal's algorithm.
 # It reads the lines of `scripts/graph-to-dot --lines`, `host` or `result` before each.
 $2 == "node" { place[$1, $3] = nodes[$1]++; label[$1, nodes[$1]] = $6 }
 $1 == "result" && $2 == "node" && ($4 != "-" || $5 != "-") { print $3 " is a root or marked"; wrong = 1 }

@@ -1,4 +1,5 @@
-# Several results are right: which transition fires is open. Asked is whether the tokens follow from the numbers of firings, and whether the net is dead or has fired as often as it may.
+# Several results are right: which transition fires is left open. The tokens have to follow from the numbers of firings.
+# The net has to be dead, or has fired as often as it may.
 # It reads the lines of `scripts/graph-to-dot --lines`, `host` or `result` before each.
 $2 == "node" { place[$1, $3] = ++nodes[$1]; label[$1, nodes[$1]] = $6 }
 $1 == "host" && $2 == "node" && $4 == "R" { limit = $6 }
