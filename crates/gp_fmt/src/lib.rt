@@ -12,8 +12,8 @@ mod expressions;
 pub mod laws;
 mod piece;
 mod print;
-mod put;
 mod rules;
+mod sheet;
 mod write;
 
 pub use piece::Piece;
