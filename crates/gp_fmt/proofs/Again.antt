@@ -1,16 +1,11 @@
 -- A canonical text is read again, and means what the text meant that its tree comes from.
-use Rattle.std.proofs.Common.{◌≡◌, ℕ, List, Some, None, Ok, Err, ap, subst}
-use Rattle.gp_tokens.specs.declared.fault.LexFault.{LexFault}
-use Rattle.gp_tokens.specs.declared.token.Token.{Token}
-use Rattle.gp_tokens.specs.Lexed.{Outcome, tokens_of}
+use Rattle.std.proofs.Common.{ℕ, List, ap, subst}
 use Rattle.gp_syntax.specs.declared.tree.Ast.{Ast}
 use Rattle.gp_syntax.specs.Run.{Program}
-use Rattle.gp_expressions.specs.declared.ranged.Ranged.{Ranged}
 use Rattle.gp_program.specs.Laws.{TokensHaveOneTree}
-use Rattle.gp_program.specs.Program.{IsProgram}
 use Rattle.gp_reader.specs.declared.fault.ProgramFault.{ProgramFault}
-use Rattle.gp_reader.specs.Program.{HasTree, IsProgramText, IsFaultyText, lex, too_deep, syntax, number_range, scope, rule}
-use Rattle.gp_reader.proofs.Unique.{same_tree, not_deep}
+use Rattle.gp_reader.specs.Program.{HasTree, IsProgramText, IsFaultyText, treeless, scope, rule}
+use Rattle.gp_reader.proofs.Unique.{same_tree, no_tree_fault}
 use Rattle.gp_fmt.specs.Canonical.{canonical_text}
 use Rattle.gp_fmt.specs.Laws.{CanonicalTextsAreRead, CanonicalTextsMeanTheSame, CanonicalTextsStay}
 use Rattle.gp_fmt.proofs.Cut.Whole.{all_cut, all_spelled}
@@ -37,18 +32,7 @@ canonical_tree text ast h =
 
 -- ---- texts of one tree
 
--- a text with tokens has no fault of a byte
-no_lex_fault : (r : Outcome) (ts : List Token) (e : LexFault) → r ≡ Err e → r ≡ Ok ts → ⊥
-no_lex_fault r ts e h k = cc
-
-same_tokens : (r : Outcome) (ts us : List Token) → r ≡ Ok ts → r ≡ Ok us → us ≡ ts
-same_tokens r ts us h k = cc
-
 module _ (one_tree : TokensHaveOneTree) (text other : List ℕ) (ast : Ast) (h : HasTree text ast) (k : HasTree other ast) where
-  -- the tokens of the text have no other tree
-  only : (ts : List Token) (x : Ranged Ast) → tokens_of text ≡ Ok ts → IsProgram ts x → x ≡ record { tree = ast; past = None }
-  only ts x lexed p = one_tree ts x (record { tree = ast; past = None }) p (subst (λ (us : List Token). IsProgram us (record { tree = ast; past = None })) (same_tokens (tokens_of text) ts h.tokens lexed h.has_tokens.lexed) h.is_tree)
-
   -- a tree of the text is one of the other
   moves : (t : Ast) → HasTree text t → HasTree other t
   moves t a = subst (HasTree other) (same_tree one_tree text ast t h a) k
@@ -62,11 +46,7 @@ module _ (one_tree : TokensHaveOneTree) (text other : List ℕ) (ast : Ast) (h :
   }
 
   fault_moves : (f : ProgramFault) → IsFaultyText text f → IsFaultyText other f
-  fault_moves _ (lex l known) = absurd (no_lex_fault (tokens_of text) h.tokens _ l h.has_tokens.lexed)
-  fault_moves _ (too_deep ts n l deep) = absurd (not_deep text ts h.tokens l h.has_tokens.lexed n deep h.has_tokens.shallow)
-  fault_moves _ (syntax ts n a no_program) =
-      absurd (no_program.none (record { tree = ast; past = None }) (subst (λ (us : List Token). IsProgram us (record { tree = ast; past = None })) (same_tokens (tokens_of text) ts h.tokens a.lexed h.has_tokens.lexed) h.is_tree))
-  fault_moves _ (number_range ts n a past) = let e = ap (λ (r : Ranged Ast). r.past) (only ts (record { tree = past.tree; past = Some past.start }) a.lexed past.shape) in absurd cc
+  fault_moves _ (treeless f) = absurd (no_tree_fault one_tree text ast _ h f)
   fault_moves _ (scope tree a fault told) = scope tree (moves tree a) fault told
   fault_moves _ (rule tree a first refuses known) = rule tree (record { has_tree = moves tree a.has_tree; faultless = a.faultless }) first refuses known
 
