@@ -8,56 +8,56 @@ use Rattle.gp_fmt.specs.Expressions.{in_parentheses_if}
 use Rattle.gp_fmt.specs.Commands.{CommandPart, command, part_of_command, called, in_sequence, in_branch, in_choice, in_loop, optional}
 use Rattle.gp_fmt.specs.inside.Links.{sequence_link, choice_link}
 use Rattle.gp_fmt.specs.inside.Sizes.{command_size, command_sizes}
-use Rattle.gp_fmt.proofs.Forms.{part_of_command-Call, part_of_command-Procedure, part_of_command-Seq, part_of_command-If, part_of_command-Try, part_of_command-Loop, part_of_command-Or, part_of_command-Skip, part_of_command-Fail, part_of_command-Break}
+use Rattle.gp_fmt.proofs.Forms.{of-Call, of-Procedure, links-Seq, of-If, of-Try, of-Loop, links-Either, of-Skip, of-Fail, of-Break}
 use Rattle.gp_fmt.proofs.Puts.{loop_is, nothing, wrapped, bare, and_then, told, more, all}
 use Rattle.gp_fmt.proofs.Sizes.{size_within, command_size-Seq, command_size-If, command_size-Try, command_size-Loop, command_size-Or}
 use Rattle.gp_fmt.proofs.commands.+command.Goals as goal
 
 pub put_command-returns-in-Call : goal.put_command-returns-in-Call
 put_command-returns-in-Call t c =
-    let e : command c.args.c.now ≡ called c.as_slice.result.now = rw (c.as_slice.ensures) (ap command c.in-Call.is ∙ ap (λ (x : CommandPart). x.pieces) (part_of_command-Call c.in-Call.rules)) in
+    let e : command c.args.c.now ≡ called c.as_slice.result.now = rw (c.as_slice.ensures) (ap command c.in-Call.is ∙ ap (λ (x : CommandPart). x.pieces) (of-Call c.in-Call.rules)) in
     told e c.put_called.ensures
 
 pub put_command-returns-in-Procedure : goal.put_command-returns-in-Procedure
 put_command-returns-in-Procedure t c =
-    told (ap command c.in-Procedure.is ∙ ap (λ (x : CommandPart). x.pieces) (part_of_command-Procedure c.in-Procedure.name)) c.name.ensures
+    told (ap command c.in-Procedure.is ∙ ap (λ (x : CommandPart). x.pieces) (of-Procedure c.in-Procedure.name)) c.name.ensures
 
 pub put_command-returns-in-Seq : goal.put_command-returns-in-Seq
 put_command-returns-in-Seq t c =
-    let e : command c.args.c.now ≡ in_sequence (part_of_command c.get.result.now) ++ flat_map sequence_link c.as_slice-in-Seq.result.now = rw (c.get.ensures, c.as_slice-in-Seq.ensures) (ap command c.in-Seq.is ∙ ap (λ (x : CommandPart). x.pieces) (part_of_command-Seq c.in-Seq.first c.in-Seq.rest)) in
+    let e : command c.args.c.now ≡ in_sequence (part_of_command c.get.result.now) ++ flat_map sequence_link c.as_slice-in-Seq.result.now = rw (c.get.ensures, c.as_slice-in-Seq.ensures) (ap command c.in-Seq.is ∙ ap (λ (x : CommandPart). x.pieces) (links-Seq c.in-Seq.first c.in-Seq.rest)) in
     told e c.put_sequence.ensures
 
 pub put_command-returns-in-If : goal.put_command-returns-in-If
 put_command-returns-in-If t c =
-    let e : command c.args.c.now ≡ p.Word words.If ∷ in_branch (part_of_command c.get-in-If.result.now) ++ p.Word words.Then ∷ in_branch (part_of_command c.get-in-If-2.result.now) ++ optional words.Else (part_of_command c.get-in-If-3.result.now) = rw (c.get-in-If.ensures, c.get-in-If-2.ensures, c.get-in-If-3.ensures) (ap command c.in-If.is ∙ ap (λ (x : CommandPart). x.pieces) (part_of_command-If c.in-If.test c.in-If.then c.in-If.other)) in
+    let e : command c.args.c.now ≡ p.Word words.If ∷ in_branch (part_of_command c.get-in-If.result.now) ++ p.Word words.Then ∷ in_branch (part_of_command c.get-in-If-2.result.now) ++ optional words.Else (part_of_command c.get-in-If-3.result.now) = rw (c.get-in-If.ensures, c.get-in-If-2.ensures, c.get-in-If-3.ensures) (ap command c.in-If.is ∙ ap (λ (x : CommandPart). x.pieces) (of-If c.in-If.test c.in-If.then c.in-If.other)) in
     told e c.put_if.ensures
 
 pub put_command-returns-in-Try : goal.put_command-returns-in-Try
 put_command-returns-in-Try t c =
-    let e : command c.args.c.now ≡ p.Word words.Try ∷ in_branch (part_of_command c.get-in-Try.result.now) ++ optional words.Then (part_of_command c.get-in-Try-2.result.now) ++ optional words.Else (part_of_command c.get-in-Try-3.result.now) = rw (c.get-in-Try.ensures, c.get-in-Try-2.ensures, c.get-in-Try-3.ensures) (ap command c.in-Try.is ∙ ap (λ (x : CommandPart). x.pieces) (part_of_command-Try c.in-Try.test c.in-Try.then c.in-Try.other)) in
+    let e : command c.args.c.now ≡ p.Word words.Try ∷ in_branch (part_of_command c.get-in-Try.result.now) ++ optional words.Then (part_of_command c.get-in-Try-2.result.now) ++ optional words.Else (part_of_command c.get-in-Try-3.result.now) = rw (c.get-in-Try.ensures, c.get-in-Try-2.ensures, c.get-in-Try-3.ensures) (ap command c.in-Try.is ∙ ap (λ (x : CommandPart). x.pieces) (of-Try c.in-Try.test c.in-Try.then c.in-Try.other)) in
     told e c.put_try.ensures
 
 pub put_command-returns-in-Loop : goal.put_command-returns-in-Loop
 put_command-returns-in-Loop t c =
-    let e : command c.args.c.now ≡ in_parentheses_if (not c.is_call.result) (command c.get-body.result.now) ++ p.Sign k.Exclamation ∷ [] = rw (c.is_call.ensures, c.get-body.ensures) (ap command c.in-Loop.is ∙ ap (λ (x : CommandPart). x.pieces) (part_of_command-Loop c.in-Loop.body) ∙ ap (λ (l : List Piece). l ++ p.Sign k.Exclamation ∷ []) (loop_is (part_of_command c.in-Loop.body))) in
+    let e : command c.args.c.now ≡ in_parentheses_if (not c.is_call.result) (command c.get-body.result.now) ++ p.Sign k.Exclamation ∷ [] = rw (c.is_call.ensures, c.get-body.ensures) (ap command c.in-Loop.is ∙ ap (λ (x : CommandPart). x.pieces) (of-Loop c.in-Loop.body) ∙ ap (λ (l : List Piece). l ++ p.Sign k.Exclamation ∷ []) (loop_is (part_of_command c.in-Loop.body))) in
     told e (and_then c.put_part.ensures c.sign.ensures)
 
 pub put_command-returns-in-Or : goal.put_command-returns-in-Or
 put_command-returns-in-Or t c =
-    let e : command c.args.c.now ≡ in_choice (part_of_command c.get-in-Or.result.now) ++ flat_map choice_link c.as_slice-in-Or.result.now = rw (c.get-in-Or.ensures, c.as_slice-in-Or.ensures) (ap command c.in-Or.is ∙ ap (λ (x : CommandPart). x.pieces) (part_of_command-Or c.in-Or.first c.in-Or.rest)) in
+    let e : command c.args.c.now ≡ in_choice (part_of_command c.get-in-Or.result.now) ++ flat_map choice_link c.as_slice-in-Or.result.now = rw (c.get-in-Or.ensures, c.as_slice-in-Or.ensures) (ap command c.in-Or.is ∙ ap (λ (x : CommandPart). x.pieces) (links-Either c.in-Or.first c.in-Or.rest)) in
     told e c.put_choice.ensures
 
 pub put_command-returns-in-Skip : goal.put_command-returns-in-Skip
 put_command-returns-in-Skip t c =
-    told (ap command c.in-Skip.is ∙ ap (λ (x : CommandPart). x.pieces) part_of_command-Skip) c.word.ensures
+    told (ap command c.in-Skip.is ∙ ap (λ (x : CommandPart). x.pieces) of-Skip) c.word.ensures
 
 pub put_command-returns-in-Fail : goal.put_command-returns-in-Fail
 put_command-returns-in-Fail t c =
-    told (ap command c.in-Fail.is ∙ ap (λ (x : CommandPart). x.pieces) part_of_command-Fail) c.word-in-Fail.ensures
+    told (ap command c.in-Fail.is ∙ ap (λ (x : CommandPart). x.pieces) of-Fail) c.word-in-Fail.ensures
 
 pub put_command-returns-in-Break : goal.put_command-returns-in-Break
 put_command-returns-in-Break t c =
-    told (ap command c.in-Break.is ∙ ap (λ (x : CommandPart). x.pieces) part_of_command-Break) c.word-in-Break.ensures
+    told (ap command c.in-Break.is ∙ ap (λ (x : CommandPart). x.pieces) of-Break) c.word-in-Break.ensures
 
 pub put_command-put_sequence-requires : goal.put_command-put_sequence-requires
 put_command-put_sequence-requires t c =

@@ -4,19 +4,19 @@ use Rattle.gp_fmt.specs.declared.piece.Piece.TheVariants as p
 use Rattle.gp_fmt.specs.Commands.{command}
 use Rattle.gp_fmt.specs.Canonical.{declaration, locals}
 use Rattle.gp_fmt.specs.inside.Sizes.{declaration_size, declaration_sizes}
-use Rattle.gp_fmt.proofs.Forms.{locals_are, declaration-Procedure, declaration-Rule}
+use Rattle.gp_fmt.proofs.Forms.{locals_are, of-Declared, of-Rule}
 use Rattle.gp_fmt.proofs.Puts.{nothing, and_then, told, more, all}
 use Rattle.gp_fmt.proofs.Sizes.{size_within, declaration_size-Procedure}
 use Rattle.gp_fmt.proofs.declarations.+declaration.Goals as goal
 
 pub put_declaration-returns-in-Procedure : goal.put_declaration-returns-in-Procedure
 put_declaration-returns-in-Procedure t c =
-    let e : declaration c.args.d.now ≡ p.Name c.in-Procedure.name ∷ p.Sign k.Equal ∷ locals (map declaration c.as_slice.result.now) ++ command c.in-Procedure.body = rw (c.as_slice.ensures) (ap declaration c.in-Procedure.is ∙ (declaration-Procedure c.in-Procedure.name c.in-Procedure.declarations c.in-Procedure.body)) in
+    let e : declaration c.args.d.now ≡ p.Name c.in-Procedure.name ∷ p.Sign k.Equal ∷ locals (map declaration c.as_slice.result.now) ++ command c.in-Procedure.body = rw (c.as_slice.ensures) (ap declaration c.in-Procedure.is ∙ (of-Declared c.in-Procedure.name c.in-Procedure.declarations c.in-Procedure.body)) in
     told e (and_then c.name.ensures (and_then c.sign.ensures (and_then c.put_locals.ensures c.put_command.ensures)))
 
 pub put_declaration-returns-in-Rule : goal.put_declaration-returns-in-Rule
 put_declaration-returns-in-Rule t c =
-    told (ap declaration c.in-Rule.is ∙ (declaration-Rule c.in-Rule.r)) c.put_rule.ensures
+    told (ap declaration c.in-Rule.is ∙ (of-Rule c.in-Rule.r)) c.put_rule.ensures
 
 pub put_declaration-put_locals-requires : goal.put_declaration-put_locals-requires
 put_declaration-put_locals-requires t c =

@@ -11,64 +11,64 @@ use Rattle.gp_fmt.specs.declared.piece.Piece.TheVariants as p
 use Rattle.gp_fmt.specs.Expressions.{Part, expression, part_of_expression, in_parentheses_if, member, sum_level, product_level, dot_level, join_level}
 use Rattle.gp_fmt.specs.inside.Links.{sum_link, product_link, chain_link}
 use Rattle.gp_fmt.specs.inside.Sizes.{expression_size, expression_sizes, operand_sizes}
-use Rattle.gp_fmt.proofs.Forms.{part_of_expression-Number, part_of_expression-Text, part_of_expression-Variable, part_of_expression-InDegree, part_of_expression-OutDegree, part_of_expression-Length, part_of_expression-Empty, part_of_expression-Negated, part_of_expression-Sum, part_of_expression-Product, part_of_expression-Dot, part_of_expression-Join}
+use Rattle.gp_fmt.proofs.Forms.{of-Number, of-Text, of-Variable, of-InDegree, of-OutDegree, of-Length, of-Empty, of-Negated, links-Sum, links-Product, links-Dot, links-Join}
 use Rattle.gp_fmt.proofs.Puts.{and_then, wrapped, bare, told, more, all, nothing}
 use Rattle.gp_fmt.proofs.Sizes.{size_within, expression_size-Negated, expression_size-Sum, expression_size-Product, expression_size-Dot, expression_size-Join}
 use Rattle.gp_fmt.proofs.expressions.+expression.Goals as goal
 
 pub put_expression-returns-in-Number : goal.put_expression-returns-in-Number
 put_expression-returns-in-Number t c =
-    told (ap expression c.in-Number.is ∙ ap (λ (x : Part). x.pieces) (part_of_expression-Number c.in-Number.value)) c.put_numeral.ensures
+    told (ap expression c.in-Number.is ∙ ap (λ (x : Part). x.pieces) (of-Number c.in-Number.value)) c.put_numeral.ensures
 
 pub put_expression-returns-in-Text : goal.put_expression-returns-in-Text
 put_expression-returns-in-Text t c =
-    let e : expression c.args.e.now ≡ p.String c.new.result ∷ [] = rw (c.new.ensures, c.as_bytes.ensures.value) (ap expression c.in-Text.is ∙ ap (λ (x : Part). x.pieces) (part_of_expression-Text c.in-Text.characters)) in
+    let e : expression c.args.e.now ≡ p.String c.new.result ∷ [] = rw (c.new.ensures, c.as_bytes.ensures.value) (ap expression c.in-Text.is ∙ ap (λ (x : Part). x.pieces) (of-Text c.in-Text.characters)) in
     told e c.put.ensures
 
 pub put_expression-returns-in-Variable : goal.put_expression-returns-in-Variable
 put_expression-returns-in-Variable t c =
-    told (ap expression c.in-Variable.is ∙ ap (λ (x : Part). x.pieces) (part_of_expression-Variable c.in-Variable.name)) c.name.ensures
+    told (ap expression c.in-Variable.is ∙ ap (λ (x : Part). x.pieces) (of-Variable c.in-Variable.name)) c.name.ensures
 
 pub put_expression-returns-in-InDegree : goal.put_expression-returns-in-InDegree
 put_expression-returns-in-InDegree t c =
-    told (ap expression c.in-InDegree.is ∙ ap (λ (x : Part). x.pieces) (part_of_expression-InDegree c.in-InDegree.name)) c.put_applied.ensures
+    told (ap expression c.in-InDegree.is ∙ ap (λ (x : Part). x.pieces) (of-InDegree c.in-InDegree.name)) c.put_applied.ensures
 
 pub put_expression-returns-in-OutDegree : goal.put_expression-returns-in-OutDegree
 put_expression-returns-in-OutDegree t c =
-    told (ap expression c.in-OutDegree.is ∙ ap (λ (x : Part). x.pieces) (part_of_expression-OutDegree c.in-OutDegree.name)) c.put_applied-in-OutDegree.ensures
+    told (ap expression c.in-OutDegree.is ∙ ap (λ (x : Part). x.pieces) (of-OutDegree c.in-OutDegree.name)) c.put_applied-in-OutDegree.ensures
 
 pub put_expression-returns-in-Length : goal.put_expression-returns-in-Length
 put_expression-returns-in-Length t c =
-    told (ap expression c.in-Length.is ∙ ap (λ (x : Part). x.pieces) (part_of_expression-Length c.in-Length.name)) c.put_applied-in-Length.ensures
+    told (ap expression c.in-Length.is ∙ ap (λ (x : Part). x.pieces) (of-Length c.in-Length.name)) c.put_applied-in-Length.ensures
 
 pub put_expression-returns-in-Empty : goal.put_expression-returns-in-Empty
 put_expression-returns-in-Empty t c =
-    told (ap expression c.in-Empty.is ∙ ap (λ (x : Part). x.pieces) part_of_expression-Empty) c.word.ensures
+    told (ap expression c.in-Empty.is ∙ ap (λ (x : Part). x.pieces) of-Empty) c.word.ensures
 
 pub put_expression-returns-in-Negated : goal.put_expression-returns-in-Negated
 put_expression-returns-in-Negated t c =
     let w = in_parentheses_if c.minus_needs_parentheses.result (expression c.get-operand.result.now) in
-    let e : expression c.args.e.now ≡ p.Negation ∷ w = rw (c.minus_needs_parentheses.ensures, c.get-operand.ensures) (ap expression c.in-Negated.is ∙ ap (λ (x : Part). x.pieces) (part_of_expression-Negated c.in-Negated.operand)) in
+    let e : expression c.args.e.now ≡ p.Negation ∷ w = rw (c.minus_needs_parentheses.ensures, c.get-operand.ensures) (ap expression c.in-Negated.is ∙ ap (λ (x : Part). x.pieces) (of-Negated c.in-Negated.operand)) in
     told e (and_then c.put-in-Negated.ensures c.put_operand.ensures)
 
 pub put_expression-returns-in-Sum : goal.put_expression-returns-in-Sum
 put_expression-returns-in-Sum t c =
-    let e : expression c.args.e.now ≡ member sum_level (part_of_expression c.get.result.now) ++ flat_map sum_link c.as_slice.result.now = rw (c.get.ensures, c.as_slice.ensures) (ap expression c.in-Sum.is ∙ ap (λ (x : Part). x.pieces) (part_of_expression-Sum c.in-Sum.first c.in-Sum.rest)) in
+    let e : expression c.args.e.now ≡ member sum_level (part_of_expression c.get.result.now) ++ flat_map sum_link c.as_slice.result.now = rw (c.get.ensures, c.as_slice.ensures) (ap expression c.in-Sum.is ∙ ap (λ (x : Part). x.pieces) (links-Sum c.in-Sum.first c.in-Sum.rest)) in
     told e c.put_sum.ensures
 
 pub put_expression-returns-in-Product : goal.put_expression-returns-in-Product
 put_expression-returns-in-Product t c =
-    let e : expression c.args.e.now ≡ member product_level (part_of_expression c.get-in-Product.result.now) ++ flat_map product_link c.as_slice-in-Product.result.now = rw (c.get-in-Product.ensures, c.as_slice-in-Product.ensures) (ap expression c.in-Product.is ∙ ap (λ (x : Part). x.pieces) (part_of_expression-Product c.in-Product.first c.in-Product.rest)) in
+    let e : expression c.args.e.now ≡ member product_level (part_of_expression c.get-in-Product.result.now) ++ flat_map product_link c.as_slice-in-Product.result.now = rw (c.get-in-Product.ensures, c.as_slice-in-Product.ensures) (ap expression c.in-Product.is ∙ ap (λ (x : Part). x.pieces) (links-Product c.in-Product.first c.in-Product.rest)) in
     told e c.put_product.ensures
 
 pub put_expression-returns-in-Dot : goal.put_expression-returns-in-Dot
 put_expression-returns-in-Dot t c =
-    let e : expression c.args.e.now ≡ member dot_level (part_of_expression c.get-in-Dot.result.now) ++ flat_map (chain_link k.Dot dot_level) c.as_slice-in-Dot.result.now = rw (c.get-in-Dot.ensures, c.as_slice-in-Dot.ensures) (ap expression c.in-Dot.is ∙ ap (λ (x : Part). x.pieces) (part_of_expression-Dot c.in-Dot.first c.in-Dot.rest)) in
+    let e : expression c.args.e.now ≡ member dot_level (part_of_expression c.get-in-Dot.result.now) ++ flat_map (chain_link k.Dot dot_level) c.as_slice-in-Dot.result.now = rw (c.get-in-Dot.ensures, c.as_slice-in-Dot.ensures) (ap expression c.in-Dot.is ∙ ap (λ (x : Part). x.pieces) (links-Dot c.in-Dot.first c.in-Dot.rest)) in
     told e c.put_chain.ensures
 
 pub put_expression-returns-in-Join : goal.put_expression-returns-in-Join
 put_expression-returns-in-Join t c =
-    let e : expression c.args.e.now ≡ member join_level (part_of_expression c.get-in-Join.result.now) ++ flat_map (chain_link k.Colon join_level) c.as_slice-in-Join.result.now = rw (c.get-in-Join.ensures, c.as_slice-in-Join.ensures) (ap expression c.in-Join.is ∙ ap (λ (x : Part). x.pieces) (part_of_expression-Join c.in-Join.first c.in-Join.rest)) in
+    let e : expression c.args.e.now ≡ member join_level (part_of_expression c.get-in-Join.result.now) ++ flat_map (chain_link k.Colon join_level) c.as_slice-in-Join.result.now = rw (c.get-in-Join.ensures, c.as_slice-in-Join.ensures) (ap expression c.in-Join.is ∙ ap (λ (x : Part). x.pieces) (links-Join c.in-Join.first c.in-Join.rest)) in
     told e c.put_chain-in-Join.ensures
 
 pub put_expression-put_operand-requires : goal.put_expression-put_operand-requires
