@@ -3,7 +3,6 @@ pub mod Under
 pub mod Roles
 pub mod Quiet
 pub mod Texts
-pub mod Forms
 pub mod Parts
 pub mod Expressions
 pub mod Conditions

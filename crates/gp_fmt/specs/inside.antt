@@ -1,3 +1,4 @@
 pub mod Spelled
 pub mod Sizes
 pub mod Links
+pub mod Puts

@@ -1,17 +1,15 @@
 //! The tokens of commands.
 
-ghost use Rattle.std.specs.Prelude.{◌≡◌, nat_lt, [], ◌∷◌, ◌++◌, OnOk};
+ghost use Rattle.std.specs.Prelude.{◌≡◌, nat_lt, ◌∷◌, ◌++◌};
 ghost use Rattle.std.specs.List.{flat_map};
-ghost use Rattle.gp_tokens.specs.declared.token.Kind.TheVariants as k;
 ghost use Rattle.gp_tokens.specs.declared.keyword.Keyword.TheVariants as words;
 ghost use Rattle.gp_fmt.specs.declared.piece.Piece.TheVariants as p;
 ghost use Rattle.gp_fmt.specs.Expressions.{in_parentheses_if};
-ghost use Rattle.gp_fmt.specs.Commands.{part_of_command, command, level, is_call, is_nothing, called, in_braces, names, in_sequence, in_branch, in_choice, in_loop, optional};
+ghost use Rattle.gp_fmt.specs.Commands.{part_of_command, command, level, is_call, is_nothing, called, in_braces, names_behind, names, in_sequence, in_branch, in_choice, optional};
+ghost use Rattle.gp_fmt.specs.inside.Puts.{Puts};
 ghost use Rattle.gp_fmt.specs.inside.Links.{sequence_link, choice_link};
 
-use crate::piece::Piece;
-use crate::put::{put_name, put_names, put_sign, put_word};
-use gp_memory::NoMemory;
+use crate::sheet::Sheet;
 use gp_syntax::{CommandTree, Name};
 use gp_tokens::{Keyword, Kind};
 
@@ -75,89 +73,105 @@ fn is_nothing(c: &CommandTree) -> bool
     }
 }
 
-/// Puts names in braces, with commas between them.
-pub(crate) fn put_set<'a>(all: &'a [Name], pieces: &mut Vec<Piece<'a>>) -> Result<(), NoMemory>
-    ensures { OnOk result (pieces.new.items ≡ pieces.old.items ++ in_braces (names all.now)) }
+/// Puts names, each behind a comma.
+pub(crate) fn put_names_behind<'a>(names: &'a [Name], sheet: &mut Sheet<'a>)
+    ensures { Puts sheet.old sheet.new (names_behind names.now) }
 {
-    put_sign(Kind::OpenBrace, pieces)?;
-    put_names(all, pieces)?;
-    put_sign(Kind::CloseBrace, pieces)
+    'each: for name in names {
+        sheet.sign(Kind::Comma);
+        sheet.name(name);
+    }
+}
+
+// Puts names with commas between them.
+fn put_names<'a>(all: &'a [Name], sheet: &mut Sheet<'a>)
+    ensures { Puts sheet.old sheet.new (names all.now) }
+{
+    match all.split_first() {
+        None => {}
+        Some((first, rest)) => {
+            sheet.name(first);
+            put_names_behind(rest, sheet);
+        }
+    }
+}
+
+/// Puts names in braces, with commas between them.
+pub(crate) fn put_set<'a>(all: &'a [Name], sheet: &mut Sheet<'a>)
+    ensures { Puts sheet.old sheet.new (in_braces (names all.now)) }
+{
+    sheet.sign(Kind::OpenBrace);
+    put_names(all, sheet);
+    sheet.sign(Kind::CloseBrace);
 }
 
 // Puts a call of rules: of one alone by its name.
-fn put_called<'a>(rules: &'a [Name], pieces: &mut Vec<Piece<'a>>) -> Result<(), NoMemory>
-    ensures { OnOk result (pieces.new.items ≡ pieces.old.items ++ called rules.now) }
+fn put_called<'a>(rules: &'a [Name], sheet: &mut Sheet<'a>)
+    ensures { Puts sheet.old sheet.new (called rules.now) }
 {
     match rules {
-        [rule] => put_name(rule, pieces),
-        _ => put_set(rules, pieces),
+        [rule] => sheet.name(rule),
+        _ => put_set(rules, sheet),
     }
 }
 
 /// Puts a command.
 #[cycle(command)]
-pub(crate) fn put_command<'a>(
-    c: &'a CommandTree,
-    pieces: &mut Vec<Piece<'a>>,
-) -> Result<(), NoMemory>
-    ensures { OnOk result (pieces.new.items ≡ pieces.old.items ++ command c.now) }
+pub(crate) fn put_command<'a>(c: &'a CommandTree, sheet: &mut Sheet<'a>)
+    ensures { Puts sheet.old sheet.new (command c.now) }
 {
     match c {
-        CommandTree::Call(rules) => put_called(rules.as_slice(), pieces),
-        CommandTree::Procedure(name) => put_name(name, pieces),
-        CommandTree::Seq(first, rest) => put_sequence(first.get(), rest.as_slice(), pieces),
-        CommandTree::If(test, then, other) => put_if(test.get(), then.get(), other.get(), pieces),
+        CommandTree::Call(rules) => put_called(rules.as_slice(), sheet),
+        CommandTree::Procedure(name) => sheet.name(name),
+        CommandTree::Seq(first, rest) => put_sequence(first.get(), rest.as_slice(), sheet),
+        CommandTree::If(test, then, other) => put_if(test.get(), then.get(), other.get(), sheet),
         CommandTree::Try(test, then, other) => {
-            put_try(test.get(), then.get(), other.get(), pieces)
+            put_try(test.get(), then.get(), other.get(), sheet);
         }
-        CommandTree::Loop(body) => put_loop(body.get(), pieces),
-        CommandTree::Or(first, rest) => put_choice(first.get(), rest.as_slice(), pieces),
-        CommandTree::Skip => put_word(Keyword::Skip, pieces),
-        CommandTree::Fail => put_word(Keyword::Fail, pieces),
-        CommandTree::Break => put_word(Keyword::Break, pieces),
+        CommandTree::Loop(body) => {
+            let body = body.get();
+            put_part(!is_call(body), body, sheet);
+            sheet.sign(Kind::Exclamation);
+        }
+        CommandTree::Or(first, rest) => put_choice(first.get(), rest.as_slice(), sheet),
+        CommandTree::Skip => sheet.word(Keyword::Skip),
+        CommandTree::Fail => sheet.word(Keyword::Fail),
+        CommandTree::Break => sheet.word(Keyword::Break),
     }
 }
 
 // Puts a command, in parentheses where they are asked for.
 #[cycle(command)]
-fn put_part<'a>(
-    needed: bool,
-    c: &'a CommandTree,
-    pieces: &mut Vec<Piece<'a>>,
-) -> Result<(), NoMemory>
-    ensures { OnOk result (pieces.new.items ≡ pieces.old.items ++ in_parentheses_if needed (command c.now)) }
+fn put_part<'a>(needed: bool, c: &'a CommandTree, sheet: &mut Sheet<'a>)
+    ensures { Puts sheet.old sheet.new (in_parentheses_if needed (command c.now)) }
 {
     if needed {
-        put_sign(Kind::OpenParenthesis, pieces)?;
-        put_command(c, pieces)?;
-        put_sign(Kind::CloseParenthesis, pieces)
+        sheet.sign(Kind::OpenParenthesis);
+        put_command(c, sheet);
+        sheet.sign(Kind::CloseParenthesis);
     } else {
-        put_command(c, pieces)
+        put_command(c, sheet);
     }
 }
 
 // Puts a command, in parentheses where its own level is below this one.
 #[cycle(command)]
-fn put_from<'a>(limit: u8, c: &'a CommandTree, pieces: &mut Vec<Piece<'a>>) -> Result<(), NoMemory>
-    ensures { OnOk result (pieces.new.items ≡ pieces.old.items ++ in_parentheses_if (nat_lt (level (part_of_command c.now).form) limit) (command c.now)) }
+fn put_from<'a>(limit: u8, c: &'a CommandTree, sheet: &mut Sheet<'a>)
+    ensures { Puts sheet.old sheet.new (in_parentheses_if (nat_lt (level (part_of_command c.now).form) limit) (command c.now)) }
 {
-    put_part(level_of(c) < limit, c, pieces)
+    put_part(level_of(c) < limit, c, sheet);
 }
 
 // Puts a part that may be missing, behind its word: `skip` is not written.
 #[cycle(command)]
-fn put_optional<'a>(
-    word: Keyword,
-    c: &'a CommandTree,
-    pieces: &mut Vec<Piece<'a>>,
-) -> Result<(), NoMemory>
-    ensures { OnOk result (pieces.new.items ≡ pieces.old.items ++ optional word (part_of_command c.now)) }
+fn put_optional<'a>(word: Keyword, c: &'a CommandTree, sheet: &mut Sheet<'a>)
+    ensures { Puts sheet.old sheet.new (optional word (part_of_command c.now)) }
 {
     if is_nothing(c) {
-        return Ok(());
+        return;
     }
-    put_word(word, pieces)?;
-    put_from(CHOICE_LEVEL, c, pieces)
+    sheet.word(word);
+    put_from(CHOICE_LEVEL, c, sheet);
 }
 
 // Puts an `if`.
@@ -166,15 +180,15 @@ fn put_if<'a>(
     test: &'a CommandTree,
     then: &'a CommandTree,
     other: &'a CommandTree,
-    pieces: &mut Vec<Piece<'a>>,
-) -> Result<(), NoMemory>
-    ensures { OnOk result (pieces.new.items ≡ pieces.old.items ++ (p.Word words.If ∷ in_branch (part_of_command test.now) ++ p.Word words.Then ∷ in_branch (part_of_command then.now) ++ optional words.Else (part_of_command other.now))) }
+    sheet: &mut Sheet<'a>,
+)
+    ensures { Puts sheet.old sheet.new (p.Word words.If ∷ in_branch (part_of_command test.now) ++ p.Word words.Then ∷ in_branch (part_of_command then.now) ++ optional words.Else (part_of_command other.now)) }
 {
-    put_word(Keyword::If, pieces)?;
-    put_from(CHOICE_LEVEL, test, pieces)?;
-    put_word(Keyword::Then, pieces)?;
-    put_from(CHOICE_LEVEL, then, pieces)?;
-    put_optional(Keyword::Else, other, pieces)
+    sheet.word(Keyword::If);
+    put_from(CHOICE_LEVEL, test, sheet);
+    sheet.word(Keyword::Then);
+    put_from(CHOICE_LEVEL, then, sheet);
+    put_optional(Keyword::Else, other, sheet);
 }
 
 // Puts a `try`.
@@ -183,55 +197,36 @@ fn put_try<'a>(
     test: &'a CommandTree,
     then: &'a CommandTree,
     other: &'a CommandTree,
-    pieces: &mut Vec<Piece<'a>>,
-) -> Result<(), NoMemory>
-    ensures { OnOk result (pieces.new.items ≡ pieces.old.items ++ (p.Word words.Try ∷ in_branch (part_of_command test.now) ++ optional words.Then (part_of_command then.now) ++ optional words.Else (part_of_command other.now))) }
+    sheet: &mut Sheet<'a>,
+)
+    ensures { Puts sheet.old sheet.new (p.Word words.Try ∷ in_branch (part_of_command test.now) ++ optional words.Then (part_of_command then.now) ++ optional words.Else (part_of_command other.now)) }
 {
-    put_word(Keyword::Try, pieces)?;
-    put_from(CHOICE_LEVEL, test, pieces)?;
-    put_optional(Keyword::Then, then, pieces)?;
-    put_optional(Keyword::Else, other, pieces)
-}
-
-// Puts a loop.
-#[cycle(command)]
-fn put_loop<'a>(body: &'a CommandTree, pieces: &mut Vec<Piece<'a>>) -> Result<(), NoMemory>
-    ensures { OnOk result (pieces.new.items ≡ pieces.old.items ++ (in_loop (part_of_command body.now) ++ p.Sign k.Exclamation ∷ [])) }
-{
-    put_part(!is_call(body), body, pieces)?;
-    put_sign(Kind::Exclamation, pieces)
+    sheet.word(Keyword::Try);
+    put_from(CHOICE_LEVEL, test, sheet);
+    put_optional(Keyword::Then, then, sheet);
+    put_optional(Keyword::Else, other, sheet);
 }
 
 // Puts a chain of `;`.
 #[cycle(command)]
-fn put_sequence<'a>(
-    first: &'a CommandTree,
-    rest: &'a [CommandTree],
-    pieces: &mut Vec<Piece<'a>>,
-) -> Result<(), NoMemory>
-    ensures { OnOk result (pieces.new.items ≡ pieces.old.items ++ (in_sequence (part_of_command first.now) ++ flat_map sequence_link rest.now)) }
+fn put_sequence<'a>(first: &'a CommandTree, rest: &'a [CommandTree], sheet: &mut Sheet<'a>)
+    ensures { Puts sheet.old sheet.new (in_sequence (part_of_command first.now) ++ flat_map sequence_link rest.now) }
 {
-    put_from(BRANCH_LEVEL, first, pieces)?;
+    put_from(BRANCH_LEVEL, first, sheet);
     'each: for part in rest {
-        put_sign(Kind::Semicolon, pieces)?;
-        put_from(BRANCH_LEVEL, part, pieces)?;
+        sheet.sign(Kind::Semicolon);
+        put_from(BRANCH_LEVEL, part, sheet);
     }
-    Ok(())
 }
 
 // Puts a chain of `or`.
 #[cycle(command)]
-fn put_choice<'a>(
-    first: &'a CommandTree,
-    rest: &'a [CommandTree],
-    pieces: &mut Vec<Piece<'a>>,
-) -> Result<(), NoMemory>
-    ensures { OnOk result (pieces.new.items ≡ pieces.old.items ++ (in_choice (part_of_command first.now) ++ flat_map choice_link rest.now)) }
+fn put_choice<'a>(first: &'a CommandTree, rest: &'a [CommandTree], sheet: &mut Sheet<'a>)
+    ensures { Puts sheet.old sheet.new (in_choice (part_of_command first.now) ++ flat_map choice_link rest.now) }
 {
-    put_from(SIMPLE_LEVEL, first, pieces)?;
+    put_from(SIMPLE_LEVEL, first, sheet);
     'each: for part in rest {
-        put_word(Keyword::Or, pieces)?;
-        put_from(SIMPLE_LEVEL, part, pieces)?;
+        sheet.word(Keyword::Or);
+        put_from(SIMPLE_LEVEL, part, sheet);
     }
-    Ok(())
 }

@@ -1,18 +1,17 @@
 //! The tokens of conditions.
 
-ghost use Rattle.std.specs.Prelude.{◌≡◌, [], ◌∷◌, ◌++◌, OnOk};
+ghost use Rattle.std.specs.Prelude.{◌≡◌, [], ◌∷◌, ◌++◌};
 ghost use Rattle.std.specs.List.{flat_map};
 ghost use Rattle.gp_tokens.specs.declared.token.Kind.TheVariants as k;
 ghost use Rattle.gp_tokens.specs.declared.keyword.Keyword.TheVariants as words;
 ghost use Rattle.gp_fmt.specs.declared.piece.Piece.TheVariants as p;
-ghost use Rattle.gp_fmt.specs.Expressions.{part_of_condition, condition, expression, in_parentheses, in_parentheses_if, member, operand, not_level, type_word, comparison_sign, edge_test, label};
+ghost use Rattle.gp_fmt.specs.Expressions.{part_of_condition, condition, in_parentheses_if, member, type_word, comparison_sign};
+ghost use Rattle.gp_fmt.specs.inside.Puts.{Puts};
 ghost use Rattle.gp_fmt.specs.inside.Links.{condition_link};
 
 use crate::expressions::{put_expression, put_label};
-use crate::piece::Piece;
-use crate::put::{put_name, put_sign, put_word};
-use gp_memory::NoMemory;
-use gp_syntax::{Comparison, Cond, Expr, Name, VariableType};
+use crate::sheet::Sheet;
+use gp_syntax::{Comparison, Cond, Name, VariableType};
 use gp_tokens::{Keyword, Kind};
 
 const OR_LEVEL: u8 = 0;
@@ -36,7 +35,8 @@ fn level_of(c: &Cond<Name, Option<Name>>) -> u8
     }
 }
 
-fn type_keyword(kind: VariableType) -> Keyword
+/// The word of a type.
+pub(crate) fn type_keyword(kind: VariableType) -> Keyword
     ensures { p.Word result ≡ type_word kind }
 {
     match kind {
@@ -48,68 +48,15 @@ fn type_keyword(kind: VariableType) -> Keyword
     }
 }
 
-/// Puts the word of a type.
-pub(crate) fn put_type(kind: VariableType, pieces: &mut Vec<Piece<'_>>) -> Result<(), NoMemory>
-    ensures { OnOk result (pieces.new.items ≡ pieces.old.items ++ type_word kind ∷ []) }
-{
-    put_word(type_keyword(kind), pieces)
-}
-
-// Puts the test of a type.
-fn put_type_test<'a>(
-    kind: VariableType,
-    e: &'a Expr<Name>,
-    pieces: &mut Vec<Piece<'a>>,
-) -> Result<(), NoMemory>
-    ensures { OnOk result (pieces.new.items ≡ pieces.old.items ++ type_word kind ∷ in_parentheses (expression e.now)) }
-{
-    put_type(kind, pieces)?;
-    put_sign(Kind::OpenParenthesis, pieces)?;
-    put_expression(e, pieces)?;
-    put_sign(Kind::CloseParenthesis, pieces)
-}
-
 // Puts the ends of the test of an edge, with what stands before them.
-fn put_ends<'a>(
-    source: &'a Name,
-    target: &'a Name,
-    pieces: &mut Vec<Piece<'a>>,
-) -> Result<(), NoMemory>
-    ensures { OnOk result (pieces.new.items ≡ pieces.old.items ++ p.Word words.Edge ∷ p.Sign k.OpenParenthesis ∷ p.Name source.now ∷ p.Sign k.Comma ∷ p.Name target.now ∷ []) }
+fn put_ends<'a>(source: &'a Name, target: &'a Name, sheet: &mut Sheet<'a>)
+    ensures { Puts sheet.old sheet.new (p.Word words.Edge ∷ p.Sign k.OpenParenthesis ∷ p.Name source.now ∷ p.Sign k.Comma ∷ p.Name target.now ∷ []) }
 {
-    put_word(Keyword::Edge, pieces)?;
-    put_sign(Kind::OpenParenthesis, pieces)?;
-    put_name(source, pieces)?;
-    put_sign(Kind::Comma, pieces)?;
-    put_name(target, pieces)
-}
-
-// Puts the test of an edge.
-fn put_edge_test<'a>(
-    source: &'a Name,
-    target: &'a Name,
-    pieces: &mut Vec<Piece<'a>>,
-) -> Result<(), NoMemory>
-    ensures { OnOk result (pieces.new.items ≡ pieces.old.items ++ (edge_test source.now target.now []).pieces) }
-{
-    put_ends(source, target, pieces)?;
-    put_sign(Kind::CloseParenthesis, pieces)
-}
-
-// Puts the test of an edge with this label.
-fn put_edge_test_with<'a>(
-    source: &'a Name,
-    target: &'a Name,
-    e: &'a Expr<Name>,
-    written: &'a Option<Name>,
-    pieces: &mut Vec<Piece<'a>>,
-) -> Result<(), NoMemory>
-    ensures { OnOk result (pieces.new.items ≡ pieces.old.items ++ (edge_test source.now target.now (p.Sign k.Comma ∷ label e.now written.now)).pieces) }
-{
-    put_ends(source, target, pieces)?;
-    put_sign(Kind::Comma, pieces)?;
-    put_label(e, written, pieces)?;
-    put_sign(Kind::CloseParenthesis, pieces)
+    sheet.word(Keyword::Edge);
+    sheet.sign(Kind::OpenParenthesis);
+    sheet.name(source);
+    sheet.sign(Kind::Comma);
+    sheet.name(target);
 }
 
 fn comparison_kind(comparison: Comparison) -> Kind
@@ -125,90 +72,67 @@ fn comparison_kind(comparison: Comparison) -> Kind
     }
 }
 
-// Puts a comparison.
-fn put_comparison<'a>(
-    comparison: Comparison,
-    left: &'a Expr<Name>,
-    right: &'a Expr<Name>,
-    pieces: &mut Vec<Piece<'a>>,
-) -> Result<(), NoMemory>
-    ensures { OnOk result (pieces.new.items ≡ pieces.old.items ++ (expression left.now ++ comparison_sign comparison ∷ expression right.now)) }
-{
-    put_expression(left, pieces)?;
-    put_sign(comparison_kind(comparison), pieces)?;
-    put_expression(right, pieces)
-}
-
 /// Puts a condition.
 #[cycle(condition)]
-pub(crate) fn put_condition<'a>(
-    c: &'a Cond<Name, Option<Name>>,
-    pieces: &mut Vec<Piece<'a>>,
-) -> Result<(), NoMemory>
-    ensures { OnOk result (pieces.new.items ≡ pieces.old.items ++ condition c.now) }
+pub(crate) fn put_condition<'a>(c: &'a Cond<Name, Option<Name>>, sheet: &mut Sheet<'a>)
+    ensures { Puts sheet.old sheet.new (condition c.now) }
 {
     match c {
-        Cond::HasType(kind, e) => put_type_test(*kind, e, pieces),
-        Cond::HasEdge(source, target) => put_edge_test(source, target, pieces),
+        Cond::HasType(kind, e) => {
+            sheet.word(type_keyword(*kind));
+            sheet.sign(Kind::OpenParenthesis);
+            put_expression(e, sheet);
+            sheet.sign(Kind::CloseParenthesis);
+        }
+        Cond::HasEdge(source, target) => {
+            put_ends(source, target, sheet);
+            sheet.sign(Kind::CloseParenthesis);
+        }
         Cond::HasEdgeWith(source, target, e, written) => {
-            put_edge_test_with(source, target, e, written, pieces)
+            put_ends(source, target, sheet);
+            sheet.sign(Kind::Comma);
+            put_label(e, written, sheet);
+            sheet.sign(Kind::CloseParenthesis);
         }
         Cond::Compared(comparison, left, right) => {
-            put_comparison(*comparison, left, right, pieces)
+            put_expression(left, sheet);
+            sheet.sign(comparison_kind(*comparison));
+            put_expression(right, sheet);
         }
-        Cond::Not(part) => put_not(part.get(), pieces),
+        Cond::Not(part) => {
+            let part = part.get();
+            sheet.word(Keyword::Not);
+            put_part(level_of(part) < NOT_LEVEL, part, sheet);
+        }
         Cond::And(first, rest) => {
-            put_chain(
-                Keyword::And,
-                AND_LEVEL,
-                first.get(),
-                rest.as_slice(),
-                pieces,
-            )
+            put_chain(Keyword::And, AND_LEVEL, first.get(), rest.as_slice(), sheet)
         }
         Cond::Or(first, rest) => {
-            put_chain(Keyword::Or, OR_LEVEL, first.get(), rest.as_slice(), pieces)
+            put_chain(Keyword::Or, OR_LEVEL, first.get(), rest.as_slice(), sheet)
         }
     }
 }
 
 // Puts a condition, in parentheses where they are asked for.
 #[cycle(condition)]
-fn put_part<'a>(
-    needed: bool,
-    c: &'a Cond<Name, Option<Name>>,
-    pieces: &mut Vec<Piece<'a>>,
-) -> Result<(), NoMemory>
-    ensures { OnOk result (pieces.new.items ≡ pieces.old.items ++ in_parentheses_if needed (condition c.now)) }
+fn put_part<'a>(needed: bool, c: &'a Cond<Name, Option<Name>>, sheet: &mut Sheet<'a>)
+    ensures { Puts sheet.old sheet.new (in_parentheses_if needed (condition c.now)) }
 {
     if needed {
-        put_sign(Kind::OpenParenthesis, pieces)?;
-        put_condition(c, pieces)?;
-        put_sign(Kind::CloseParenthesis, pieces)
+        sheet.sign(Kind::OpenParenthesis);
+        put_condition(c, sheet);
+        sheet.sign(Kind::CloseParenthesis);
     } else {
-        put_condition(c, pieces)
+        put_condition(c, sheet);
     }
-}
-
-// Puts a `not` and its operand.
-#[cycle(condition)]
-fn put_not<'a>(c: &'a Cond<Name, Option<Name>>, pieces: &mut Vec<Piece<'a>>) -> Result<(), NoMemory>
-    ensures { OnOk result (pieces.new.items ≡ pieces.old.items ++ p.Word words.Not ∷ operand not_level (part_of_condition c.now)) }
-{
-    put_word(Keyword::Not, pieces)?;
-    put_part(level_of(c) < NOT_LEVEL, c, pieces)
 }
 
 // Puts a member of a chain of this level.
 #[cycle(condition)]
-fn put_member<'a>(
-    level: u8,
-    c: &'a Cond<Name, Option<Name>>,
-    pieces: &mut Vec<Piece<'a>>,
-) -> Result<(), NoMemory>
-    ensures { OnOk result (pieces.new.items ≡ pieces.old.items ++ member level (part_of_condition c.now)) }
+fn put_member<'a>(level: u8, c: &'a Cond<Name, Option<Name>>, sheet: &mut Sheet<'a>)
+    ensures { Puts sheet.old sheet.new (member level (part_of_condition c.now)) }
 {
-    put_part(level_of(c) <= level, c, pieces)
+    put_part(level_of(c) <= level, c, sheet);
 }
 
 // Puts a chain of this word and level.
@@ -218,14 +142,13 @@ fn put_chain<'a>(
     level: u8,
     first: &'a Cond<Name, Option<Name>>,
     rest: &'a [Cond<Name, Option<Name>>],
-    pieces: &mut Vec<Piece<'a>>,
-) -> Result<(), NoMemory>
-    ensures { OnOk result (pieces.new.items ≡ pieces.old.items ++ (member level (part_of_condition first.now) ++ flat_map (condition_link word level) rest.now)) }
+    sheet: &mut Sheet<'a>,
+)
+    ensures { Puts sheet.old sheet.new (member level (part_of_condition first.now) ++ flat_map (condition_link word level) rest.now) }
 {
-    put_member(level, first, pieces)?;
+    put_member(level, first, sheet);
     'each: for part in rest {
-        put_word(word, pieces)?;
-        put_member(level, part, pieces)?;
+        sheet.word(word);
+        put_member(level, part, sheet);
     }
-    Ok(())
 }

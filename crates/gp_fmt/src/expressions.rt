@@ -1,16 +1,16 @@
 //! The tokens of expressions and labels.
 
-ghost use Rattle.std.specs.Prelude.{◌≡◌, ◌||◌, nat_lt, [], ◌∷◌, ◌++◌, OnOk};
+ghost use Rattle.std.specs.Prelude.{◌≡◌, ◌||◌, nat_lt, ◌++◌};
 ghost use Rattle.std.specs.List.{flat_map};
 ghost use Rattle.gp_fmt.specs.declared.piece.Piece.TheVariants as p;
-ghost use Rattle.gp_fmt.specs.Expressions.{part_of_expression, expression, in_parentheses_if, member, negated, is_numeral, numeral, applied, minus_level, sum_sign, sum_level, product_sign, product_level, mark, label};
+ghost use Rattle.gp_fmt.specs.Expressions.{part_of_expression, expression, in_parentheses_if, member, is_numeral, numeral, applied, minus_level, sum_sign, sum_level, product_sign, product_level, label};
 ghost use Rattle.gp_fmt.specs.inside.Links.{sum_link, product_link, chain_link};
+ghost use Rattle.gp_fmt.specs.inside.Puts.{Puts};
 
 use crate::piece::Piece;
-use crate::put::{put_name, put_negation, put_number, put_sign, put_string, put_word};
-use gp_memory::NoMemory;
+use crate::sheet::Sheet;
 use gp_syntax::{Expr, Name, ProductSign, Signed, SumSign};
-use gp_tokens::{Keyword, Kind};
+use gp_tokens::{Keyword, Kind, Slice};
 
 const JOIN_LEVEL: u8 = 0;
 
@@ -87,106 +87,77 @@ fn product_kind(sign: ProductSign) -> Kind
     }
 }
 
-// Puts the numeral of a number below 0, by its distance from 0.
-fn put_below_zero(distance: u128, pieces: &mut Vec<Piece<'_>>) -> Result<(), NoMemory>
-    ensures { OnOk result (pieces.new.items ≡ pieces.old.items ++ p.Negation ∷ p.Number distance ∷ []) }
-{
-    put_negation(pieces)?;
-    put_number(distance, pieces)
-}
-
 // Puts a numeral.
-fn put_numeral(value: &i128, pieces: &mut Vec<Piece<'_>>) -> Result<(), NoMemory>
-    ensures { OnOk result (pieces.new.items ≡ pieces.old.items ++ numeral value.now) }
+fn put_numeral(value: &i128, sheet: &mut Sheet<'_>)
+    ensures { Puts sheet.old sheet.new (numeral value.now) }
 {
     if *value >= 0 {
-        put_number(value.unsigned_abs(), pieces)
+        sheet.put(Piece::Number(value.unsigned_abs()));
     } else {
-        put_below_zero(value.unsigned_abs(), pieces)
+        sheet.put(Piece::Negation);
+        sheet.put(Piece::Number(value.unsigned_abs()));
     }
 }
 
 // Puts a word and a name in parentheses behind it.
-fn put_applied<'a>(
-    word: Keyword,
-    name: &'a Name,
-    pieces: &mut Vec<Piece<'a>>,
-) -> Result<(), NoMemory>
-    ensures { OnOk result (pieces.new.items ≡ pieces.old.items ++ (applied word name.now).pieces) }
+fn put_applied<'a>(word: Keyword, name: &'a Name, sheet: &mut Sheet<'a>)
+    ensures { Puts sheet.old sheet.new (applied word name.now).pieces }
 {
-    put_word(word, pieces)?;
-    put_sign(Kind::OpenParenthesis, pieces)?;
-    put_name(name, pieces)?;
-    put_sign(Kind::CloseParenthesis, pieces)
+    sheet.word(word);
+    sheet.sign(Kind::OpenParenthesis);
+    sheet.name(name);
+    sheet.sign(Kind::CloseParenthesis);
 }
 
 /// Puts an expression.
 #[cycle(expression)]
-pub(crate) fn put_expression<'a>(
-    e: &'a Expr<Name>,
-    pieces: &mut Vec<Piece<'a>>,
-) -> Result<(), NoMemory>
-    ensures { OnOk result (pieces.new.items ≡ pieces.old.items ++ expression e.now) }
+pub(crate) fn put_expression<'a>(e: &'a Expr<Name>, sheet: &mut Sheet<'a>)
+    ensures { Puts sheet.old sheet.new (expression e.now) }
 {
     match e {
-        Expr::Number(value) => put_numeral(value, pieces),
-        Expr::Text(characters) => put_string(characters.as_bytes(), pieces),
-        Expr::Variable(name) => put_name(name, pieces),
-        Expr::InDegree(name) => put_applied(Keyword::Indegree, name, pieces),
-        Expr::OutDegree(name) => put_applied(Keyword::Outdegree, name, pieces),
-        Expr::Length(name) => put_applied(Keyword::Length, name, pieces),
-        Expr::Empty => put_word(Keyword::Empty, pieces),
-        Expr::Negated(operand) => put_negated(operand.get(), pieces),
-        Expr::Sum(first, rest) => put_sum(first.get(), rest.as_slice(), pieces),
-        Expr::Product(first, rest) => put_product(first.get(), rest.as_slice(), pieces),
+        Expr::Number(value) => put_numeral(value, sheet),
+        Expr::Text(characters) => sheet.put(Piece::String(Slice::new(characters.as_bytes()))),
+        Expr::Variable(name) => sheet.name(name),
+        Expr::InDegree(name) => put_applied(Keyword::Indegree, name, sheet),
+        Expr::OutDegree(name) => put_applied(Keyword::Outdegree, name, sheet),
+        Expr::Length(name) => put_applied(Keyword::Length, name, sheet),
+        Expr::Empty => sheet.word(Keyword::Empty),
+        Expr::Negated(operand) => {
+            let operand = operand.get();
+            sheet.put(Piece::Negation);
+            put_operand(minus_needs_parentheses(operand), operand, sheet);
+        }
+        Expr::Sum(first, rest) => put_sum(first.get(), rest.as_slice(), sheet),
+        Expr::Product(first, rest) => put_product(first.get(), rest.as_slice(), sheet),
         Expr::Dot(first, rest) => {
-            put_chain(Kind::Dot, DOT_LEVEL, first.get(), rest.as_slice(), pieces)
+            put_chain(Kind::Dot, DOT_LEVEL, first.get(), rest.as_slice(), sheet)
         }
         Expr::Join(first, rest) => {
-            put_chain(
-                Kind::Colon,
-                JOIN_LEVEL,
-                first.get(),
-                rest.as_slice(),
-                pieces,
-            )
+            put_chain(Kind::Colon, JOIN_LEVEL, first.get(), rest.as_slice(), sheet)
         }
     }
 }
 
 // Puts an expression, in parentheses where they are asked for.
 #[cycle(expression)]
-fn put_operand<'a>(
-    needed: bool,
-    e: &'a Expr<Name>,
-    pieces: &mut Vec<Piece<'a>>,
-) -> Result<(), NoMemory>
-    ensures { OnOk result (pieces.new.items ≡ pieces.old.items ++ in_parentheses_if needed (expression e.now)) }
+fn put_operand<'a>(needed: bool, e: &'a Expr<Name>, sheet: &mut Sheet<'a>)
+    ensures { Puts sheet.old sheet.new (in_parentheses_if needed (expression e.now)) }
 {
     if needed {
-        put_sign(Kind::OpenParenthesis, pieces)?;
-        put_expression(e, pieces)?;
-        put_sign(Kind::CloseParenthesis, pieces)
+        sheet.sign(Kind::OpenParenthesis);
+        put_expression(e, sheet);
+        sheet.sign(Kind::CloseParenthesis);
     } else {
-        put_expression(e, pieces)
+        put_expression(e, sheet);
     }
-}
-
-// Puts a minus and its operand.
-#[cycle(expression)]
-fn put_negated<'a>(e: &'a Expr<Name>, pieces: &mut Vec<Piece<'a>>) -> Result<(), NoMemory>
-    ensures { OnOk result (pieces.new.items ≡ pieces.old.items ++ (negated (part_of_expression e.now)).pieces) }
-{
-    put_negation(pieces)?;
-    put_operand(minus_needs_parentheses(e), e, pieces)
 }
 
 // Puts a member of a chain of this level.
 #[cycle(expression)]
-fn put_member<'a>(level: u8, e: &'a Expr<Name>, pieces: &mut Vec<Piece<'a>>) -> Result<(), NoMemory>
-    ensures { OnOk result (pieces.new.items ≡ pieces.old.items ++ member level (part_of_expression e.now)) }
+fn put_member<'a>(level: u8, e: &'a Expr<Name>, sheet: &mut Sheet<'a>)
+    ensures { Puts sheet.old sheet.new (member level (part_of_expression e.now)) }
 {
-    put_operand(level_of(e) <= level, e, pieces)
+    put_operand(level_of(e) <= level, e, sheet);
 }
 
 // Puts a sum.
@@ -194,16 +165,15 @@ fn put_member<'a>(level: u8, e: &'a Expr<Name>, pieces: &mut Vec<Piece<'a>>) -> 
 fn put_sum<'a>(
     first: &'a Expr<Name>,
     rest: &'a [Signed<SumSign, Expr<Name>>],
-    pieces: &mut Vec<Piece<'a>>,
-) -> Result<(), NoMemory>
-    ensures { OnOk result (pieces.new.items ≡ pieces.old.items ++ (member sum_level (part_of_expression first.now) ++ flat_map sum_link rest.now)) }
+    sheet: &mut Sheet<'a>,
+)
+    ensures { Puts sheet.old sheet.new (member sum_level (part_of_expression first.now) ++ flat_map sum_link rest.now) }
 {
-    put_member(SUM_LEVEL, first, pieces)?;
+    put_member(SUM_LEVEL, first, sheet);
     'each: for term in rest {
-        put_sign(sum_kind(term.sign), pieces)?;
-        put_member(SUM_LEVEL, &term.operand, pieces)?;
+        sheet.sign(sum_kind(term.sign));
+        put_member(SUM_LEVEL, &term.operand, sheet);
     }
-    Ok(())
 }
 
 // Puts a product.
@@ -211,16 +181,15 @@ fn put_sum<'a>(
 fn put_product<'a>(
     first: &'a Expr<Name>,
     rest: &'a [Signed<ProductSign, Expr<Name>>],
-    pieces: &mut Vec<Piece<'a>>,
-) -> Result<(), NoMemory>
-    ensures { OnOk result (pieces.new.items ≡ pieces.old.items ++ (member product_level (part_of_expression first.now) ++ flat_map product_link rest.now)) }
+    sheet: &mut Sheet<'a>,
+)
+    ensures { Puts sheet.old sheet.new (member product_level (part_of_expression first.now) ++ flat_map product_link rest.now) }
 {
-    put_member(PRODUCT_LEVEL, first, pieces)?;
+    put_member(PRODUCT_LEVEL, first, sheet);
     'each: for factor in rest {
-        put_sign(product_kind(factor.sign), pieces)?;
-        put_member(PRODUCT_LEVEL, &factor.operand, pieces)?;
+        sheet.sign(product_kind(factor.sign));
+        put_member(PRODUCT_LEVEL, &factor.operand, sheet);
     }
-    Ok(())
 }
 
 // Puts a chain of this sign and level.
@@ -230,39 +199,27 @@ fn put_chain<'a>(
     level: u8,
     first: &'a Expr<Name>,
     rest: &'a [Expr<Name>],
-    pieces: &mut Vec<Piece<'a>>,
-) -> Result<(), NoMemory>
-    ensures { OnOk result (pieces.new.items ≡ pieces.old.items ++ (member level (part_of_expression first.now) ++ flat_map (chain_link sign level) rest.now)) }
+    sheet: &mut Sheet<'a>,
+)
+    ensures { Puts sheet.old sheet.new (member level (part_of_expression first.now) ++ flat_map (chain_link sign level) rest.now) }
 {
-    put_member(level, first, pieces)?;
+    put_member(level, first, sheet);
     'each: for part in rest {
-        put_sign(sign, pieces)?;
-        put_member(level, part, pieces)?;
-    }
-    Ok(())
-}
-
-// Puts the word of a mark, where one is written.
-fn put_mark<'a>(written: &'a Option<Name>, pieces: &mut Vec<Piece<'a>>) -> Result<(), NoMemory>
-    ensures { OnOk result (pieces.new.items ≡ pieces.old.items ++ mark written.now) }
-{
-    match written {
-        None => Ok(()),
-        Some(word) => {
-            put_sign(Kind::Hash, pieces)?;
-            put_name(word, pieces)
-        }
+        sheet.sign(sign);
+        put_member(level, part, sheet);
     }
 }
 
 /// Puts a label.
-pub(crate) fn put_label<'a>(
-    e: &'a Expr<Name>,
-    written: &'a Option<Name>,
-    pieces: &mut Vec<Piece<'a>>,
-) -> Result<(), NoMemory>
-    ensures { OnOk result (pieces.new.items ≡ pieces.old.items ++ label e.now written.now) }
+pub(crate) fn put_label<'a>(e: &'a Expr<Name>, mark: &'a Option<Name>, sheet: &mut Sheet<'a>)
+    ensures { Puts sheet.old sheet.new (label e.now mark.now) }
 {
-    put_expression(e, pieces)?;
-    put_mark(written, pieces)
+    put_expression(e, sheet);
+    match mark {
+        None => {}
+        Some(word) => {
+            sheet.sign(Kind::Hash);
+            sheet.name(word);
+        }
+    }
 }

@@ -2,7 +2,8 @@
 //! tokens but where none stands, and parentheses just where they are needed.
 //!
 //! Call `print_program`: it puts the text of a tree behind what a buffer holds. What the text is `specs/Canonical` says,
-//! over the tokens of `specs/Expressions`, `Commands` and `Rules` and the spaces of `specs/Spaces`.
+//! over the tokens of `specs/Expressions`, `Commands` and `Rules` and the spaces of `specs/Spaces`. What holds of canonical
+//! texts is in `laws`: they are read again, have the same tree, mean the same, and stay.
 #![tactic(auto)]
 
 pub mod laws;
@@ -12,8 +13,8 @@ mod declarations;
 mod expressions;
 mod piece;
 mod print;
-mod put;
 mod rules;
+mod sheet;
 mod write;
 
 pub use piece::Piece;

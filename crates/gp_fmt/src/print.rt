@@ -7,6 +7,7 @@ ghost use Rattle.gp_fmt.specs.Canonical.{declaration, line, canonical_text};
 
 use crate::declarations::put_declaration;
 use crate::piece::Piece;
+use crate::sheet::Sheet;
 use crate::write::{write_spaced, write_text};
 use gp_memory::NoMemory;
 use gp_syntax::{Ast, Decl};
@@ -45,7 +46,7 @@ fn print_line(alloc: Global, d: &Decl, text: &mut Vec<u8>) -> Result<(), NoMemor
 fn pieces_of<'a>(alloc: Global, d: &'a Decl) -> Result<Vec<Piece<'a>>, NoMemory>
     ensures { IfOk result (λ ps. ps.items ≡ declaration d.now) }
 {
-    let mut pieces = Vec::new(alloc);
-    put_declaration(d, &mut pieces)?;
-    Ok(pieces)
+    let mut sheet = Sheet::new(alloc);
+    put_declaration(d, &mut sheet);
+    sheet.into_pieces()
 }

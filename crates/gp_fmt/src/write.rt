@@ -2,9 +2,8 @@
 
 ghost use Rattle.std.specs.Prelude.{◌≡◌, ◌++◌, codes, OnOk, OnErr};
 ghost use Rattle.gp_values.specs.Texts.{IsBegun};
-ghost use Rattle.gp_fmt.specs.declared.piece.Piece.TheVariants as p;
 ghost use Rattle.gp_fmt.specs.Pieces.{sign_text, text_of};
-ghost use Rattle.gp_fmt.specs.Spaces.{joins_next, joins_last, opens, takes_parenthesis, word_takes_parenthesis, joined, gap, spaced_behind, spaced};
+ghost use Rattle.gp_fmt.specs.Spaces.{joins_next, joins_last, opens, takes_parenthesis, joined, gap, spaced_behind, spaced};
 
 use crate::piece::Piece;
 use gp_memory::NoMemory;
@@ -45,44 +44,13 @@ fn sign_text(kind: Kind) -> &'static [u8]
     }
 }
 
-fn sign_joins_next(kind: Kind) -> bool
-    ensures { result ≡ joins_next (p.Sign kind) }
-{
-    match kind {
-        Kind::OpenParenthesis | Kind::OpenBrace | Kind::Colon | Kind::Dot => true,
-        _ => false,
-    }
-}
-
-fn sign_joins_last(kind: Kind) -> bool
-    ensures { result ≡ joins_last (p.Sign kind) }
-{
-    match kind {
-        Kind::CloseParenthesis | Kind::CloseBrace => true,
-        Kind::Comma | Kind::Semicolon | Kind::Exclamation | Kind::Colon | Kind::Dot => true,
-        _ => false,
-    }
-}
-
-fn sign_opens(kind: Kind) -> bool
-    ensures { result ≡ opens (p.Sign kind) }
-{
-    match kind {
-        Kind::OpenParenthesis => true,
-        _ => false,
-    }
-}
-
 fn joins_next(piece: &Piece<'_>) -> bool
     ensures { result ≡ joins_next piece.now }
 {
     match piece {
-        Piece::Sign(kind) => sign_joins_next(*kind),
+        Piece::Sign(Kind::OpenParenthesis | Kind::OpenBrace | Kind::Colon | Kind::Dot) => true,
         Piece::Negation => true,
-        Piece::Word(_) => false,
-        Piece::Name(_) => false,
-        Piece::Number(_) => false,
-        Piece::String(_) => false,
+        _ => false,
     }
 }
 
@@ -90,49 +58,26 @@ fn joins_last(piece: &Piece<'_>) -> bool
     ensures { result ≡ joins_last piece.now }
 {
     match piece {
-        Piece::Sign(kind) => sign_joins_last(*kind),
-        Piece::Negation => false,
-        Piece::Word(_) => false,
-        Piece::Name(_) => false,
-        Piece::Number(_) => false,
-        Piece::String(_) => false,
+        Piece::Sign(Kind::CloseParenthesis | Kind::CloseBrace | Kind::Exclamation) => true,
+        Piece::Sign(Kind::Comma | Kind::Semicolon | Kind::Colon | Kind::Dot) => true,
+        _ => false,
     }
 }
 
 fn opens(piece: &Piece<'_>) -> bool
     ensures { result ≡ opens piece.now }
 {
-    match piece {
-        Piece::Sign(kind) => sign_opens(*kind),
-        Piece::Negation => false,
-        Piece::Word(_) => false,
-        Piece::Name(_) => false,
-        Piece::Number(_) => false,
-        Piece::String(_) => false,
-    }
-}
-
-fn word_takes_parenthesis(word: Keyword) -> bool
-    ensures { result ≡ word_takes_parenthesis word }
-{
-    match word {
-        Keyword::Edge => true,
-        Keyword::Int | Keyword::Char | Keyword::String | Keyword::Atom => true,
-        Keyword::Indegree | Keyword::Outdegree | Keyword::Length => true,
-        _ => false,
-    }
+    matches!(piece, Piece::Sign(Kind::OpenParenthesis))
 }
 
 fn takes_parenthesis(piece: &Piece<'_>) -> bool
     ensures { result ≡ takes_parenthesis piece.now }
 {
     match piece {
-        Piece::Name(_) => true,
-        Piece::Word(word) => word_takes_parenthesis(*word),
-        Piece::Sign(_) => false,
-        Piece::Negation => false,
-        Piece::Number(_) => false,
-        Piece::String(_) => false,
+        Piece::Name(_) | Piece::Word(Keyword::Edge) => true,
+        Piece::Word(Keyword::Int | Keyword::Char | Keyword::String | Keyword::Atom) => true,
+        Piece::Word(Keyword::Indegree | Keyword::Outdegree | Keyword::Length) => true,
+        _ => false,
     }
 }
 

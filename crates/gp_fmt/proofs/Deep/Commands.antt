@@ -25,7 +25,7 @@ use Rattle.gp_fmt.specs.Commands.{level, call, CommandPart, in_branch, in_loop, 
 use Rattle.gp_fmt.proofs.Deep.Roles.{piece_role, keyword_role, roles, roles_append, name_role, loud}
 use Rattle.gp_fmt.proofs.Deep.Quiet.{quiet_comma, quiet_semicolon, quiet_exclamation, quiet_rule_name, quiet_procedure_name, quiet_or, quiet_if, quiet_then, quiet_else, quiet_try, quiet_skip, quiet_fail, quiet_break}
 use Rattle.gp_fmt.proofs.Deep.Texts.{AreSpelled, IsDeeper, then_deeper, dropped_deeper, recast, wrap, wrapped_deeper, unwrapped_deeper, kind_sign, Covers, other_covers, opening_covers, closing_covers, name_covers, seen_covers, either_covers, absent_covers, loud_covers, separated, separated_covers}
-use Rattle.gp_fmt.proofs.Deep.Forms.{of-Call, of-Procedure, of-Seq, of-Either, of-If, of-Try, of-Loop, of-Skip, of-Fail, of-Break}
+use Rattle.gp_fmt.proofs.Forms.{of-Call, of-Procedure, of-Seq, of-Either, of-If, of-Try, of-Loop, of-Skip, of-Fail, of-Break}
 use Rattle.gp_fmt.proofs.Deep.Parts.{IsParted, Parts, member_roles, roles_if, operand_deeper, looser, tight, bracketed, chain_parts}
 
 abbrev pub command_level : CommandTree → ℕ

@@ -28,7 +28,7 @@ use Rattle.gp_fmt.specs.Expressions.{Part, chain, expression, mark as mark_piece
 use Rattle.gp_fmt.proofs.Deep.Roles.{piece_role, roles, roles_append, name_role, loud}
 use Rattle.gp_fmt.proofs.Deep.Quiet.{quiet_hash, quiet_comma, quiet_item, quiet_equal, quiet_not_equal, quiet_less, quiet_less_equal, quiet_greater, quiet_greater_equal, quiet_int, quiet_char, quiet_string, quiet_atom, quiet_edge, quiet_and, quiet_or}
 use Rattle.gp_fmt.proofs.Deep.Texts.{then_deeper, recast, wrap, Covers, other_covers, opening_covers, closing_covers, not_covers, name_covers, word_covers, then_covers, made_covers, seen_covers, either_covers, absent_covers, raised_covers, sign_covers}
-use Rattle.gp_fmt.proofs.Deep.Forms.{of-HasType, of-HasEdge, of-HasEdgeWith, of-Compared, of-Not, of-And, of-Or}
+use Rattle.gp_fmt.proofs.Forms.{of-HasType, of-HasEdge, of-HasEdgeWith, of-Compared, of-Not, of-And, of-Or}
 use Rattle.gp_fmt.proofs.Deep.Parts.{tree_of, IsParted, Parts, roles_if, operand_deeper, tight, bracketed, either_parts, chain_parts}
 use Rattle.gp_fmt.proofs.Deep.Expressions.{expression_roles, list_covers, chain_roles, maps_twice}
 

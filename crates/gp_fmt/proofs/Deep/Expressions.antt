@@ -28,7 +28,7 @@ use Rattle.gp_fmt.proofs.Deep.Under.{minus_under, other_under, both_under, zero_
 use Rattle.gp_fmt.proofs.Deep.Roles.{piece_role, roles, roles_append, name_role}
 use Rattle.gp_fmt.proofs.Deep.Quiet.{quiet_string_sign, quiet_number_sign, quiet_item, quiet_variable, quiet_empty, quiet_indegree, quiet_outdegree, quiet_length, quiet_colon, quiet_dot, quiet_plus, quiet_star, quiet_slash}
 use Rattle.gp_fmt.proofs.Deep.Texts.{AreSpelled, IsDeeper, then_deeper, recast, Covers, other_covers, opening_covers, closing_covers, minus_covers, name_covers, then_covers, made_covers, either_covers, loud_covers, IsSign, minus_sign, other_sign, two_deeper, three_deeper}
-use Rattle.gp_fmt.proofs.Deep.Forms.{operands, of-Number, of-Text, of-Variable, of-InDegree, of-OutDegree, of-Length, of-Empty, of-Negated, of-Sum, of-Product, of-Dot, of-Join}
+use Rattle.gp_fmt.proofs.Forms.{operands, of-Number, of-Text, of-Variable, of-InDegree, of-OutDegree, of-Length, of-Empty, of-Negated, of-Sum, of-Product, of-Dot, of-Join}
 use Rattle.gp_fmt.proofs.Deep.Parts.{tree_of, IsParted, Parts, member_roles, roles_if, needed_deeper, tight, bracketed, chain_parts, Rows, row_rows, rows_parts}
 
 abbrev pub expression_level : Tree → ℕ

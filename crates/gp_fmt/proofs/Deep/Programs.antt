@@ -25,7 +25,7 @@ use Rattle.gp_fmt.specs.Canonical.{declaration, locals as local_pieces, pieces_o
 use Rattle.gp_fmt.proofs.Deep.Roles.{roles, roles_append, name_role}
 use Rattle.gp_fmt.proofs.Deep.Quiet.{quiet_equal, quiet_procedure_name}
 use Rattle.gp_fmt.proofs.Deep.Texts.{IsDeeper, then_deeper, dropped_deeper, recast, wrap, wrapped_deeper, Covers, other_covers, opening_covers, closing_covers, name_covers, then_covers, made_covers, many_covers}
-use Rattle.gp_fmt.proofs.Deep.Forms.{of-Declared, of-Rule}
+use Rattle.gp_fmt.proofs.Forms.{of-Declared, of-Rule}
 use Rattle.gp_fmt.proofs.Deep.Parts.{tree_of, flat_mapped}
 use Rattle.gp_fmt.proofs.Deep.Commands.{command_roles, commands_covers}
 use Rattle.gp_fmt.proofs.Deep.Rules.{roles_flat, rule_covers}

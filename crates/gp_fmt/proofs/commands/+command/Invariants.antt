@@ -1,5 +1,6 @@
 use Rattle.std.proofs.Common.{◌≡◌, ◌+◌, ◌*◌, ◌++◌, take}
 use Rattle.std.specs.List.{flat_map}
+use Rattle.gp_fmt.specs.inside.Puts.{Puts}
 use Rattle.gp_fmt.specs.inside.Links.{sequence_link, choice_link}
 use Rattle.gp_fmt.specs.inside.Sizes.{command_size, command_sizes}
 use Rattle.gp_fmt.proofs.commands.+command.Given as goal
@@ -22,9 +23,6 @@ decreases-put_if l = 4 + 5 * (command_size l.test.now + command_size l.then.now 
 abbrev pub decreases-put_try : goal.decreases-put_try
 decreases-put_try l = 4 + 5 * (command_size l.test.now + command_size l.then.now + command_size l.other.now)
 
-abbrev pub decreases-put_loop : goal.decreases-put_loop
-decreases-put_loop l = 2 + 5 * command_size l.body.now
-
 abbrev pub decreases-put_sequence : goal.decreases-put_sequence
 decreases-put_sequence l = 3 + 5 * (command_size l.first.now + command_sizes l.rest.now)
 
@@ -32,7 +30,7 @@ abbrev pub decreases-put_choice : goal.decreases-put_choice
 decreases-put_choice l = 3 + 5 * (command_size l.first.now + command_sizes l.rest.now)
 
 abbrev pub invariant-put_sequence-each : goal.invariant-put_sequence-each
-invariant-put_sequence-each l = l.pieces.items ≡ l.initial.pieces.items ++ flat_map sequence_link (take l.part-index l.rest)
+invariant-put_sequence-each l = Puts l.initial.sheet l.sheet (flat_map sequence_link (take l.part-index l.rest))
 
 abbrev pub invariant-put_choice-each : goal.invariant-put_choice-each
-invariant-put_choice-each l = l.pieces.items ≡ l.initial.pieces.items ++ flat_map choice_link (take l.part-index l.rest)
+invariant-put_choice-each l = Puts l.initial.sheet l.sheet (flat_map choice_link (take l.part-index l.rest))

@@ -1,7 +1,8 @@
-use Rattle.std.proofs.Common.{◌≡◌, ◌++◌, take}
+use Rattle.std.proofs.Common.{take}
 use Rattle.std.specs.List.{flat_map}
 use Rattle.gp_fmt.specs.Rules.{node}
+use Rattle.gp_fmt.specs.inside.Puts.{Puts}
 use Rattle.gp_fmt.proofs.rules.put_nodes.Given as goal
 
 abbrev pub invariant-each : goal.invariant-each
-invariant-each l = l.pieces.items ≡ l.initial.pieces.items ++ flat_map node (take l.n-index l.nodes)
+invariant-each l = Puts l.initial.sheet l.sheet (flat_map node (take l.n-index l.nodes))
