@@ -20,6 +20,7 @@ pub(crate) struct Sheet<'a> {
 impl<'a> Sheet<'a> {
     ghost use Rattle.gp_fmt.specs.inside.Puts.{Puts};
 
+    /// An empty sheet.
     pub(crate) fn new(alloc: Global) -> Self
         ensures { result.pieces.items ≡ [] }
     {
@@ -29,6 +30,7 @@ impl<'a> Sheet<'a> {
         }
     }
 
+    /// Puts a token.
     pub(crate) fn put(&mut self, piece: Piece<'a>)
         ensures { Puts self.old self.new (piece.entry ∷ []) }
     {
@@ -37,18 +39,21 @@ impl<'a> Sheet<'a> {
         }
     }
 
+    /// Puts a sign.
     pub(crate) fn sign(&mut self, kind: Kind)
         ensures { Puts self.old self.new (p.Sign kind ∷ []) }
     {
         self.put(Piece::Sign(kind));
     }
 
+    /// Puts a word with a meaning of its own.
     pub(crate) fn word(&mut self, word: Keyword)
         ensures { Puts self.old self.new (p.Word word ∷ []) }
     {
         self.put(Piece::Word(word));
     }
 
+    /// Puts a name.
     pub(crate) fn name(&mut self, name: &'a Name)
         ensures { Puts self.old self.new (p.Name name.now ∷ []) }
     {

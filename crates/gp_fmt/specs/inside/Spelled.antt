@@ -7,7 +7,6 @@ use Rattle.gp_tokens.specs.declared.token.Token.{Token}
 use Rattle.gp_tokens.specs.Bytes.{is_digit, is_word_byte, is_string_byte}
 use Rattle.gp_tokens.specs.Numbers.{number_of}
 use Rattle.gp_tokens.specs.Signs.{signs}
-use Rattle.gp_values.specs.Names.{Name}
 use Rattle.gp_fmt.specs.declared.piece.Piece.{Piece}
 use Rattle.gp_fmt.specs.declared.piece.Piece.TheVariants as p
 use Rattle.gp_fmt.specs.Pieces.{sign_text}

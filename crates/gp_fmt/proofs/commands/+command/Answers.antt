@@ -5,7 +5,7 @@ use Rattle.gp_tokens.specs.declared.token.Kind.TheVariants as k
 use Rattle.gp_fmt.specs.declared.piece.Piece.{Piece}
 use Rattle.gp_fmt.specs.declared.piece.Piece.TheVariants as p
 use Rattle.gp_fmt.specs.Expressions.{in_parentheses_if}
-use Rattle.gp_fmt.specs.Commands.{CommandPart, command, part_of_command, called, in_sequence, in_branch, in_choice, in_loop, optional}
+use Rattle.gp_fmt.specs.Commands.{CommandPart, command, part_of_command, called, in_sequence, in_branch, in_choice, optional}
 use Rattle.gp_fmt.specs.inside.Links.{sequence_link, choice_link}
 use Rattle.gp_fmt.specs.inside.Sizes.{command_size, command_sizes}
 use Rattle.gp_fmt.proofs.Forms.{of-Call, of-Procedure, links-Seq, of-If, of-Try, of-Loop, links-Either, of-Skip, of-Fail, of-Break}

@@ -1,5 +1,4 @@
 use Rattle.std.proofs.Common.{take}
-use Rattle.std.specs.List.{flat_map}
 use Rattle.gp_fmt.specs.Commands.{names_behind}
 use Rattle.gp_fmt.specs.inside.Puts.{Puts}
 use Rattle.gp_fmt.proofs.commands.put_names_behind.Given as goal

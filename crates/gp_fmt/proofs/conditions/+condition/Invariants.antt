@@ -1,4 +1,4 @@
-use Rattle.std.proofs.Common.{◌≡◌, ◌+◌, ◌*◌, ◌++◌, take}
+use Rattle.std.proofs.Common.{◌+◌, ◌*◌, take}
 use Rattle.std.specs.List.{flat_map}
 use Rattle.gp_fmt.specs.inside.Puts.{Puts}
 use Rattle.gp_fmt.specs.inside.Links.{condition_link}

@@ -1,6 +1,5 @@
 use Rattle.std.proofs.Common.{◌≡◌, [], ◌∷◌, ◌++◌, refl}
 use Rattle.gp_tokens.specs.declared.token.Kind.TheVariants as k
-use Rattle.gp_tokens.specs.declared.keyword.Keyword.TheVariants as words
 use Rattle.gp_fmt.specs.declared.piece.Piece.TheVariants as p
 use Rattle.std.specs.List.{flat_map}
 use Rattle.gp_fmt.specs.Rules.{node, edge, graph}
