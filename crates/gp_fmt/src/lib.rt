@@ -6,11 +6,11 @@
 //! texts is in `laws`: they are read again, have the same tree, mean the same, and stay.
 #![tactic(auto)]
 
-pub mod laws;
 mod commands;
 mod conditions;
 mod declarations;
 mod expressions;
+pub mod laws;
 mod piece;
 mod print;
 mod rules;

@@ -1,11 +1,14 @@
 //! Programs as text.
 
-ghost use Rattle.std.specs.Prelude.{◌≡◌, ◌++◌, OnOk, OnErr, IfOk};
+ghost use Rattle.std.specs.Prelude.{◌≡◌, ◌++◌, List, ℕ, OnOk, OnErr, IfOk};
 ghost use Rattle.std.specs.List.{flat_map};
 ghost use Rattle.gp_values.specs.Texts.{IsBegun};
+ghost use Rattle.gp_reader.specs.Program.{HasTree};
 ghost use Rattle.gp_fmt.specs.Canonical.{declaration, line, canonical_text};
+ghost use Rattle.gp_fmt.specs.Laws.{IsReadAgain};
 
 use crate::declarations::put_declaration;
+use crate::laws::canonical_texts_are_read;
 use crate::piece::Piece;
 use crate::sheet::Sheet;
 use crate::write::{write_spaced, write_text};
@@ -14,11 +17,13 @@ use gp_syntax::{Ast, Decl};
 use std::alloc::Global;
 
 /// Writes the canonical text of the tree. On refusal `text` holds what it held, and behind it a beginning of the
-/// canonical text.
+/// canonical text. Where the tree is that of a text, what is written is cut into the tree's tokens and is read as the tree.
 pub fn print_program(alloc: Global, ast: &Ast, text: &mut Vec<u8>) -> Result<(), NoMemory>
     ensures ok { OnOk result (text.new.items ≡ text.old.items ++ canonical_text ast.now) }
     ensures err { OnErr result (IsBegun (canonical_text ast.now) text.old.items text.new.items) }
+    ensures read { (bytes : List ℕ) → HasTree bytes ast.now → IsReadAgain ast.now }
 {
+    canonical_texts_are_read();
     print_lines(alloc, ast.declarations.as_slice(), text)
 }
 
