@@ -152,9 +152,9 @@ fn answer_words<F: Files, O: Sink, E: Sink, R: Threads + Wait + Sync>(
 }
 
 /// Runs the program's file on the host's, or a demo, checks a trace and a result, writes a program in its canonical
-/// text, or walks a script over a run, as the words say, and writes what comes of it. The answer is the status of the process. The words are those behind the
-/// program's name, or that memory was refused for them. With two workers or more the call starts threads, and the pace may
-/// hold them; it may wait then.
+/// text, or walks a script over a run, as the words say, and writes what comes of it. The answer is the status of the
+/// process. The words are those behind the program's name, or that memory was refused for them. With two workers or
+/// more the call starts threads, and the pace may hold them; it may wait then.
 pub fn gp2_main<R: AllocGlobal + Threads + Wait + Sync, F: Files, O: Sink, E: Sink>(
     rt: &R,
     words: Result<Vec<String>, NoMemory>,
