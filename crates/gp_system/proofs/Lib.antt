@@ -3,6 +3,7 @@ pub mod Nodes
 pub mod Sessions
 pub mod Runs
 pub mod Systems
+pub mod Batches
 pub mod Pursuits
 pub mod Endings
 pub mod Crews

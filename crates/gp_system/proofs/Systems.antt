@@ -113,7 +113,7 @@ judges r g m w (matched.Faulty k) a = judged_faulty r g m w k a
 judges r g m w matched.No a = judged_neither r g m w a.0 a.1
 judges r g m w matched.NoMemory a = tt
 
-set_at : (sets : List (List ℕ)) (c : ℕ) (x set : List ℕ) → c < length sets → set ≡ slice_index_or sets c x → slice_get sets c ≡ Some set
+pub set_at : (sets : List (List ℕ)) (c : ℕ) (x set : List ℕ) → c < length sets → set ≡ slice_index_or sets c x → slice_get sets c ≡ Some set
 set_at sets c x set l e = slice_get-get_or sets c x l ∙ ap (λ (y : List ℕ). Some y) (sym e)
 
 pub verdict_there : (sets : List (List ℕ)) (rules : List Rule) (c : ℕ) (set : List ℕ) (g : Graph) (m : Found) (r : Rule) (v : match_verdict.Verdict) → slice_get sets c ≡ Some set → has m.rule set ≡ true → slice_get rules m.rule ≡ Some r → IsJudged r g m → Judges v r g m

@@ -1,5 +1,5 @@
 -- What the rules of a program mean as a system: goals are calls of its rule sets.
-use Rattle.std.specs.Prelude.{ℕ, ◌+◌, Bool, false, ◌||◌, nat_eq, if◌then◌else◌, List, [], ◌∷◌, map, length, Option, Some, None, slice_get, refl}
+use Rattle.std.specs.Prelude.{ℕ, ◌+◌, Bool, false, ◌||◌, nat_eq, if◌then◌else◌, List, [], ◌∷◌, map, length, Option, Some, None, slice_get, All, refl}
 use Rattle.std.specs.Option.{option_map_or}
 use Rattle.std.specs.Coded.{Coded, code_by, coded×, coded_ℕ, coded_list}
 use Rattle.opt_system.specs.Meaning.{Meaning, Judged, applies, faulty, neither}
@@ -9,6 +9,9 @@ use Rattle.gp_syntax.specs.contracts.rule.RuleParts.{the_row as rule_row}
 use Rattle.gp_syntax.specs.Rule.{Rule, Found}
 use Rattle.gp_syntax.specs.Share.{share_of}
 use Rattle.gp_syntax.specs.Tree.{rule_of_tree}
+use Rattle.gp_syntax.specs.WellFormed.{IsWellFormed}
+use Rattle.gp_step.specs.Laws.{IsNumbered}
+use Rattle.gp_independence.specs.Laws.{AreIndependent}
 use Rattle.gp_match.specs.Judge.{judged}
 use Rattle.gp_match.specs.Judge as matches
 use Rattle.gp_journal.specs.Trail.{Trail, advanced, undone}
@@ -47,6 +50,13 @@ judged_in (Some set) rules g m = if has m.rule set then judged_by (slice_get rul
 abbrev pub share_in : List Rule → ℕ → Found → ℕ
 share_in rules shares m = option_map_or (λ r. share_of r m shares) (slice_get rules m.rule) 0
 
+-- The matches are independent by the rules of their numbers. The rules are well-formed, and the graph's numbers in use are
+-- below its next ones: so are those of every program and of every graph in memory.
+pub record AreIndependentAt (rules : List Rule) (g : Graph) (m n : Found) : Type 0 where
+  pub well_formed : All IsWellFormed rules
+  pub numbered : IsNumbered g
+  pub independent : AreIndependent rules g m n
+
 abbrev pub gp_means : RuleSystem → Meaning Trail Found CallGoal Fault
 gp_means s = record {
   judged = λ goal at m. judged_in (slice_get s.sets goal.call) (rules_of s) at.graph m;
@@ -56,6 +66,7 @@ gp_means s = record {
   shares = λ goal. s.further + 1;
   share = λ goal m. share_in (rules_of s) (s.further + 1) m;
   mode = λ goal. goal.mode;
+  independent = λ at m n. AreIndependentAt (rules_of s) at.graph m n;
 }
 
 -- how it is stored in a value that contracts see

@@ -1,5 +1,5 @@
 -- What Cells mean.
-use Rattle.std.specs.Prelude.{ℕ, ◌%◌, ◌∷◌, List, Bool, false, cond, length, slice_index_or, slice_set}
+use Rattle.std.specs.Prelude.{◌≢◌, ℕ, ◌%◌, ◌∷◌, List, Bool, false, cond, length, slice_index_or, slice_set}
 use Rattle.opt_system.specs.declared.answers.Sought.{Sought}
 use Rattle.opt_system.specs.declared.answers.Sought.TheVariants as sought
 use Rattle.opt_cells.specs.declared.cells_goal.CellsGoal.{CellsGoal}
@@ -14,6 +14,7 @@ judged_in cells p = cond (slice_index_or cells p false) applies neither
 abbrev pub after_of : Row → ℕ → Row
 after_of r p = row (slice_set r.cells p false) (p ∷ r.taken)
 
+-- matches are independent where their places differ
 abbrev pub cells_means : Meaning Row ℕ CellsGoal Never
 cells_means = record {
   judged = λ goal at p. judged_in at.cells p;
@@ -23,6 +24,7 @@ cells_means = record {
   shares = λ goal. goal.shares;
   share = λ goal p. p % goal.shares;
   mode = λ goal. goal.mode;
+  independent = λ at p q. p ≢ q;
 }
 
 -- the search gives the least place of the share that applies, and takes no memory

@@ -1,5 +1,5 @@
 -- A small system with faulty matches, for tests. A state is the number of steps made. Before the first step number 0
--- applies, and every other number is faulty with itself as the reason; after it nothing applies.
+-- applies, and every other number is faulty with itself as the reason; after it nothing applies. So no two are independent.
 use Rattle.std.specs.Prelude.{ℕ, ◌==◌, ◌+◌, ◌-◌, cond}
 use Rattle.opt_system.specs.Meaning.{Meaning, applies, faulty, neither}
 use Rattle.opt_system.specs.declared.answers.Mode.TheVariants.{Saturate}
@@ -13,4 +13,5 @@ traps_means = record {
   shares = λ goal. 1;
   share = λ goal f. 0;
   mode = λ goal. Saturate;
+  independent = λ at f h. ⊥;
 }

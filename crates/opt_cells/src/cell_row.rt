@@ -36,6 +36,13 @@ impl CellRow {
         }
     }
 
+    /// How many places it has.
+    pub fn len(&self) -> usize
+        ensures { result ≡ length self.now.cells }
+    {
+        self.cells.len()
+    }
+
     /// Whether the place is in the row and true.
     pub fn is_true(&self, place: usize) -> bool
         ensures { result ≡ slice_index_or self.now.cells place false }

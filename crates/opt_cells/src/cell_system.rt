@@ -56,6 +56,27 @@ impl System for Cells {
         }
     }
 
+    /// The places of the share from 0 on.
+    fn more(
+        &self,
+        goal: CellsGoal,
+        share: u32,
+        at: &CellRow,
+        held: &mut Vec<usize>,
+        limit: u32,
+    ) -> Result<(), NoMemory> {
+        for place in 0..at.len() {
+            if held.len() >= limit as usize {
+                return Ok(());
+            }
+            let is_of_share = place % goal.shares as usize == share as usize;
+            if is_of_share && at.is_true(place) && !held.contains(&place) {
+                held.push(place)?;
+            }
+        }
+        Ok(())
+    }
+
     fn shares(&self, goal: CellsGoal) -> u32 {
         goal.shares
     }

@@ -2,6 +2,7 @@
 
 ghost use Rattle.std.proofs.Common.{rules};
 ghost use Rattle.opt_cells.specs.Traps.{traps_means};
+ghost use Rattle.opt_cells.specs.inside.Traps.{traps_follow};
 
 use gp_memory::NoMemory;
 use opt_system::{Mode, Sought, System, Verdict};
@@ -54,6 +55,18 @@ impl System for Traps {
         }
     }
 
+    /// None: no other match is independent of the one that is held.
+    fn more(
+        &self,
+        _goal: (),
+        _share: u32,
+        _at: &u64,
+        _held: &mut Vec<u64>,
+        _limit: u32,
+    ) -> Result<(), NoMemory> {
+        Ok(())
+    }
+
     fn shares(&self, _goal: ()) -> u32 {
         1
     }
@@ -71,5 +84,7 @@ impl System for Traps {
       undoes = λ goal at f e. Prim.search rules;
       some_share = λ goal. Prim.search rules;
       all_shares = λ goal f. Prim.search rules;
+      other_way = λ at f h both. both;
+      follows = traps_follow;
     } };
 }

@@ -6,16 +6,19 @@ use Rattle.opt_system.specs.Meaning.{Meaning, applies, undone_by, IsLawful}
 use Rattle.opt_core.specs.declared.event.Ending.{Ending}
 use Rattle.opt_core.specs.declared.event.Reply.{Reply}
 use Rattle.opt_core.specs.declared.event.Reply.TheVariants as reply
+use Rattle.opt_core.specs.declared.event.Rest.{Rest}
+use Rattle.opt_core.specs.declared.event.Rest.TheVariants as rest
 use Rattle.opt_core.specs.declared.event.Event.TheVariants as event
 use Rattle.opt_core.specs.Core.{Core, Legal, reached, AllApply, IsEnding}
-use Rattle.opt_core.specs.Steps.{AnswersWith, IsFresh}
-use Rattle.opt_core.specs.Runs.{Answered, Each, commits, commits_of, matches_of, SameStart, Run, IsSound, at_end, IsLateStep, EveryRunIsSound, EveryRunFromStart, BaseIsBack, LateOffersAreSteps}
+use Rattle.opt_core.specs.Steps.{MayCome, AnswersWith, IsFresh}
+use Rattle.opt_core.specs.Runs.{Answered, Each, commits, commits_of, matches_of, SameStart, Run, IsSound, at_end, IsLateStep, EveryRunIsSound, EveryRunFromStart, BaseIsBack, LateOffersAreSteps, ToldBatchesAreNotStale}
 use Rattle.opt_core.proofs.Legal.{none_open, used_none, reached_snoc}
+use Rattle.opt_core.proofs.Batches.{committed_closed, not_stale}
 use Rattle.opt_core.proofs.Events.{EventDoes, event_does}
 
 module _ {Found Reason : Type 0} where
-  committed_closed : {place : ℕ} {x : Ending Reason} → ◌≡◌ {A = Reply Found Reason} (reply.Committed place) (reply.Closed x) → ⊥
-  committed_closed e = cc
+  batched_closed : {p n : ℕ} {r : Option (Rest Reason)} {x : Ending Reason} → ◌≡◌ {A = Reply Found Reason} (reply.Batched p n r) (reply.Closed x) → ⊥
+  batched_closed e = cc
 
 module _ {State Found Goal Reason : Type 0} (m : Meaning State Found Goal Reason) where
   -- taking back commutes with taking back
@@ -106,6 +109,11 @@ module _ {System State Found Goal Reason : Type 0} (m : Meaning State Found Goal
     state_is = ap (λ (y : Core System State Found Goal Reason). at_end m y) h.3 ∙ reached_snoc m c.base c.entries f;
   }
 
+  told_by : (o : Option (Ending Reason)) → IsLawful m → (c d : Core System State Found Goal Reason) (told p n k : ℕ) (fs : List Found) → Legal m c → told ≡ length c.entries → MayCome m c (event.Batch told fs)
+      → AnswersWith m o c (event.Batch told fs) (reply.Batched p n (Some (rest.Stale k))) d → ⊥
+  told_by (Some x) lawful c d told p n k fs l all may h = batched_closed h.0
+  told_by None lawful c d told p n k fs l all may h = not_stale m lawful c h.1.3 d told k fs h.1.0 h.1.2 h.1.1 l all may.3 h.1.4 h.1.6 h.1.7
+
 module _ (System : Type 0) {State Found Goal Reason : Type 0} (m : Meaning State Found Goal Reason) where
   pub every_run : IsLawful m → EveryRunIsSound System m
   every_run lawful c d es l run = sound m lawful c d es l run
@@ -120,3 +128,6 @@ module _ (System : Type 0) {State Found Goal Reason : Type 0} (m : Meaning State
 
   pub late_steps : LateOffersAreSteps System m
   late_steps c d told place f l may h = late m c.ending c d told place f l may.0 h
+
+  pub not_stale_told : IsLawful m → ToldBatchesAreNotStale System m
+  not_stale_told lawful c d told p n k fs l all may h = told_by m c.ending lawful c d told p n k fs l all may h

@@ -1,15 +1,17 @@
 -- Lists of events, and what their answers say. An event names no sender: whoever sends it was told of some number of
 -- entries, and any number of senders may have been told of any numbers.
-use Rattle.std.specs.Prelude.{◌≡◌, ◌≢◌, ℕ, ◌^◌, ◌<◌, ◌≤◌, ◌⊎◌, List, [], ◌∷◌, ◌++◌, Some, None, length, drop}
+use Rattle.std.specs.Prelude.{◌≡◌, ◌≢◌, ℕ, ◌+◌, ◌^◌, ◌<◌, ◌≤◌, ◌⊎◌, List, [], ◌∷◌, ◌++◌, Option, Some, None, length, take, drop}
 use Rattle.opt_system.specs.Meaning.{Meaning, applies, faulty, Barren, undone_by}
 use Rattle.opt_system.specs.declared.answers.Mode.TheVariants.{Once}
 use Rattle.opt_core.specs.declared.event.Ending.{Ending}
 use Rattle.opt_core.specs.declared.event.Ending.TheVariants as ending
 use Rattle.opt_core.specs.declared.event.Reply.{Reply}
 use Rattle.opt_core.specs.declared.event.Reply.TheVariants as reply
+use Rattle.opt_core.specs.declared.event.Rest.{Rest}
+use Rattle.opt_core.specs.declared.event.Rest.TheVariants as rest
 use Rattle.opt_core.specs.declared.event.Event.{Event}
 use Rattle.opt_core.specs.declared.event.Event.TheVariants as event
-use Rattle.opt_core.specs.Core.{Core, Legal, IsEnding, reached}
+use Rattle.opt_core.specs.Core.{Core, Legal, AllApply, IsEnding, reached}
 use Rattle.opt_core.specs.Steps.{MayCome, Answers, IsFresh, with_quiet}
 
 -- one event with its answer, and the cores before and after it
@@ -20,17 +22,24 @@ pub record Answered (System State Found Goal Reason : Type 0) : Type 0 where
   pub after : Core System State Found Goal Reason
 
 module _ {Found : Type 0} where
-  -- the events whose answer may be want of memory
+  -- the events that may be answered by want of memory; a batch tells it in its rest
   abbrev pub MayWant : Event Found → Type 0
   MayWant (event.Look told from) = Unit {0}
   MayWant (event.Offer told f) = Unit {0}
+  MayWant (event.Batch told fs) = ⊥
   MayWant (event.Fault told f) = Unit {0}
   MayWant (event.Quiet told share) = ⊥
   MayWant event.Stop = ⊥
 
-  -- the commit of an event and its answer, with its place: an offer that was answered Committed
+  -- the entries with their places, the first at this one
+  abbrev pub placed_from : ℕ → List Found → List (ℕ × Found)
+  placed_from place [] = []
+  placed_from place (f ∷ fs) = (place, f) ∷ placed_from (place + 1) fs
+
+  -- the commits of an event and its answer, with their places: an offer that was answered Committed, and so many of a batch
   abbrev pub commits_of : {Reason : Type 0} → Event Found → Reply Found Reason → List (ℕ × Found)
   commits_of (event.Offer told f) (reply.Committed place) = (place, f) ∷ []
+  commits_of (event.Batch told fs) (reply.Batched place n rest) = placed_from place (take n fs)
   commits_of e r = []
 
   -- commits without their places
@@ -80,9 +89,22 @@ module _ {System State Found Goal Reason : Type 0} (m : Meaning State Found Goal
   abbrev pub IsOutdated : Core System State Found Goal Reason → Event Found → ℕ → Type 0
   IsOutdated c (event.Look told from) n = ⊥
   IsOutdated c (event.Offer told f) n = (told < n) × (m.judged c.goal (at_end c) f ≢ applies)
+  IsOutdated c (event.Batch told fs) n = ⊥
   IsOutdated c (event.Fault told f) n = (told < n) × ((r : Reason) → m.judged c.goal (at_end c) f ≢ faulty r)
   IsOutdated c (event.Quiet told share) n = told < n
   IsOutdated c event.Stop n = ⊥
+
+  -- what the rest of a batch says, where n of its matches were committed
+  abbrev pub SaysRest : Core System State Found Goal Reason → ℕ → List Found → ℕ → Option (Rest Reason) → Core System State Found Goal Reason → Type 0
+  -- none: all were
+  SaysRest c told fs n None d = n ≡ length fs
+  -- Stale(k): there are k entries, the next match does not apply after them, and the sender was not told of all that there
+  -- were before the batch
+  SaysRest c told fs n (Some (rest.Stale k)) d = (told < length c.entries) × (k ≡ length d.entries)
+      × ((f : Found) × (after : List Found) × (drop n fs ≡ f ∷ after) × (m.judged c.goal (at_end d) f ≢ applies))
+  -- Closed(x): the ending x stands and is true of all entries; it is not Stopped
+  SaysRest c told fs n (Some (rest.Closed x)) d = (n < length fs) × (d.ending ≡ Some x) × IsEnding m d.goal (at_end d) d.entries d.quiet d.given d.left (Some x) × (x ≢ ending.Stopped)
+  SaysRest c told fs n (Some rest.NoMemory) d = n < length fs
 
   -- what an answer says of the entries before and after its event
   abbrev pub Says : Core System State Found Goal Reason → Event Found → Reply Found Reason → Core System State Found Goal Reason → Type 0
@@ -91,6 +113,9 @@ module _ {System State Found Goal Reason : Type 0} (m : Meaning State Found Goal
   -- Committed(p): the offered match applies at the p entries, and is entry p
   Says c e (reply.Committed p) d = (told : ℕ) × (f : Found) × (e ≡ event.Offer told f) × (p ≡ length c.entries)
       × (m.judged c.goal (at_end c) f ≡ applies) × (d.entries ≡ c.entries ++ f ∷ [])
+  -- Batched(p, n, rest): the first n matches of the batch apply one after another at the p entries, and are the next entries
+  Says c e (reply.Batched p n r) d = (told : ℕ) × (fs : List Found) × (e ≡ event.Batch told fs) × (p ≡ length c.entries)
+      × AllApply m c.goal (at_end c) (take n fs) × (d.entries ≡ c.entries ++ take n fs) × SaysRest c told fs n r d
   -- Stale(n): there are n entries, and the sender was told of fewer
   Says c e (reply.Stale n) d = (n ≡ length c.entries) × IsOutdated c e n × (d ≡ c)
   -- Noted: the sender was told of all entries, and the share is barren at them
@@ -145,3 +170,8 @@ module _ (System : Type 0) {State Found Goal Reason : Type 0} (m : Meaning State
   abbrev pub LateOffersAreSteps : Type 0
   LateOffersAreSteps = (c d : Core System State Found Goal Reason) (told place : ℕ) (f : Found) → Legal m c
       → MayCome m c (event.Offer told f) → Answers m c (event.Offer told f) (reply.Committed place) d → IsLateStep m c told place f d
+
+  -- where the entries are just those that its sender was told of, the rest of a batch is never Stale
+  abbrev pub ToldBatchesAreNotStale : Type 0
+  ToldBatchesAreNotStale = (c d : Core System State Found Goal Reason) (told p n k : ℕ) (fs : List Found) → Legal m c → told ≡ length c.entries
+      → MayCome m c (event.Batch told fs) → Answers m c (event.Batch told fs) (reply.Batched p n (Some (rest.Stale k))) d → ⊥

@@ -1,4 +1,4 @@
-//! Entries that are handed out.
+//! Entries that are handed out, and matches that are handed in.
 
 ghost use Rattle.std.specs.Prelude.{◌≡◌, [], ◌∷◌, ◌++◌, OnOk, OnErr};
 
@@ -28,6 +28,20 @@ impl<F> Entries<F> {
         Entries {
             items: Vec::new(alloc),
         }
+    }
+
+    /// These matches, in order. It takes no memory.
+    pub fn from_vec(items: Vec<F>) -> Entries<F>
+        ensures { result ≡ items.items }
+    {
+        Entries { items }
+    }
+
+    /// The matches, in order. It takes no memory.
+    pub fn into_vec(self) -> Vec<F>
+        ensures { result.items ≡ self }
+    {
+        self.items
     }
 
     /// The matches, in order.

@@ -1,7 +1,7 @@
 //! What holds of every list of events. Each function does nothing: its contract is the law, over the definitions
 //! that `Core::start` and `Core::step` cite.
 
-ghost use Rattle.opt_core.specs.Runs.{EveryRunIsSound, EveryRunFromStart, BaseIsBack, LateOffersAreSteps};
+ghost use Rattle.opt_core.specs.Runs.{EveryRunIsSound, EveryRunFromStart, BaseIsBack, LateOffersAreSteps, ToldBatchesAreNotStale};
 
 use opt_system::System;
 
@@ -20,4 +20,10 @@ pub fn base_is_the_state_taken_back<S: System>()
 /// A commit is a step from the state that the entries before it reach, however few of them its search saw.
 pub fn a_late_offer_commits_a_step<S: System>()
     ensures { (s : S) → LateOffersAreSteps S (S.means s) }
+{}
+
+/// Where the entries are just those that its sender was told of, no match of a batch is answered that it does not apply any
+/// more: independent matches apply after one another.
+pub fn a_told_batch_is_not_stale<S: System>()
+    ensures { (s : S) → ToldBatchesAreNotStale S (S.means s) }
 {}

@@ -4,10 +4,11 @@ ghost use Rattle.std.specs.Prelude.{◌≡◌, ◌≤◌, ◌<◌, None, length,
 ghost use Rattle.opt_system.specs.Meaning.{Barren, applies, faulty};
 ghost use Rattle.opt_core.specs.Core.{Legal, at_first};
 ghost use Rattle.opt_core.specs.Runs.{SameStart};
-ghost use Rattle.opt_core.specs.Steps.{MayCome, Answers, AnswersLook, AnswersOffer, AnswersFault, AnswersQuiet, AnswersStop, IsFresh, left_after, ending_after};
+ghost use Rattle.opt_core.specs.Steps.{MayCome, Answers, AnswersLook, AnswersOffer, AnswersBatch, AnswersFault, AnswersQuiet, AnswersStop, IsFresh, left_after, ending_after};
+ghost use Rattle.opt_core.specs.inside.Offers.{IsOffered, AllAppliedAt};
 
 use crate::entries::Entries;
-use crate::event::{Ending, Event, Reply};
+use crate::event::{Ending, Event, Reply, Rest};
 use crate::shares::{are_all_quiet, empty, task_from};
 use gp_memory::NoMemory;
 use opt_system::{Mode, System, Verdict};
@@ -84,6 +85,7 @@ impl<S: System> Core<S> {
         let reply = match event {
             Event::Look { told, from } => self.look(s, told, from),
             Event::Offer { told, found } => self.offer(s, told, found),
+            Event::Batch { told, founds } => self.batch(s, told, founds),
             Event::Fault { told, found } => self.fault(s, told, &found),
             Event::Quiet { told, share } => self.quieten(told, share),
             Event::Stop => self.stop(),
@@ -177,6 +179,41 @@ impl<S: System> Core<S> {
             }
             _ => Reply::Stale(self.entries.len() as u64),
         }
+    }
+
+    // One match of a batch: nothing where it is committed, else what it is answered.
+    fn offer_next(&mut self, s: &S, told: u64, found: S::Found) -> Option<Rest<S::Reason>>
+        requires system { s.now ≡ self.old.system }
+        requires told { told ≤ length self.old.entries }
+        requires applied { (S.means s.now).judged self.old.goal (at_first (S.means s.now) self.old told) found ≡ applies }
+        ensures { IsOffered (S.means s.now) self.old told found result self.new }
+    {
+        if let Some(ending) = self.ending {
+            return Some(Rest::Closed(ending));
+        }
+        match self.offer(s, told, found) {
+            Reply::Committed(_) => None,
+            Reply::Stale(count) => Some(Rest::Stale(count)),
+            Reply::Closed(ending) => Some(Rest::Closed(ending)),
+            Reply::NoMemory => Some(Rest::NoMemory),
+            Reply::News { .. } | Reply::Batched(..) | Reply::Noted => unreachable!(),
+        }
+    }
+
+    fn batch(&mut self, s: &S, told: u64, founds: Entries<S::Found>) -> Reply<S::Found, S::Reason>
+        requires system { s.now ≡ self.old.system }
+        requires told { told ≤ length self.old.entries }
+        requires applied { AllAppliedAt (S.means s.now) self.old told founds }
+        ensures answers { AnswersBatch (S.means s.now) self.old told founds result self.new }
+        ensures start { SameStart self.old self.new }
+    {
+        let place = self.entries.len() as u64;
+        for found in founds.into_vec() {
+            if let Some(rest) = self.offer_next(s, told, found) {
+                return Reply::Batched(place, self.entries.len() as u64 - place, Some(rest));
+            }
+        }
+        Reply::Batched(place, self.entries.len() as u64 - place, None)
     }
 
     fn fault(&mut self, s: &S, told: u64, found: &S::Found) -> Reply<S::Found, S::Reason>

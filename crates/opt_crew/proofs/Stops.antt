@@ -16,6 +16,7 @@ use Rattle.opt_crew.specs.Events.{HasStop, CameByEvents}
 is_stop : {Found : Type 0} (e : Event Found) → 0 < stops_of e → e ≡ event.Stop
 is_stop (event.Look told from) some = absurd (omega arith)
 is_stop (event.Offer told f) some = absurd (omega arith)
+is_stop (event.Batch told fs) some = absurd (omega arith)
 is_stop (event.Fault told f) some = absurd (omega arith)
 is_stop (event.Quiet told share) some = absurd (omega arith)
 is_stop event.Stop some = refl

@@ -57,6 +57,7 @@ none_out = []
 stop_count : {Found : Type 0} (e : Event Found) → (if is_stop e then 1 else 0) ≡ stops_of e
 stop_count (event.Look told from) = refl
 stop_count (event.Offer told f) = refl
+stop_count (event.Batch told fs) = refl
 stop_count (event.Fault told f) = refl
 stop_count (event.Quiet told j) = refl
 stop_count event.Stop = refl

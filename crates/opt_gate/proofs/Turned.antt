@@ -3,7 +3,8 @@ use Rattle.std.proofs.Common.{◌≡◌, ℕ, ◌+◌, ◌≤◌, ◌<◌, List,
 use Rattle.std.proofs.lemmas.List.{length-append, length-drop, take-append-le, take-append-drop, take_all, append-nil}
 use Rattle.atomic_table.specs.Table.{Me}
 use Rattle.atomic_table.specs.Seated.{TableId}
-use Rattle.opt_system.specs.Meaning.{Meaning, IsLawful, applies, faulty, Barren}
+use Rattle.opt_system.specs.declared.answers.Mode.TheVariants.{Saturate}
+use Rattle.opt_system.specs.Meaning.{Meaning, IsLawful, applies, faulty, Barren, AllIndependent}
 use Rattle.opt_core.specs.declared.event.Ending.{Ending}
 use Rattle.opt_core.specs.declared.event.Event.{Event}
 use Rattle.opt_core.specs.declared.event.Event.TheVariants as event
@@ -12,7 +13,7 @@ use Rattle.opt_core.specs.declared.event.Reply.TheVariants as reply
 use Rattle.opt_core.specs.Core.{Core, Legal, AllApply, reached, at_first}
 use Rattle.opt_core.specs.Steps.{Answers, AnswersWith, MayCome}
 use Rattle.opt_core.specs.Runs.{SameStart, Says, commits_of, matches_of}
-use Rattle.opt_core.proofs.Events.{event_does}
+use Rattle.opt_core.proofs.Events.{event_does, placed_matches}
 use Rattle.opt_gate.specs.declared.ask.Ask.{Ask}
 use Rattle.opt_gate.specs.declared.ask.Ask.TheVariants as ask
 use Rattle.opt_gate.specs.declared.key.Key.{Key}
@@ -48,6 +49,7 @@ module _ {Found Reason : Type 0} where
   told_fits told n (reply.Committed place) le = le
   told_fits told n (reply.Stale k) le = le
   told_fits told n reply.Noted le = le
+  told_fits told n (reply.Batched p k r) le = le
   told_fits told n (reply.Closed x) le = le
   told_fits told n reply.NoMemory le = le
 
@@ -67,6 +69,7 @@ module _ {System State Found Goal Reason : Type 0} (m : Meaning State Found Goal
     comes : (p : PassView (Key (Core System State Found Goal Reason)) Found Reason) (a : Ask Found) → p.told ≡ told → p.knows ≡ knows → MayAsk m start p a → MayCome m c (event_of told a)
     comes p (ask.Look from) is_told is_known may = told_le
     comes p (ask.Offer f) is_told is_known may = (told_le, moved (λ goal at. m.judged goal at f ≡ applies) (rw (is_told, is_known) at may))
+    comes p (ask.Batch fs) is_told is_known may = (told_le, subst (λ (goal : Goal). m.mode goal ≡ Saturate) (sym same.goal) may.0, may.1, moved (λ goal at. AllIndependent m goal at fs) (rw (is_told, is_known) at may.2))
     comes p (ask.Fault f) is_told is_known may = (told_le, (may.0, moved (λ goal at. m.judged goal at f ≡ faulty may.0) (rw (is_told, is_known) at may.1)))
     comes p (ask.Quiet share) is_told is_known may = (told_le, subst (λ (goal : Goal). share < m.shares goal) (sym same.goal) may.0, moved (λ goal at. Barren m goal share at) (rw (is_told, is_known) at may.1))
     comes p ask.Stop is_told is_known may = tt
@@ -81,6 +84,7 @@ module _ {System State Found Goal Reason : Type 0} (m : Meaning State Found Goal
     news None (ask.Look from) es task h =
         let a = ap (λ (l : List Found). length l) h.0 in let b = length-drop told c.entries in let e = ap (λ (x : Core System State Found Goal Reason). length x.entries) h.2 in omega arith
     news None (ask.Offer f) es task h = absurd h
+    news None (ask.Batch fs) es task h = absurd h
     news None (ask.Fault f) es task h = absurd h
     news None (ask.Quiet share) es task h = absurd h
     news None ask.Stop es task h = absurd h
@@ -90,6 +94,7 @@ module _ {System State Found Goal Reason : Type 0} (m : Meaning State Found Goal
     handed a (reply.Committed place) h = refl
     handed a (reply.Stale n) h = refl
     handed a reply.Noted h = refl
+    handed a (reply.Batched p n r) h = refl
     handed a (reply.Closed x) h = refl
     handed a reply.NoMemory h = refl
 
@@ -99,8 +104,16 @@ module _ {System State Found Goal Reason : Type 0} (m : Meaning State Found Goal
   placed c d (event.Offer told f) (reply.News es task) s = refl
   placed c d (event.Offer told f) (reply.Stale n) s = refl
   placed c d (event.Offer told f) reply.Noted s = refl
+  placed c d (event.Offer told f) (reply.Batched p n r) s = refl
   placed c d (event.Offer told f) (reply.Closed x) s = refl
   placed c d (event.Offer told f) reply.NoMemory s = refl
+  placed c d (event.Batch told fs) (reply.Batched p n r) s = ap (λ (gs : List Found). placed_from (length c.entries) gs) (placed_matches p (take n fs)) ∙ ap (λ (k : ℕ). placed_from k (take n fs)) (sym s.3)
+  placed c d (event.Batch told fs) (reply.News es task) s = refl
+  placed c d (event.Batch told fs) (reply.Committed place) s = refl
+  placed c d (event.Batch told fs) (reply.Stale n) s = refl
+  placed c d (event.Batch told fs) reply.Noted s = refl
+  placed c d (event.Batch told fs) (reply.Closed x) s = refl
+  placed c d (event.Batch told fs) reply.NoMemory s = refl
   placed c d (event.Look told from) r s = refl
   placed c d (event.Fault told f) r s = refl
   placed c d (event.Quiet told share) r s = refl
@@ -123,6 +136,7 @@ module _ {System State Found Goal Reason : Type 0} (m : Meaning State Found Goal
         ap (λ (x : Core System State Found Goal Reason). take (told + length es) x.entries) h.2
         ∙ (take_all (told + length es) c.entries all ∙ (sym (take-append-drop told c.entries) ∙ ap (λ (l : List Found). take told c.entries ++ l) (sym h.0)))
     all_told None (ask.Offer f) es task h = absurd h
+    all_told None (ask.Batch fs) es task h = absurd h
     all_told None (ask.Fault f) es task h = absurd h
     all_told None (ask.Quiet share) es task h = absurd h
     all_told None ask.Stop es task h = absurd h
@@ -135,6 +149,7 @@ module _ {System State Found Goal Reason : Type 0} (m : Meaning State Found Goal
     told_more a (reply.Committed place) s h = same_told s
     told_more a (reply.Stale n) s h = same_told s
     told_more a reply.Noted s h = same_told s
+    told_more a (reply.Batched p n r) s h = same_told s
     told_more a (reply.Closed x) s h = same_told s
     told_more a reply.NoMemory s h = same_told s
 

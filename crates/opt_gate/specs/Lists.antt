@@ -1,13 +1,10 @@
 -- Lists of entries, and entries with their places.
-use Rattle.std.specs.Prelude.{◌≡◌, ℕ, ◌+◌, List, [], ◌∷◌, ◌++◌, Option, Some, None, cond, ◌==◌, nat_le, nat_lt, length}
+use Rattle.std.specs.Prelude.{◌≡◌, ℕ, ◌+◌, List, [], ◌∷◌, Option, Some, None, cond, ◌==◌, nat_le, nat_lt, length}
 use mathlib.Core.Option.{some}
 use lib.ListN.{get_elem?}
+pub use Rattle.opt_system.specs.Batch.{StartsWith}
 
 module _ {A : Type 0} where
-  -- the list begins with these
-  abbrev pub StartsWith : List A → List A → Type 0
-  StartsWith list seen = (rest : List A) × (list ≡ seen ++ rest)
-
   -- each entry is in the list at its place
   abbrev pub AllAt : List A → List (ℕ × A) → Type 0
   AllAt list [] = Unit {0}

@@ -1,6 +1,7 @@
 -- One turn of a pass.
 use Rattle.std.specs.Prelude.{◌≡◌, ℕ, ◌+◌, ◌<◌, List, [], ◌++◌, Option, Some, length, take}
-use Rattle.opt_system.specs.Meaning.{Meaning, applies, faulty, Barren}
+use Rattle.opt_system.specs.declared.answers.Mode.TheVariants.{Saturate}
+use Rattle.opt_system.specs.Meaning.{Meaning, applies, faulty, Barren, AllIndependent}
 use Rattle.opt_core.specs.declared.event.Ending.{Ending}
 use Rattle.opt_core.specs.declared.event.Event.{Event}
 use Rattle.opt_core.specs.declared.event.Event.TheVariants as event
@@ -20,6 +21,7 @@ module _ {Found : Type 0} where
   abbrev pub event_of : ℕ → Ask Found → Event Found
   event_of told (ask.Look from) = event.Look told from
   event_of told (ask.Offer f) = event.Offer told f
+  event_of told (ask.Batch fs) = event.Batch told fs
   event_of told (ask.Fault f) = event.Fault told f
   event_of told (ask.Quiet share) = event.Quiet told share
   event_of told ask.Stop = event.Stop
@@ -28,6 +30,7 @@ module _ {Found : Type 0} where
   abbrev pub stops_of : Event Found → ℕ
   stops_of (event.Look told from) = 0
   stops_of (event.Offer told f) = 0
+  stops_of (event.Batch told fs) = 0
   stops_of (event.Fault told f) = 0
   stops_of (event.Quiet told share) = 0
   stops_of event.Stop = 1
@@ -67,6 +70,7 @@ module _ {System State Found Goal Reason : Type 0} (m : Meaning State Found Goal
   abbrev pub MayAsk : Core System State Found Goal Reason → PassView (Key (Core System State Found Goal Reason)) Found Reason → Ask Found → Type 0
   MayAsk start p (ask.Look from) = Unit {0}
   MayAsk start p (ask.Offer f) = m.judged start.goal (reached m start.base (entries_told p)) f ≡ applies
+  MayAsk start p (ask.Batch fs) = (m.mode start.goal ≡ Saturate) × (0 < length fs) × AllIndependent m start.goal (reached m start.base (entries_told p)) fs
   MayAsk start p (ask.Fault f) = (r : Reason) × (m.judged start.goal (reached m start.base (entries_told p)) f ≡ faulty r)
   MayAsk start p (ask.Quiet share) = (share < m.shares start.goal) × Barren m start.goal share (reached m start.base (entries_told p))
   MayAsk start p ask.Stop = Unit {0}

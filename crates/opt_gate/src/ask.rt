@@ -3,7 +3,7 @@
 ghost use Rattle.std.specs.Prelude.{◌≡◌};
 ghost use Rattle.opt_gate.specs.Turn.{event_of};
 
-use opt_core::Event;
+use opt_core::{Entries, Event};
 
 /// An event without the number of entries that its sender was told of: the pass knows it.
 #[derive(Drop)]
@@ -12,6 +12,8 @@ pub enum Ask<F> {
     Look { from: u32 },
     /// A match that applied at the entries that the pass was told.
     Offer { found: F },
+    /// Some matches for a goal whose matches are taken until none is left: each applied there, and any two were independent.
+    Batch { founds: Entries<F> },
     /// A match that was faulty there.
     Fault { found: F },
     /// A share that was barren there.
@@ -28,6 +30,7 @@ impl<F> Ask<F> {
         match self {
             Ask::Look { from } => Event::Look { told, from },
             Ask::Offer { found } => Event::Offer { told, found },
+            Ask::Batch { founds } => Event::Batch { told, founds },
             Ask::Fault { found } => Event::Fault { told, found },
             Ask::Quiet { share } => Event::Quiet { told, share },
             Ask::Stop => Event::Stop,

@@ -1,5 +1,5 @@
 -- What a system means: plain data over its states, matches, goals and reasons.
-use Rattle.std.specs.Prelude.{◌≡◌, ℕ, zero, suc, ◌+◌, ◌<◌}
+use Rattle.std.specs.Prelude.{◌≡◌, ℕ, zero, suc, ◌+◌, ◌<◌, List, [], ◌∷◌, All, AllPairs}
 use Rattle.opt_system.specs.declared.answers.Mode.{Mode}
 
 -- what a match is for a goal in a state
@@ -8,7 +8,7 @@ pub data Judged (Reason : Type 0) : Type 0 where
   faulty : Reason → Judged Reason
   neither : Judged Reason
 
-pub record Meaning (State Found Goal Reason : Type 0) : Type 0 where
+pub record Meaning (State Found Goal Reason : Type 0) : Type 1 where
   pub judged : Goal → State → Found → Judged Reason
   -- the state after the step of a match
   pub after : State → Found → State
@@ -21,6 +21,8 @@ pub record Meaning (State Found Goal Reason : Type 0) : Type 0 where
   -- the share that a match is in
   pub share : Goal → Found → ℕ
   pub mode : Goal → Mode
+  -- two matches of which neither step takes away or changes what the other one needs
+  pub independent : State → Found → Found → Type 0
 
 module _ {State Found Goal Reason : Type 0} (m : Meaning State Found Goal Reason) where
   -- no match of the share applies or is faulty
@@ -32,6 +34,16 @@ module _ {State Found Goal Reason : Type 0} (m : Meaning State Found Goal Reason
   undone_by zero at = at
   undone_by (suc k) at = undone_by k (m.undone at)
 
+  -- the state after the steps of these matches, one after another
+  abbrev pub reached : State → List Found → State
+  reached at [] = at
+  reached at (f ∷ fs) = reached (m.after at f) fs
+
+  -- all of these matches apply, and any two of them are independent
+  pub record AllIndependent (goal : Goal) (at : State) (fs : List Found) : Type 0 where
+    pub each_applies : All (λ f. m.judged goal at f ≡ applies) fs
+    pub pairwise : AllPairs (m.independent at) fs
+
   -- the laws of a system
   pub record IsLawful : Type 0 where
     -- a step makes the state one deeper
@@ -42,3 +54,7 @@ module _ {State Found Goal Reason : Type 0} (m : Meaning State Found Goal Reason
     pub some_share : (goal : Goal) → 0 < m.shares goal
     -- all shares together hold all matches
     pub all_shares : (goal : Goal) (f : Found) → m.share goal f < m.shares goal
+    -- independence goes both ways
+    pub other_way : (at : State) (f h : Found) → m.independent at f h → m.independent at h f
+    -- of independent matches each applies after any others of them, made in any order
+    pub follows : (goal : Goal) (at : State) (f : Found) (fs : List Found) → AllIndependent goal at (f ∷ fs) → m.judged goal (reached at fs) f ≡ applies

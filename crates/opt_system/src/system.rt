@@ -3,14 +3,15 @@
 ghost use Rattle.std.specs.Prelude.{◌≡◌, ◌<◌, ◌≤◌, OnOk, OnErr, IfOk};
 ghost use Rattle.opt_system.specs.Meaning.{Meaning, IsLawful, applies, undone_by};
 ghost use Rattle.opt_system.specs.Answers.{IsVerdictOf, IsSoughtIn};
+ghost use Rattle.opt_system.specs.Batch.{AreHeld, IsFull, StartsWith};
 
 use crate::answers::{Mode, Sought, Verdict};
 use gp_memory::NoMemory;
 
 /// A system of states, in which matches of goals apply.
 ///
-/// Its meaning is plain data: what a match is in a state, the state after a step and with a step taken back, and the
-/// shares of a goal. Each call answers by it.
+/// Its meaning is plain data: what a match is in a state, the state after a step and with a step taken back, the shares of
+/// a goal, and which matches are independent. Each call answers by it.
 pub trait System {
     /// What steps change. It keeps what taking steps back needs.
     type State: Drop;
@@ -52,6 +53,21 @@ pub trait System {
     ) -> Sought<Self::Found, Self::Reason>
         requires { share < (means self.now).shares goal }
         ensures { IsSoughtIn (means self.now) goal share at.now result };
+
+    /// Further matches of this share, behind those that are held: all apply in this state, and any two are independent. It
+    /// stops where `limit` are held, or where no further one fits. Refused memory may leave some of them.
+    fn more(
+        &self,
+        goal: Self::Goal,
+        share: u32,
+        at: &Self::State,
+        held: &mut Vec<Self::Found>,
+        limit: u32,
+    ) -> Result<(), NoMemory>
+        requires { AreHeld (means self.now) goal share at.now limit held.old.items }
+        ensures held { AreHeld (means self.now) goal share at.now limit held.new.items }
+        ensures first { StartsWith held.new.items held.old.items }
+        ensures full { OnOk result (IsFull (means self.now) goal share at.now limit held.new.items) };
 
     /// The number of the goal's shares, at least 1.
     fn shares(&self, goal: Self::Goal) -> u32

@@ -21,6 +21,7 @@ module _ {Found : Type 0} where
   abbrev pub is_stop : Event Found → Bool
   is_stop (event.Look told from) = false
   is_stop (event.Offer told f) = false
+  is_stop (event.Batch told fs) = false
   is_stop (event.Fault told f) = false
   is_stop (event.Quiet told share) = false
   is_stop event.Stop = true

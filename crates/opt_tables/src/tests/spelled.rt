@@ -4,7 +4,7 @@ use super::answers::Answer;
 use gp_syntax::{Found, NumberKind};
 use gp_system::{Fault, Gp};
 use opt_cells::{Cells, Never, Traps};
-use opt_core::{Core, Ending, Event, Reply};
+use opt_core::{Core, Ending, Event, Reply, Rest};
 use opt_system::{System, Verdict};
 use std::alloc::Global;
 
@@ -148,6 +148,22 @@ pub(crate) fn put_verdict<S: Spelled>(verdict: &Verdict<S::Reason>, told: &mut A
     }
 }
 
+// Writes why a batch was not committed whole, if it was not.
+fn put_rest<S: Spelled>(rest: Option<&Rest<S::Reason>>, told: &mut Answer) {
+    match rest {
+        None => {}
+        Some(Rest::Stale(count)) => {
+            told.put(" stale ");
+            told.put_number(*count);
+        }
+        Some(Rest::Closed(ending)) => {
+            told.put(" closed ");
+            put_ending::<S>(Some(ending), told);
+        }
+        Some(Rest::NoMemory) => told.put(" no memory"),
+    }
+}
+
 /// Writes an answer.
 pub(crate) fn put_reply<S: Spelled>(reply: &Reply<S::Found, S::Reason>, told: &mut Answer) {
     match reply {
@@ -160,6 +176,13 @@ pub(crate) fn put_reply<S: Spelled>(reply: &Reply<S::Found, S::Reason>, told: &m
         Reply::Committed(place) => {
             told.put("committed ");
             told.put_number(*place);
+        }
+        Reply::Batched(place, count, rest) => {
+            told.put("batched ");
+            told.put_number(*place);
+            told.put(" ");
+            told.put_number(*count);
+            put_rest::<S>(rest.as_ref(), told);
         }
         Reply::Stale(count) => {
             told.put("stale ");

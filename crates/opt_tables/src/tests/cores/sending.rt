@@ -17,6 +17,7 @@ fn told_of<F>(event: &Event<F>) -> u64
     match event {
         Event::Look { told, from: _ } => *told,
         Event::Offer { told, found: _ } => *told,
+        Event::Batch { told, founds: _ } => *told,
         Event::Fault { told, found: _ } => *told,
         Event::Quiet { told, share: _ } => *told,
         Event::Stop => 0,
@@ -36,6 +37,8 @@ fn may_come<S: System>(s: &S, core: &Core<S>, at: &S::State, event: &Event<S::Fo
         Event::Quiet { told: _, share } => {
             *share < s.shares(goal) && matches!(s.seek(goal, *share, at), Sought::Barren)
         }
+        // Whether its matches are independent cannot be asked.
+        Event::Batch { told: _, founds: _ } => false,
         Event::Look { told: _, from: _ } => true,
         Event::Stop => true,
     }
@@ -101,6 +104,10 @@ pub(crate) fn send<S: System>(
     }
     Some(match event {
         Event::Offer { told, found } => offer(s, core, at, count, told, found),
+        Event::Batch { told, founds } => {
+            *count = None;
+            core.step(s, Event::Batch { told, founds })
+        }
         Event::Look { told, from } => core.step(s, Event::Look { told, from }),
         Event::Fault { told, found } => core.step(s, Event::Fault { told, found }),
         Event::Quiet { told, share } => core.step(s, Event::Quiet { told, share }),

@@ -1,0 +1,3 @@
+-- What bodies and proofs need.
+pub mod Gathered
+pub mod Visiting
