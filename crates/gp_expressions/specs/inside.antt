@@ -1,3 +1,4 @@
 pub mod Chains
 pub mod Joints
+pub mod Leaves
 pub mod Rows

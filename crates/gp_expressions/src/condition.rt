@@ -4,9 +4,8 @@ ghost use Rattle.std.specs.Prelude.{◌≡◌, MatchResult};
 ghost use Rattle.gp_grammar.specs.Cursor.{Reads};
 ghost use Rattle.gp_grammar.specs.Reading.{reader_of};
 ghost use Rattle.gp_syntax.specs.declared.expression.Cond.TheVariants as c;
-ghost use Rattle.gp_grammar.specs.Signs.{comma};
 ghost use Rattle.gp_expressions.specs.Ranges.{with, chained};
-ghost use Rattle.gp_expressions.specs.Expressions.{list, behind};
+ghost use Rattle.gp_expressions.specs.Expressions.{list};
 ghost use Rattle.gp_expressions.specs.inside.Chains.{tree_of};
 ghost use Rattle.gp_expressions.specs.inside.Joints.{joined};
 ghost use Rattle.gp_expressions.specs.Conditions as spec;
@@ -98,8 +97,10 @@ fn read_comparison(tokens: &mut Tokens<'_, '_>) -> Result<Comparison, ReadError>
     if tokens.eat(Want::Kind(Kind::Greater)) {
         return Ok(Comparison::Greater);
     }
-    tokens.expect(Want::Kind(Kind::GreaterEqual))?;
-    Ok(Comparison::GreaterEqual)
+    if tokens.eat(Want::Kind(Kind::GreaterEqual)) {
+        return Ok(Comparison::GreaterEqual);
+    }
+    Err(tokens.refusal())
 }
 
 // "(" List ")", behind a type
@@ -111,21 +112,17 @@ fn read_typed(
 ) -> Result<Ranged<CondTree>, ReadError>
     ensures { Reads (reader_of (spec.typed (list lists) variable_type) tokens.old) result tokens.new }
 {
-    tokens.expect(OPEN)?;
+    if !tokens.eat(OPEN) {
+        return Err(tokens.refusal());
+    }
     let list = read_list(tokens, lists)?;
-    tokens.expect(CLOSE)?;
+    if !tokens.eat(CLOSE) {
+        return Err(tokens.refusal());
+    }
     Ok(Ranged {
         tree: Cond::HasType(variable_type, list.tree),
         past: list.past,
     })
-}
-
-// "," Label
-fn read_further_label(tokens: &mut Tokens<'_, '_>, lists: u64) -> Result<LabelTree, ReadError>
-    ensures { Reads (reader_of (behind comma (spec.label (list lists))) tokens.old) result tokens.new }
-{
-    tokens.expect(COMMA)?;
-    read_label(tokens, lists)
 }
 
 // ["," Label]
@@ -133,11 +130,11 @@ fn read_further_label(tokens: &mut Tokens<'_, '_>, lists: u64) -> Result<LabelTr
 fn read_edge_label(tokens: &mut Tokens<'_, '_>, lists: u64) -> Result<Option<LabelTree>, ReadError>
     ensures { Reads (reader_of (spec.edge_label (list lists)) tokens.old) result tokens.new }
 {
-    if tokens.begins(COMMA) {
-        let label = read_further_label(tokens, lists)?;
-        return Ok(Some(label));
+    if !tokens.eat(COMMA) {
+        return Ok(None);
     }
-    Ok(None)
+    let label = read_label(tokens, lists)?;
+    Ok(Some(label))
 }
 
 fn joined_by(source: Name, target: Name, label: Option<LabelTree>) -> Ranged<CondTree>
@@ -157,14 +154,19 @@ fn joined_by(source: Name, target: Name, label: Option<LabelTree>) -> Ranged<Con
 fn read_edge_test(tokens: &mut Tokens<'_, '_>, lists: u64) -> Result<Ranged<CondTree>, ReadError>
     ensures { Reads (reader_of (spec.edge_test (list lists)) tokens.old) result tokens.new }
 {
-    tokens.expect(EDGE)?;
-    tokens.expect(OPEN)?;
+    if !tokens.eat(EDGE) || !tokens.eat(OPEN) {
+        return Err(tokens.refusal());
+    }
     let source = read_name(tokens, Want::Item)?;
-    tokens.expect(COMMA)?;
+    if !tokens.eat(COMMA) {
+        return Err(tokens.refusal());
+    }
     let target = read_name(tokens, Want::Item)?;
     let label = read_edge_label(tokens, lists)?;
     let test = joined_by(source, target, label);
-    tokens.expect(CLOSE)?;
+    if !tokens.eat(CLOSE) {
+        return Err(tokens.refusal());
+    }
     Ok(test)
 }
 
@@ -346,9 +348,13 @@ fn read_negated(
         return denied(tokens.alloc(), part);
     }
     if condition_ahead(tokens.left()) {
-        tokens.expect(OPEN)?;
+        if !tokens.eat(OPEN) {
+            return Err(tokens.refusal());
+        }
         let condition = read_condition(tokens, lists, room)?;
-        tokens.expect(CLOSE)?;
+        if !tokens.eat(CLOSE) {
+            return Err(tokens.refusal());
+        }
         return Ok(condition);
     }
     read_test(tokens, lists)

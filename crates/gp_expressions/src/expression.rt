@@ -10,6 +10,7 @@ ghost use Rattle.gp_syntax.specs.declared.expression.ProductSign.TheVariants as 
 ghost use Rattle.gp_expressions.specs.Expressions as spec;
 ghost use Rattle.gp_expressions.specs.Ranges.{with, all_joined, chained};
 ghost use Rattle.gp_expressions.specs.inside.Chains.{tree_of};
+ghost use Rattle.gp_expressions.specs.inside.Leaves.{functions};
 ghost use Rattle.gp_expressions.specs.inside.Rows.{signed_row};
 
 use crate::chain::{Links, linked};
@@ -223,13 +224,33 @@ pub fn read_name(tokens: &mut Tokens<'_, '_>, want: Want) -> Result<Name, ReadEr
 fn read_argument(tokens: &mut Tokens<'_, '_>, want: Want) -> Result<Name, ReadError>
     ensures { Reads (reader_of (spec.argument want) tokens.old) result tokens.new }
 {
-    tokens.expect(OPEN)?;
+    if !tokens.eat(OPEN) {
+        return Err(tokens.refusal());
+    }
     let name = read_name(tokens, want)?;
-    tokens.expect(CLOSE)?;
+    if !tokens.eat(CLOSE) {
+        return Err(tokens.refusal());
+    }
     Ok(name)
 }
 
-// String | Var | "empty" | ("indeg" | "outdeg") "(" Item ")" | "length" "(" Var ")"
+// ("indeg" | "outdeg") "(" Item ")" | "length" "(" Var ")"
+fn read_function(tokens: &mut Tokens<'_, '_>) -> Result<Ranged<Expr<Name>>, ReadError>
+    ensures { Reads (reader_of functions tokens.old) result tokens.new }
+{
+    if tokens.eat(Want::Keyword(Keyword::Indegree)) {
+        return Ok(whole(Expr::InDegree(read_argument(tokens, Want::Item)?)));
+    }
+    if tokens.eat(Want::Keyword(Keyword::Outdegree)) {
+        return Ok(whole(Expr::OutDegree(read_argument(tokens, Want::Item)?)));
+    }
+    if !tokens.eat(Want::Keyword(Keyword::Length)) {
+        return Err(tokens.refusal());
+    }
+    Ok(whole(Expr::Length(read_argument(tokens, Want::Variable)?)))
+}
+
+// String | Var | "empty", or a function of a name
 #[tactic(auto, unfolding(crate::specs::Expressions::leaf))]
 fn read_leaf(tokens: &mut Tokens<'_, '_>) -> Result<Ranged<Expr<Name>>, ReadError>
     ensures { Reads (reader_of spec.leaf tokens.old) result tokens.new }
@@ -243,14 +264,7 @@ fn read_leaf(tokens: &mut Tokens<'_, '_>) -> Result<Ranged<Expr<Name>>, ReadErro
     if tokens.eat(Want::Keyword(Keyword::Empty)) {
         return Ok(whole(Expr::Empty));
     }
-    if tokens.eat(Want::Keyword(Keyword::Indegree)) {
-        return Ok(whole(Expr::InDegree(read_argument(tokens, Want::Item)?)));
-    }
-    if tokens.eat(Want::Keyword(Keyword::Outdegree)) {
-        return Ok(whole(Expr::OutDegree(read_argument(tokens, Want::Item)?)));
-    }
-    tokens.expect(Want::Keyword(Keyword::Length))?;
-    Ok(whole(Expr::Length(read_argument(tokens, Want::Variable)?)))
+    read_function(tokens)
 }
 
 // A number, with this sign before it.
@@ -287,7 +301,9 @@ fn read_nested(tokens: &mut Tokens<'_, '_>, room: u64) -> Result<Ranged<Expr<Nam
     }
     if tokens.eat(OPEN) {
         let list = read_list(tokens, room)?;
-        tokens.expect(CLOSE)?;
+        if !tokens.eat(CLOSE) {
+            return Err(tokens.refusal());
+        }
         return Ok(list);
     }
     read_leaf(tokens)

@@ -28,7 +28,7 @@ fn read_row<
     C: Copy,
     T: Drop,
     U: Drop,
-    F: Copy + Fn(&mut Tokens<'_, '_>, C) -> Result<T, ReadError>,
+    F: Copy + FnOnce(&mut Tokens<'_, '_>, C) -> Result<T, ReadError>,
     G: Copy + FnOnce(Global, Vec<T>) -> Result<U, ReadError>,
 >(tokens: &mut Tokens<'_, '_>, row: Row<C, F, G>) -> Result<U, ReadError>
     requires reads { (ts : _) → F.pre row.read ts row.inside }
@@ -45,7 +45,7 @@ pub(crate) fn read_rows<
     C: Copy,
     T: Drop,
     U: Drop,
-    F: Copy + Fn(&mut Tokens<'_, '_>, C) -> Result<T, ReadError>,
+    F: Copy + FnOnce(&mut Tokens<'_, '_>, C) -> Result<T, ReadError>,
     G: Copy + FnOnce(Global, Vec<T>) -> Result<U, ReadError>,
 >(tokens: &mut Tokens<'_, '_>, sign: Want, row: Row<C, F, G>) -> Result<Vec<U>, ReadError>
     requires reads { (ts : _) → F.pre row.read ts row.inside }

@@ -10,12 +10,12 @@ use crate::error::ReadError;
 use crate::want::Want;
 
 /// As many as there are, each of which begins with the token that is wanted.
-pub fn repeated_by<'t, C: Copy, T: Drop, F: Fn(&mut Tokens<'_, 't>, C) -> Result<T, ReadError>>(
-    tokens: &mut Tokens<'_, 't>,
-    want: Want,
-    inside: C,
-    read: F,
-) -> Result<Vec<T>, ReadError>
+pub fn repeated_by<
+    't,
+    C: Copy,
+    T: Drop,
+    F: Copy + FnOnce(&mut Tokens<'_, 't>, C) -> Result<T, ReadError>,
+>(tokens: &mut Tokens<'_, 't>, want: Want, inside: C, read: F) -> Result<Vec<T>, ReadError>
     requires { (ts : _) → F.pre read ts inside }
     ensures { (one : List Token → Option (T × List Token)) → IsReading (F.post read) inside one → ReadsAs (λ v. v.items) (spec.repeated want one tokens.old) result tokens.new }
 {
@@ -30,12 +30,12 @@ pub fn repeated_by<'t, C: Copy, T: Drop, F: Fn(&mut Tokens<'_, 't>, C) -> Result
 }
 
 /// One, and another behind each sign.
-pub fn separated_by<'t, C: Copy, T: Drop, F: Fn(&mut Tokens<'_, 't>, C) -> Result<T, ReadError>>(
-    tokens: &mut Tokens<'_, 't>,
-    sign: Want,
-    inside: C,
-    read: F,
-) -> Result<Vec<T>, ReadError>
+pub fn separated_by<
+    't,
+    C: Copy,
+    T: Drop,
+    F: Copy + FnOnce(&mut Tokens<'_, 't>, C) -> Result<T, ReadError>,
+>(tokens: &mut Tokens<'_, 't>, sign: Want, inside: C, read: F) -> Result<Vec<T>, ReadError>
     requires { (ts : _) → F.pre read ts inside }
     ensures { (one : List Token → Option (T × List Token)) → IsReading (F.post read) inside one → ReadsAs (λ v. v.items) (spec.separated sign one tokens.old) result tokens.new }
 {

@@ -5,3 +5,4 @@ pub mod Calls
 pub mod EdgeParts
 pub mod Groups
 pub mod Names
+pub mod Passing

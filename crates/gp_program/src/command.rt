@@ -109,7 +109,9 @@ fn read_call(tokens: &mut Tokens<'_, '_>) -> Result<CommandTree, ReadError>
 {
     if tokens.eat(Want::Kind(Kind::OpenBrace)) {
         let names = read_names(tokens, Want::RuleName)?;
-        tokens.expect(Want::Kind(Kind::CloseBrace))?;
+        if !tokens.eat(Want::Kind(Kind::CloseBrace)) {
+            return Err(tokens.refusal());
+        }
         return Ok(CommandTree::Call(names));
     }
     if tokens.begins(Want::RuleName) {
@@ -128,7 +130,9 @@ fn read_repeatable(tokens: &mut Tokens<'_, '_>, room: u64) -> Result<CommandTree
 {
     if tokens.eat(OPEN) {
         let inner = read_commands(tokens, room)?;
-        tokens.expect(CLOSE)?;
+        if !tokens.eat(CLOSE) {
+            return Err(tokens.refusal());
+        }
         return Ok(inner);
     }
     read_call(tokens)
@@ -180,8 +184,10 @@ fn read_block(tokens: &mut Tokens<'_, '_>, room: u64) -> Result<CommandTree, Rea
 fn read_then(tokens: &mut Tokens<'_, '_>, room: u64) -> Result<CommandTree, ReadError>
     ensures { Reads (reader_of (behind then_word (spec.block (spec.simple room))) tokens.old) result tokens.new }
 {
-    tokens.expect(THEN)?;
-    read_block(tokens, room)
+    if tokens.eat(THEN) {
+        return read_block(tokens, room);
+    }
+    Err(tokens.refusal())
 }
 
 // [word Block]

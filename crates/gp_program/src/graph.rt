@@ -6,6 +6,7 @@ ghost use Rattle.gp_grammar.specs.Reading.{reader_of};
 ghost use Rattle.gp_expressions.specs.Expressions.{list};
 ghost use Rattle.gp_program.specs.Rules as spec;
 ghost use Rattle.gp_program.specs.inside.EdgeParts.{edge_ends};
+ghost use Rattle.gp_program.specs.inside.Passing.{Passes};
 
 use gp_expressions::{Ranged, gather, read_label, read_name};
 use gp_grammar::{ReadError, Tokens, Want, repeated_by, stands_before};
@@ -28,40 +29,31 @@ const LESS: Want = Want::Kind(Kind::Less);
 
 // Coord = ["-"] Number ["." Number]
 #[tactic(auto, unfolding(crate::specs::Rules::coord))]
-fn pass_coord(tokens: &mut Tokens<'_, '_>) -> Result<(), ReadError>
-    ensures { Reads (reader_of spec.coord tokens.old) result tokens.new }
+fn passes_coord(tokens: &mut Tokens<'_, '_>) -> bool
+    ensures { Passes (reader_of spec.coord tokens.old) result tokens.new }
 {
     tokens.eat(Want::Kind(Kind::Minus));
-    tokens.expect(NUMBER)?;
-    if tokens.eat(Want::Kind(Kind::Dot)) {
-        tokens.expect(NUMBER)?;
-    }
-    Ok(())
+    tokens.eat(NUMBER) && (!tokens.eat(Want::Kind(Kind::Dot)) || tokens.eat(NUMBER))
 }
 
 // Position = "<" Coord "," Coord ">"
 #[tactic(auto, unfolding(crate::specs::Rules::position))]
-fn pass_position(tokens: &mut Tokens<'_, '_>) -> Result<(), ReadError>
-    ensures { Reads (reader_of spec.position tokens.old) result tokens.new }
+fn passes_position(tokens: &mut Tokens<'_, '_>) -> bool
+    ensures { Passes (reader_of spec.position tokens.old) result tokens.new }
 {
-    tokens.expect(LESS)?;
-    pass_coord(tokens)?;
-    tokens.expect(COMMA)?;
-    pass_coord(tokens)?;
-    tokens.expect(Want::Kind(Kind::Greater))?;
-    Ok(())
+    tokens.eat(LESS)
+        && passes_coord(tokens)
+        && tokens.eat(COMMA)
+        && passes_coord(tokens)
+        && tokens.eat(Want::Kind(Kind::Greater))
 }
 
 // [Position]
 #[tactic(auto, unfolding(crate::specs::Rules::place))]
-fn pass_place(tokens: &mut Tokens<'_, '_>) -> Result<(), ReadError>
-    ensures { Reads (reader_of spec.place tokens.old) result tokens.new }
+fn passes_place(tokens: &mut Tokens<'_, '_>) -> bool
+    ensures { Passes (reader_of spec.place tokens.old) result tokens.new }
 {
-    let placed = tokens.begins(LESS);
-    if placed {
-        pass_position(tokens)?;
-    }
-    Ok(())
+    !tokens.begins(LESS) || passes_position(tokens)
 }
 
 // ["(" word ")"]
@@ -69,12 +61,13 @@ fn pass_place(tokens: &mut Tokens<'_, '_>) -> Result<(), ReadError>
 fn read_flag(tokens: &mut Tokens<'_, '_>, word: Want) -> Result<bool, ReadError>
     ensures { Reads (reader_of (spec.flag word) tokens.old) result tokens.new }
 {
-    let flagged = tokens.eat(OPEN);
-    if flagged {
-        tokens.expect(word)?;
-        tokens.expect(CLOSE)?;
+    if !tokens.eat(OPEN) {
+        return Ok(false);
     }
-    Ok(flagged)
+    if tokens.eat(word) && tokens.eat(CLOSE) {
+        return Ok(true);
+    }
+    Err(tokens.refusal())
 }
 
 // Node = "(" Item ["(" "R" ")"] "," Label [Position] ")"
@@ -82,13 +75,18 @@ fn read_flag(tokens: &mut Tokens<'_, '_>, word: Want) -> Result<bool, ReadError>
 fn read_node(tokens: &mut Tokens<'_, '_>, lists: u64) -> Result<Ranged<NodeDecl>, ReadError>
     ensures { Reads (reader_of (spec.node (list lists)) tokens.old) result tokens.new }
 {
-    tokens.expect(OPEN)?;
+    if !tokens.eat(OPEN) {
+        return Err(tokens.refusal());
+    }
     let name = read_name(tokens, Want::Item)?;
     let root = read_flag(tokens, Want::Keyword(Keyword::Root))?;
-    tokens.expect(COMMA)?;
+    if !tokens.eat(COMMA) {
+        return Err(tokens.refusal());
+    }
     let (label, mark) = read_label(tokens, lists)?;
-    pass_place(tokens)?;
-    tokens.expect(CLOSE)?;
+    if !passes_place(tokens) || !tokens.eat(CLOSE) {
+        return Err(tokens.refusal());
+    }
     Ok(Ranged {
         tree: NodeDecl {
             name,
@@ -111,11 +109,17 @@ fn read_ends(
     ensures { Reads (reader_of (edge_ends name bidirectional (list lists)) tokens.old) result tokens.new }
 {
     let source = read_name(tokens, Want::Item)?;
-    tokens.expect(COMMA)?;
+    if !tokens.eat(COMMA) {
+        return Err(tokens.refusal());
+    }
     let target = read_name(tokens, Want::Item)?;
-    tokens.expect(COMMA)?;
+    if !tokens.eat(COMMA) {
+        return Err(tokens.refusal());
+    }
     let (label, mark) = read_label(tokens, lists)?;
-    tokens.expect(CLOSE)?;
+    if !tokens.eat(CLOSE) {
+        return Err(tokens.refusal());
+    }
     Ok(Ranged {
         tree: EdgeDecl {
             name,
@@ -163,9 +167,13 @@ fn read_body(tokens: &mut Tokens<'_, '_>, lists: u64) -> Result<Ranged<GraphDecl
     ensures { Reads (reader_of (spec.body (list lists)) tokens.old) result tokens.new }
 {
     let nodes = read_nodes(tokens, lists)?;
-    tokens.expect(BAR)?;
+    if !tokens.eat(BAR) {
+        return Err(tokens.refusal());
+    }
     let edges = read_edges(tokens, lists)?;
-    tokens.expect(CLOSE_BRACKET)?;
+    if !tokens.eat(CLOSE_BRACKET) {
+        return Err(tokens.refusal());
+    }
     Ok(Ranged {
         tree: GraphDecl {
             nodes: nodes.tree,
@@ -191,7 +199,7 @@ fn read_barred(tokens: &mut Tokens<'_, '_>, lists: u64) -> Result<Ranged<GraphDe
     ensures { Reads (reader_of (spec.barred (list lists)) tokens.old) result tokens.new }
 {
     if has_two_bars(tokens.left()) {
-        tokens.expect(BAR)?;
+        tokens.eat(BAR);
         return read_body(tokens, lists);
     }
     read_body(tokens, lists)
@@ -205,9 +213,13 @@ pub(crate) fn read_graph(
 ) -> Result<Ranged<GraphDecl>, ReadError>
     ensures { Reads (reader_of (spec.graph (list lists)) tokens.old) result tokens.new }
 {
-    tokens.expect(Want::Kind(Kind::OpenBracket))?;
+    if !tokens.eat(Want::Kind(Kind::OpenBracket)) {
+        return Err(tokens.refusal());
+    }
     if tokens.begins(LESS) {
-        pass_position(tokens)?;
+        if !passes_position(tokens) {
+            return Err(tokens.refusal());
+        }
         return read_barred(tokens, lists);
     }
     read_body(tokens, lists)

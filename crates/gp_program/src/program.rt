@@ -69,7 +69,9 @@ fn read_locals(tokens: &mut Tokens<'_, '_>, rooms: Rooms) -> Result<Ranged<Items
 {
     if tokens.eat(Want::Kind(Kind::OpenBracket)) {
         let locals = read_declarations(tokens, rooms)?;
-        tokens.expect(Want::Kind(Kind::CloseBracket))?;
+        if !tokens.eat(Want::Kind(Kind::CloseBracket)) {
+            return Err(tokens.refusal());
+        }
         return Ok(locals);
     }
     Ok(whole(Items::new(tokens.alloc())))
@@ -82,7 +84,9 @@ fn read_group(tokens: &mut Tokens<'_, '_>, rooms: Rooms) -> Result<Ranged<Items<
     ensures { Reads (reader_of (spec.procedure_group rooms.rules (spec.declarations rooms.rules rooms.locals)) tokens.old) result tokens.new }
 {
     let name = read_name(tokens, Want::ProcedureName)?;
-    tokens.expect(Want::Kind(Kind::Equal))?;
+    if !tokens.eat(Want::Kind(Kind::Equal)) {
+        return Err(tokens.refusal());
+    }
     let locals = read_locals(tokens, rooms)?;
     let body = read_commands(tokens, rooms.rules)?;
     let rules = read_rules(tokens, rooms.rules)?;

@@ -53,16 +53,20 @@ fn read_type(tokens: &mut Tokens<'_, '_>) -> Result<VariableType, ReadError>
     if tokens.eat(Want::Keyword(Keyword::Atom)) {
         return Ok(VariableType::Atom);
     }
-    tokens.expect(Want::Keyword(Keyword::List))?;
-    Ok(VariableType::List)
+    if tokens.eat(Want::Keyword(Keyword::List)) {
+        return Ok(VariableType::List);
+    }
+    Err(tokens.refusal())
 }
 
 // "," and a name of this class.
 fn read_further_name(tokens: &mut Tokens<'_, '_>, want: Want) -> Result<Name, ReadError>
     ensures { Reads (reader_of (behind comma (name_of want)) tokens.old) result tokens.new }
 {
-    tokens.expect(COMMA)?;
-    read_name(tokens, want)
+    if tokens.eat(COMMA) {
+        return read_name(tokens, want);
+    }
+    Err(tokens.refusal())
 }
 
 // Vars = Var {"," Var} ":" Type
@@ -72,7 +76,9 @@ fn read_group(tokens: &mut Tokens<'_, '_>, _nothing: ()) -> Result<VariableGroup
 {
     let first = read_name(tokens, Want::Variable)?;
     let rest = repeated_by(tokens, COMMA, Want::Variable, read_further_name)?;
-    tokens.expect(Want::Kind(Kind::Colon))?;
+    if !tokens.eat(Want::Kind(Kind::Colon)) {
+        return Err(tokens.refusal());
+    }
     let variable_type = read_type(tokens)?;
     Ok(VariableGroup {
         first,
@@ -168,11 +174,16 @@ fn read_end(
 ) -> Result<Ranged<RuleDecl>, ReadError>
     ensures { Reads (reader_of (rule_end sides (condition room room)) tokens.old) result tokens.new }
 {
-    tokens.expect(Want::Keyword(Keyword::Interface))?;
-    tokens.expect(Want::Kind(Kind::Equal))?;
-    tokens.expect(Want::Kind(Kind::OpenBrace))?;
+    if !tokens.eat(Want::Keyword(Keyword::Interface))
+        || !tokens.eat(Want::Kind(Kind::Equal))
+        || !tokens.eat(Want::Kind(Kind::OpenBrace))
+    {
+        return Err(tokens.refusal());
+    }
     let interface = read_names(tokens, Want::Item)?;
-    tokens.expect(Want::Kind(Kind::CloseBrace))?;
+    if !tokens.eat(Want::Kind(Kind::CloseBrace)) {
+        return Err(tokens.refusal());
+    }
     let condition = read_where(tokens, room)?;
     Ok(sides.into_rule(interface, condition))
 }
