@@ -15,7 +15,7 @@ ghost use Rattle.gp_reply.specs.Said.{said_of};
 use crate::check::check;
 use crate::deliver::deliver;
 use crate::demo::demo;
-use crate::files::load_both;
+use gp_inputs::load_both;
 use crate::fmt::fmt;
 use crate::run::run;
 use crate::step::step;
