@@ -23,7 +23,7 @@ use gp_fmt::laws::{canonical_texts_are_read, canonical_texts_stay};
 use gp_io::{Files, Sink};
 use gp_memory::NoMemory;
 use gp_reader::laws::{texts_have_one_fault, texts_have_one_program, texts_have_one_tree};
-use gp_reply::{Reply, Said, Status, Stop, or_stopped, reply_of, settled};
+use gp_reply::{Reply, Said, Status, Stop, or_stopped, settled};
 use gp_system::Crew;
 use gp_words::{Command, RunCommand, command_of};
 use opt_worker::Pacing;
@@ -101,13 +101,6 @@ fn asks(command: Option<Command<'_>>) -> bool
     }
 }
 
-// The texts of an answer, which is let go.
-fn texts_of(alloc: Global, asked: bool, said: Said<'_>) -> Result<Reply, NoMemory>
-    ensures { IfOk result (λ r. Shows asked (said_of said.entry) (status_code r.status) r.journal.items r.result.items r.err.items) }
-{
-    reply_of(alloc, asked, &said)
-}
-
 fn reply_to<F: Files, R: Threads + Wait + Sync>(
     rt: &R,
     alloc: Global,
@@ -121,7 +114,7 @@ fn reply_to<F: Files, R: Threads + Wait + Sync>(
 {
     let command = command_of(alloc, words)?;
     let said = said_by(rt, alloc, command, files, pace)?;
-    texts_of(alloc, asks(command), said)
+    said.into_reply(alloc, asks(command))
 }
 
 // Answers these words: all text is made before the first write.
