@@ -58,8 +58,9 @@ pub(crate) fn demo<'a, R: Threads + Wait + Sync>(
 {
     let (program, graph) = made(alloc, command)?;
     let crew = Crew {
-        workers: command.workers,
-        fan: command.fan,
+        workers: command.crew.workers,
+        fan: command.crew.fan,
+        batch: command.crew.batch,
         bound: BOUND,
     };
     demo_said(

@@ -29,6 +29,7 @@ pub(crate) fn step<'a, F: Files, R: Threads + Wait + Sync>(
     let crew = Crew {
         workers: 1,
         fan: 1,
+        batch: 1,
         bound: command.bound,
     };
     let said = run(rt, alloc, &program, graph, crew, command.seed, pace)?;

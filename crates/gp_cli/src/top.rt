@@ -43,8 +43,9 @@ fn said_by_files<'a, F: Files, R: Threads + Wait + Sync>(
 {
     let (program, graph) = load_both(alloc, files, command.program, command.host)?;
     let crew = Crew {
-        workers: command.workers,
-        fan: command.fan,
+        workers: command.crew.workers,
+        fan: command.crew.fan,
+        batch: command.crew.batch,
         bound: command.bound,
     };
     or_stopped(run(rt, alloc, &program, graph, crew, command.seed, pace))

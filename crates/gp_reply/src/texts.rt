@@ -27,7 +27,7 @@ use itoa::Buffer;
 use std::alloc::Global;
 
 const USAGE: &[u8] =
-    b"usage: gp2 run PROGRAM HOST [--workers N] [--bound N] [--fan N] [--seed N] [--journal]\n       gp2 demo KIND SIZE SEED [--workers N] [--fan N]\n       gp2 check PROGRAM HOST TRACE RESULT\n       gp2 fmt PROGRAM\n       gp2 step PROGRAM HOST SCRIPT [--bound N] [--seed N]\n";
+    b"usage: gp2 run PROGRAM HOST [--workers N] [--bound N] [--fan N] [--seed N] [--journal] [--batch N]\n       gp2 demo KIND SIZE SEED [--workers N] [--fan N] [--batch N]\n       gp2 check PROGRAM HOST TRACE RESULT\n       gp2 fmt PROGRAM\n       gp2 step PROGRAM HOST SCRIPT [--bound N] [--seed N]\n";
 
 // A line of these three parts.
 fn line_of_parts(
