@@ -75,7 +75,7 @@ fn called(ending: Ending<Fault>) -> Called
 }
 
 impl<'a> CrewSession<'a> {
-    // Whether the call goes to the crew.
+    // Whether the call goes to the crew at once.
     fn is_wide(&self, call: u32) -> bool {
         self.system
             .is_wide(call, self.session.graph(), self.crew.fan)
@@ -199,10 +199,13 @@ impl<'a, R: Threads + Wait + Sync> Engine<R> for CrewSession<'a> {
     }
 
     fn repeat(&mut self, rt: &R, call: u32) -> Repeated {
-        if self.is_wide(call) {
+        if self.crew.fan <= 1 && self.is_wide(call) {
             return self.pursue_all(rt, call);
         }
-        self.session.take_all(call)
+        match self.session.take_cheap(call, u64::from(self.crew.fan)) {
+            Some(repeated) => repeated,
+            None => self.pursue_all(rt, call),
+        }
     }
 
     fn turn(&mut self, _rt: &R) -> Turned {
