@@ -145,7 +145,7 @@ pub(crate) fn pursue_goal<P: Pace + Sync, R: Threads + Wait + Sync>(
     let Ok(core) = Core::start(*replicas.allocator(), system, trail, goal, left) else {
         return Err(NoMemory);
     };
-    let (core, mut replicas) = pursue(rt, system, core, replicas, pace);
+    let (core, mut replicas) = pursue(rt, system, core, replicas, pace, 1);
     let (trail, entries, left, ending) = core.into_parts();
     level(system, &entries, &trail, &mut replicas)?;
     let Some(ending) = ending else { unreachable!() };

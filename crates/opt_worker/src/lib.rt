@@ -2,7 +2,8 @@
 //!
 //! Give `work` a pass of a gate and a replica that is where the pass was told that the core is, such as a copy of the base
 //! for a pass that was told nothing. It asks for entries and a share, makes the steps of the entries on the replica,
-//! searches the share outside any turn, and sends what it found. The pass comes back knowing how the goal ended, and the
+//! searches the share outside any turn, and sends what it found: one match, or for a goal that goes on several that are
+//! independent, as many as the caller allows for one turn. The pass comes back knowing how the goal ended, and the
 //! replica is the base after a beginning of the entries, whose length its depth tells (`specs/Replica`). Where memory is
 //! refused to it, it stops the goal.
 //!
