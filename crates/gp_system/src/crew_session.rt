@@ -131,7 +131,12 @@ impl<'a> CrewSession<'a> {
         let missing = &items.as_slice()[had..];
         let rules = self.system.rules();
         let there = brought(rules, self.crew.workers, &trail, missing, replicas)?;
-        let asked = Asked { goal, trail, left };
+        let asked = Asked {
+            goal,
+            trail,
+            left,
+            batch: self.crew.batch,
+        };
         let pursued = pursue_goal(rt, &self.system, asked, there, self.pace)?;
         let used = left - pursued.left;
         note_used(&mut items, pursued.entries, goal.mode, used)?;

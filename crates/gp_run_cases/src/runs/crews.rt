@@ -63,6 +63,7 @@ fn is_good<R: Threads + Wait + Sync>(
     let crew = Crew {
         workers,
         fan: 1,
+        batch: 1,
         bound: 1000,
     };
     match execute(rt, alloc, program, copy, crew, &mut Bits(0), &Pacing::Free) {
