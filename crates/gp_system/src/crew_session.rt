@@ -53,12 +53,17 @@ impl<'a> Model for CrewSession<'a> {
     ghost invariant = { λ a. IsCrewed a.session a.system a.crew.workers a.replicas.items a.had };
 }
 
-// How many shares a goal has for so many workers.
-fn shares_for(workers: u32) -> u32
-    requires { 0 < workers }
+// How many shares a goal has: several for each worker; one where a worker may offer several matches of a share in a turn.
+fn shares_for(crew: Crew) -> u32
+    requires { 0 < crew.workers }
     ensures { 0 < result }
 {
-    workers.checked_mul(SHARES_OF_A_WORKER).unwrap_or(workers)
+    if crew.batch > 1 {
+        return crew.workers;
+    }
+    crew.workers
+        .checked_mul(SHARES_OF_A_WORKER)
+        .unwrap_or(crew.workers)
 }
 
 // What came of a goal of one match.
@@ -99,7 +104,7 @@ impl<'a> CrewSession<'a> {
         let _sound = host.next_numbers();
         CrewSession {
             session: Session::new(alloc, program, plans, host, crew.bound),
-            system: Gp::new(alloc, program, plans, shares_for(crew.workers)),
+            system: Gp::new(alloc, program, plans, shares_for(crew)),
             crew,
             pace,
             replicas: Vec::new(alloc),
