@@ -51,11 +51,7 @@ fn load_program<'a, F: Files>(
 }
 
 /// The tree of the program's file.
-pub fn load_tree<'a, F: Files>(
-    alloc: Global,
-    files: &mut F,
-    name: &'a str,
-) -> Result<Ast, Stop<'a>>
+pub fn load_tree<'a, F: Files>(alloc: Global, files: &mut F, name: &'a str) -> Result<Ast, Stop<'a>>
     ensures loads { LoadsTree (F.known files.old) (F.known files.new) name.entry.now result }
     ensures later { (F.known files.old).faults ≤ (F.known files.new).faults }
     ensures same { (F.known files.new).content ≡ (F.known files.old).content }

@@ -240,7 +240,11 @@ impl<'a> Said<'a> {
             Said::LongScript => refusal(alloc, Status::Script, b"script: TooLong\n"),
             Said::BadScript(line) => told(alloc, Status::Script, script_line(alloc, line)),
             Said::Bound(bound) => told(alloc, Status::Bound, bound_text(alloc, bound)),
-            Said::Number(rule, kind) => told(alloc, Status::Number, number_text(alloc, &rule, kind)),
+            Said::Number(rule, kind) => told(
+                alloc,
+                Status::Number,
+                number_text(alloc, &rule, kind),
+            ),
             Said::Unread(name) => told(alloc, Status::Read, read_text(alloc, name)),
         }
     }

@@ -18,7 +18,8 @@ pub(crate) struct Bells {
 }
 
 impl Bells {
-    pub(crate) fn new(alloc: Global) -> Result<Bells, AllocError> {
+    /// None is rung yet.
+    pub(crate) fn silent(alloc: Global) -> Result<Bells, AllocError> {
         let mut parkers = Vec::with_capacity(alloc, BELLS as usize)?;
         for _ in 0..BELLS {
             parkers.push(Parker::new())?;

@@ -80,7 +80,7 @@ impl<S: System> GateOf<Core<S>, S::Found, S::Reason, GateRule<S>, S::Goal> {
         let Ok(mut slots) = Vec::with_capacity(alloc, 1) else {
             return Err(core);
         };
-        let Ok(bells) = Bells::new(alloc) else {
+        let Ok(bells) = Bells::silent(alloc) else {
             return Err(core);
         };
         slots.push_reserved(Some(core));
