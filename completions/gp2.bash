@@ -3,7 +3,7 @@ _gp2() {
   local word=${COMP_WORDS[COMP_CWORD]} before=${COMP_WORDS[COMP_CWORD - 1]} files=0 i pattern
   COMPREPLY=()
   case $before in
-    --bound | --seed | --workers | --fan) return ;;
+    --bound | --seed | --workers | --fan | --batch) return ;;
   esac
   if [ "$COMP_CWORD" -eq 1 ]; then
     mapfile -t COMPREPLY < <(compgen -W "run demo check fmt step" -- "$word")
@@ -11,7 +11,7 @@ _gp2() {
   fi
   if [ "${COMP_WORDS[1]}" = demo ]; then
     if [ "$COMP_CWORD" -eq 2 ]; then mapfile -t COMPREPLY < <(compgen -W "closure colour tree" -- "$word")
-    elif [[ $word == -* ]]; then mapfile -t COMPREPLY < <(compgen -W "--workers --fan" -- "$word"); fi
+    elif [[ $word == -* ]]; then mapfile -t COMPREPLY < <(compgen -W "--workers --fan --batch" -- "$word"); fi
     return
   fi
   if [ "${COMP_WORDS[1]}" = check ] && [ "$COMP_CWORD" -gt 3 ]; then # the trace and the result: any file
@@ -25,13 +25,13 @@ _gp2() {
     return
   fi
   if [[ $word == -* ]]; then
-    [ "${COMP_WORDS[1]}" = check ] || mapfile -t COMPREPLY < <(compgen -W "--bound --seed --journal --workers --fan" -- "$word")
+    [ "${COMP_WORDS[1]}" = check ] || mapfile -t COMPREPLY < <(compgen -W "--bound --seed --journal --workers --fan --batch" -- "$word")
     return
   fi
   # How many files stand before this word: the first is the program, the second the host.
   for ((i = 2; i < COMP_CWORD; i++)); do
     case ${COMP_WORDS[i]} in
-      --bound | --seed | --workers | --fan) i=$((i + 1)) ;;
+      --bound | --seed | --workers | --fan | --batch) i=$((i + 1)) ;;
       -*) ;;
       *) files=$((files + 1)) ;;
     esac
@@ -40,8 +40,8 @@ _gp2() {
     0) pattern='*.gp2' ;;
     1) pattern='*.host' ;;
     2) [ "${COMP_WORDS[1]}" = step ] && { compopt -o filenames 2>/dev/null; mapfile -t COMPREPLY < <(compgen -f -- "$word"); return; }
-      mapfile -t COMPREPLY < <(compgen -W "--bound --seed --journal --workers --fan" -- "$word"); return ;;
-    *) mapfile -t COMPREPLY < <(compgen -W "--bound --seed --journal --workers --fan" -- "$word"); return ;;
+      mapfile -t COMPREPLY < <(compgen -W "--bound --seed --journal --workers --fan --batch" -- "$word"); return ;;
+    *) mapfile -t COMPREPLY < <(compgen -W "--bound --seed --journal --workers --fan --batch" -- "$word"); return ;;
   esac
   compopt -o filenames 2>/dev/null
   mapfile -t COMPREPLY < <(compgen -f -X "!$pattern" -- "$word"; compgen -d -- "$word")

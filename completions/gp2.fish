@@ -8,6 +8,7 @@ complete -c gp2 -n '__fish_seen_subcommand_from run' -k -a '(__fish_complete_suf
 complete -c gp2 -n __fish_use_subcommand -a demo -d 'Run a workload made from a number'
 complete -c gp2 -n '__fish_seen_subcommand_from run demo' -l workers -x -d 'How many workers search at the same time'
 complete -c gp2 -n '__fish_seen_subcommand_from run demo' -l fan -x -d 'With how many candidates a search begins that all workers make'
+complete -c gp2 -n '__fish_seen_subcommand_from run demo' -l batch -x -d 'How many matches a worker may offer in one turn'
 complete -c gp2 -n '__fish_seen_subcommand_from demo' -a 'closure colour tree'
 complete -c gp2 -n __fish_use_subcommand -a check -d 'Say whether a journal and a result are those of a run'
 complete -c gp2 -n '__fish_seen_subcommand_from check' -F
