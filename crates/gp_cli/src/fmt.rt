@@ -7,7 +7,7 @@ ghost use Rattle.gp_reply.specs.Texts.{formatted};
 ghost use Rattle.gp_reply.specs.Said.{said_of};
 ghost use Rattle.gp_cli.specs.inside.Parts.{FormatsFile};
 
-use crate::files::load_tree;
+use gp_inputs::load_tree;
 use gp_fmt::print_program;
 use gp_io::Files;
 use gp_memory::NoMemory;

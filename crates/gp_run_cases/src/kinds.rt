@@ -1,7 +1,9 @@
 //! The kinds of rows.
 
 use crate::graphs::{beside, edits, hub};
-use crate::runs::{batches, certified, commands, crews, independence, journals, moves, random, upgrades};
+use crate::runs::{
+    batches, certified, commands, crews, independence, journals, moves, random, upgrades,
+};
 use gp_rows::Answer;
 use std::alloc::Global;
 use std::sync::Wait;

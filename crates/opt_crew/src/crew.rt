@@ -66,6 +66,7 @@ fn run<S: System + Sync, P: Pace + Sync, R: Threads + Wait + Sync>(
     gate: &Gate<S>,
     jobs: &mut [(Pass<S>, S::State)],
     pace: &P,
+    batch: u32,
 )
 where
     S::State: Send,
@@ -86,7 +87,7 @@ where
         &|_, job: &mut (Pass<S>, S::State)|
             requires { (s.now ≡ (start_of gate.now).system) × IsReady (S.means (start_of gate.now).system) gate.now job.now }
             ensures { IsBack (S.means (start_of gate.entry.now).system) gate.entry.now job.exit.now }
-        { work_on(rt, s, gate, &mut job.0, &mut job.1, pace) },
+        { work_on(rt, s, gate, &mut job.0, &mut job.1, pace, batch) },
     );
 }
 
@@ -114,13 +115,15 @@ fn gather<S: System>(
 }
 
 /// Pursues the goal of the core with a worker for each replica, until it has ended. The workers' passes have the places of
-/// their replicas for their numbers, from 0; one pass more stays here, to close the gate.
+/// their replicas for their numbers, from 0; one pass more stays here, to close the gate. For a goal that goes on a worker
+/// offers up to `batch` matches in one turn, and one where `batch` is 0.
 pub fn pursue<S: System + Sync, P: Pace + Sync, R: Threads + Wait + Sync>(
     rt: &R,
     s: &S,
     core: Core<S>,
     mut replicas: Vec<S::State>,
     pace: &P,
+    batch: u32,
 ) -> (Core<S>, Vec<S::State>)
 where
     S::State: Send,
@@ -150,7 +153,7 @@ where
         Err(core) => return (stopped(s, core), replicas),
     };
     divide(&gate, &mut pass, &mut replicas, &mut jobs);
-    run(rt, s, &gate, &mut jobs, pace);
+    run(rt, s, &gate, &mut jobs, pace, batch);
     gather(&gate, &mut pass, &mut jobs, &mut replicas);
     (gate.close(rt, pass), replicas)
 }

@@ -1,3 +1,5 @@
 mod Replicas
 mod News
 mod Later
+mod Batches
+mod Answered

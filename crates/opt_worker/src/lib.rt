@@ -2,19 +2,23 @@
 //!
 //! Give `work` a pass of a gate and a replica that is where the pass was told that the core is, such as a copy of the base
 //! for a pass that was told nothing. It asks for entries and a share, makes the steps of the entries on the replica,
-//! searches the share outside any turn, and sends what it found. The pass comes back knowing how the goal ended, and the
+//! searches the share outside any turn, and sends what it found: one match, or for a goal that goes on several that are
+//! independent, as many as the caller allows for one turn. The pass comes back knowing how the goal ended, and the
 //! replica is the base after a beginning of the entries, whose length its depth tells (`specs/Replica`). Where memory is
 //! refused to it, it stops the goal.
 //!
-//! `work` and `work_on` may wait, for turns. A `Pace` may hold workers between searches and turns, as tests do by `Held`:
-//! `Free` does nothing, and `Pacing` is either. That each event's condition holds is proved at each turn; definitions that only bodies need are in `specs/inside`.
+//! `work` and `work_on` may wait, for turns. A `Pace` may hold workers between searches and turns, as tests do by `Held`, or
+//! hear of them, as `Commits` does: `Free` does nothing, and `Pacing` is one of these. That each event's condition holds is
+//! proved at each turn; definitions that only bodies need are in `specs/inside`.
 #![tactic(auto)]
 
+mod commits;
 mod held;
 mod pace;
 mod sharing;
 mod worker;
 
+pub use commits::Commits;
 pub use held::Held;
 pub use pace::{Free, Pace, Pacing};
 pub use sharing::job_may_be_taken;

@@ -1,27 +1,46 @@
 //! A worker's rounds.
 
-ghost use Rattle.std.specs.Prelude.{◌≡◌, ◌≤◌, ◌<◌, ℕ, take, length, OnOk, IfOk, IfSome, IfNone};
+ghost use Rattle.std.specs.Prelude.{◌≡◌, ◌≤◌, ◌<◌, ℕ, take, length, nat_lt, OnOk, IfOk, IfErr, IfSome, IfNone};
+ghost use Rattle.opt_system.specs.Meaning.{applies};
+ghost use Rattle.opt_system.specs.declared.answers.Mode.TheVariants.{Saturate};
 ghost use Rattle.opt_core.specs.Core.{reached, AllApply};
 ghost use Rattle.opt_gate.specs.Pass.{IsPassOf, start_of};
 ghost use Rattle.opt_gate.specs.Turn.{MayAsk, entries_told};
 ghost use Rattle.opt_worker.specs.Replica.{IsReplica, IsLater, IsDone};
 ghost use Rattle.opt_worker.specs.inside.Reports.{IsReport};
+ghost use Rattle.opt_worker.specs.inside.Replies.{TellsEnding, WantsMemory, committed_by};
 
 use crate::pace::Pace;
 use gp_memory::NoMemory;
-use opt_core::Reply;
+use opt_core::{Entries, Reply, Rest};
 use opt_gate::{Ask, Gate, Pass};
-use opt_system::{Sought, System};
+use opt_system::{Mode, Sought, System};
+use std::alloc::Global;
 use std::sync::Wait;
 
 /// How many shares a goal best has for each worker: a worker that is done early searches no more than one share that
 /// another searches too. It is a hint: no result depends on it.
 pub const SHARES_OF_A_WORKER: u32 = 4;
 
+// Where a worker looks from, and how many matches it may offer in one turn.
+#[derive(Clone, Copy)]
+struct Aim {
+    from: u32,
+    batch: u32,
+}
+
+// A share to search. Of its matches so many may be offered in one turn, held together in memory of this allocator.
+#[derive(Clone, Copy)]
+struct Task {
+    share: u32,
+    batch: u32,
+    alloc: Global,
+}
+
 // Where a worker looks after a share that it found barren: where all begin at the share of their number and none stops,
 // no two come to one share.
-fn share_after(task: u32, shares: u32) -> u32 {
-    task.wrapping_add(shares / SHARES_OF_A_WORKER)
+fn share_after(share: u32, shares: u32) -> u32 {
+    share.wrapping_add(shares / SHARES_OF_A_WORKER)
 }
 
 /// Makes the steps of the entries on the replica. Where memory is refused, those before it are made.
@@ -45,24 +64,76 @@ fn catch_up<S: System, R: Wait>(
     gate: &Gate<S>,
     pass: &mut Pass<S>,
     at: &mut S::State,
-    from: u32,
-) -> Result<Option<u32>, NoMemory>
+    aim: Aim,
+) -> Result<Option<Task>, NoMemory>
     requires gate { IsPassOf gate.now pass.old }
     requires system { s.now ≡ (start_of gate.now).system }
     requires at { at.old ≡ reached (S.means s.now) (start_of gate.now).base (entries_told pass.old) }
     ensures later { IsLater pass.old pass.new }
     ensures replica { IsReplica (S.means s.now) (start_of gate.now).base pass.new.knows at.new }
-    ensures share { IfOk result (λ found. IfSome found (λ task. task < (S.means s.now).shares (start_of gate.now).goal)) }
+    ensures share { IfOk result (λ found. IfSome found (λ task. task.share < (S.means s.now).shares (start_of gate.now).goal)) }
     ensures at { IfOk result (λ found. IfSome found (λ _. at.new ≡ reached (S.means s.now) (start_of gate.now).base (entries_told pass.new))) }
     ensures done { IfOk result (λ found. IfNone found (IsDone (S.means s.now) gate.now.key pass.new)) }
 {
-    match gate.turn(rt, pass, s, Ask::Look { from }) {
+    match gate.turn(rt, pass, s, Ask::Look { from: aim.from }) {
         Reply::News { entries, task } => {
             follow(s, at, entries.as_slice())?;
-            Ok(Some(task))
+            Ok(Some(Task {
+                share: task,
+                batch: aim.batch,
+                alloc: *entries.into_vec().allocator(),
+            }))
         }
         Reply::Closed(_) => Ok(None),
         _ => Err(NoMemory),
+    }
+}
+
+// The match that was found, and of the others of the share as many as fit beside it and may be offered in one turn.
+fn batch_of<S: System>(
+    s: &S,
+    gate: &Gate<S>,
+    pass: &Pass<S>,
+    at: &S::State,
+    task: Task,
+    found: S::Found,
+) -> Result<Ask<S::Found>, NoMemory>
+    requires system { s.now ≡ (start_of gate.now).system }
+    requires goes_on { (S.means s.now).mode (start_of gate.now).goal ≡ Saturate }
+    requires several { 1 < task.batch }
+    requires at { at.now ≡ reached (S.means s.now) (start_of gate.now).base (entries_told pass.now) }
+    requires share { (S.means s.now).share (start_of gate.now).goal found ≡ task.share }
+    requires applies { (S.means s.now).judged (start_of gate.now).goal at.now found ≡ applies }
+    ensures report { IfOk result IsReport }
+    ensures may { IfOk result (λ a. MayAsk (S.means s.now) (start_of gate.now) pass.now a) }
+{
+    let mut held = Vec::new(task.alloc);
+    held.push(found)?;
+    s.more(gate.goal(), task.share, at, &mut held, task.batch)?;
+    Ok(Ask::Batch {
+        founds: Entries::from_vec(held),
+    })
+}
+
+// What is offered where a match of the share was found: it alone, or several for a goal that goes on.
+fn offer<S: System>(
+    s: &S,
+    gate: &Gate<S>,
+    pass: &Pass<S>,
+    at: &S::State,
+    task: Task,
+    found: S::Found,
+) -> Result<Ask<S::Found>, NoMemory>
+    requires system { s.now ≡ (start_of gate.now).system }
+    requires at { at.now ≡ reached (S.means s.now) (start_of gate.now).base (entries_told pass.now) }
+    requires share { (S.means s.now).share (start_of gate.now).goal found ≡ task.share }
+    requires applies { (S.means s.now).judged (start_of gate.now).goal at.now found ≡ applies }
+    ensures report { IfOk result IsReport }
+    ensures may { IfOk result (λ a. MayAsk (S.means s.now) (start_of gate.now) pass.now a) }
+{
+    match s.mode(gate.goal()) {
+        Mode::Saturate if task.batch > 1 => batch_of(s, gate, pass, at, task, found),
+        _ => Ok(Ask::Offer { found }),
     }
 }
 
@@ -72,19 +143,44 @@ fn search<S: System>(
     gate: &Gate<S>,
     pass: &Pass<S>,
     at: &S::State,
-    task: u32,
+    task: Task,
 ) -> Result<Ask<S::Found>, NoMemory>
     requires system { s.now ≡ (start_of gate.now).system }
-    requires task { task < (S.means s.now).shares (start_of gate.now).goal }
+    requires task { task.share < (S.means s.now).shares (start_of gate.now).goal }
     requires at { at.now ≡ reached (S.means s.now) (start_of gate.now).base (entries_told pass.now) }
     ensures report { IfOk result IsReport }
     ensures may { IfOk result (λ a. MayAsk (S.means s.now) (start_of gate.now) pass.now a) }
 {
-    match s.seek(gate.goal(), task, at) {
-        Sought::Applies(found) => Ok(Ask::Offer { found }),
+    match s.seek(gate.goal(), task.share, at) {
+        Sought::Applies(found) => offer(s, gate, pass, at, task, found),
         Sought::Faulty(found, _) => Ok(Ask::Fault { found }),
-        Sought::Barren => Ok(Ask::Quiet { share: task }),
+        Sought::Barren => Ok(Ask::Quiet { share: task.share }),
         Sought::NoMemory => Err(NoMemory),
+    }
+}
+
+// Whether the answer tells of a commit.
+fn tells_commit<F, R>(reply: &Reply<F, R>) -> bool
+    ensures { result ≡ nat_lt 0 (committed_by reply.now) }
+{
+    match reply {
+        Reply::Committed(_) => true,
+        Reply::Batched(_, count, _) => *count > 0,
+        _ => false,
+    }
+}
+
+// Where to look after an answer to a report on this share, or none where it tells that the goal has ended.
+fn look_after<F, R>(reply: &Reply<F, R>, share: u32, shares: u32) -> Result<Option<u32>, NoMemory>
+    ensures ended { IfOk result (λ next. IfNone next (TellsEnding reply.now)) }
+    ensures runs { IfOk result (λ next. IfSome next (λ _. (TellsEnding reply.now → ⊥) × (WantsMemory reply.now → ⊥))) }
+    ensures refused { IfErr result (λ _. WantsMemory reply.now) }
+{
+    match reply {
+        Reply::Closed(_) | Reply::Batched(_, _, Some(Rest::Closed(_))) => Ok(None),
+        Reply::NoMemory | Reply::Batched(_, _, Some(Rest::NoMemory)) => Err(NoMemory),
+        Reply::Noted => Ok(Some(share_after(share, shares))),
+        _ => Ok(Some(share)),
     }
 }
 
@@ -95,12 +191,12 @@ fn report<S: System, P: Pace, R: Wait>(
     gate: &Gate<S>,
     pass: &mut Pass<S>,
     at: &S::State,
-    task: u32,
+    task: Task,
     pace: &P,
 ) -> Result<Option<u32>, NoMemory>
     requires gate { IsPassOf gate.now pass.old }
     requires system { s.now ≡ (start_of gate.now).system }
-    requires task { task < (S.means s.now).shares (start_of gate.now).goal }
+    requires task { task.share < (S.means s.now).shares (start_of gate.now).goal }
     requires at { at.now ≡ reached (S.means s.now) (start_of gate.now).base (entries_told pass.old) }
     ensures later { IsLater pass.old pass.new }
     ensures told { entries_told pass.new ≡ entries_told pass.old }
@@ -111,13 +207,8 @@ fn report<S: System, P: Pace, R: Wait>(
     let found = search(s, gate, pass, at, task);
     pace.searched(rt, worker, told);
     let reply = gate.turn(rt, pass, s, found?);
-    pace.turned(rt, worker, told, matches!(&reply, Reply::Committed(_)));
-    match reply {
-        Reply::Closed(_) => Ok(None),
-        Reply::NoMemory => Err(NoMemory),
-        Reply::Noted => Ok(Some(share_after(task, s.shares(gate.goal())))),
-        _ => Ok(Some(task)),
-    }
+    pace.turned(rt, worker, told, tells_commit(&reply));
+    look_after(&reply, task.share, s.shares(gate.goal()))
 }
 
 // Catches up, searches and reports once. Where to look next, or none where the goal has ended.
@@ -127,7 +218,7 @@ fn round<S: System, P: Pace, R: Wait>(
     gate: &Gate<S>,
     pass: &mut Pass<S>,
     at: &mut S::State,
-    from: u32,
+    aim: Aim,
     pace: &P,
 ) -> Result<Option<u32>, NoMemory>
     requires gate { IsPassOf gate.now pass.old }
@@ -138,14 +229,15 @@ fn round<S: System, P: Pace, R: Wait>(
     ensures at { IfOk result (λ next. IfSome next (λ _. at.new ≡ reached (S.means s.now) (start_of gate.now).base (entries_told pass.new))) }
     ensures done { IfOk result (λ next. IfNone next (IsDone (S.means s.now) gate.now.key pass.new)) }
 {
-    match catch_up(rt, s, gate, pass, at, from)? {
+    match catch_up(rt, s, gate, pass, at, aim)? {
         Some(task) => report(rt, s, gate, pass, at, task, pace),
         None => Ok(None),
     }
 }
 
 /// Works with the pass until the goal has ended, or stops it where memory is refused. Whatever the ending, the replica is
-/// then the base after a beginning of the entries that the pass knows.
+/// then the base after a beginning of the entries that the pass knows. Of a goal that goes on it offers up to `batch`
+/// matches in one turn, and one where `batch` is 0.
 pub fn work_on<S: System, P: Pace, R: Wait>(
     rt: &R,
     s: &S,
@@ -153,6 +245,7 @@ pub fn work_on<S: System, P: Pace, R: Wait>(
     pass: &mut Pass<S>,
     state: &mut S::State,
     pace: &P,
+    batch: u32,
 )
     requires gate { IsPassOf gate.now pass.old }
     requires system { s.now ≡ (start_of gate.now).system }
@@ -163,7 +256,7 @@ pub fn work_on<S: System, P: Pace, R: Wait>(
 {
     let mut from = pass.number();
     for _ in rt.forever() {
-        match round(rt, s, gate, pass, state, from, pace) {
+        match round(rt, s, gate, pass, state, Aim { from, batch }, pace) {
             Ok(Some(next)) => from = next,
             Ok(None) => return,
             Err(NoMemory) => {
@@ -183,6 +276,7 @@ pub fn work<S: System, P: Pace, R: Wait>(
     mut pass: Pass<S>,
     state: &mut S::State,
     pace: &P,
+    batch: u32,
 ) -> Pass<S>
     requires gate { IsPassOf gate.now pass }
     requires system { s.now ≡ (start_of gate.now).system }
@@ -191,6 +285,6 @@ pub fn work<S: System, P: Pace, R: Wait>(
     ensures done { IsDone (S.means s.now) gate.now.key result }
     ensures replica { IsReplica (S.means s.now) (start_of gate.now).base result.knows state.new }
 {
-    work_on(rt, s, gate, &mut pass, state, pace);
+    work_on(rt, s, gate, &mut pass, state, pace, batch);
     pass
 }

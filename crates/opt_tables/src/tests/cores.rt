@@ -7,7 +7,7 @@ ghost use Rattle.std.specs.Prelude.{◌≡◌, [], IfOk};
 ghost use Rattle.opt_cells.specs.Row.{row};
 
 use super::answers::Answer;
-use super::spelled::{Spelled, event_of, put_core, put_reply};
+use super::spelled::{Spelled, event_of, number_of, put_core, put_reply};
 use gp_memory::NoMemory;
 use opt_cells::{CellRow, Cells, CellsGoal, Traps};
 use opt_core::sharing::{
@@ -16,7 +16,7 @@ use opt_core::sharing::{
 };
 use opt_core::{Core, Ending, Event, Reply};
 use opt_system::Mode;
-use sending::send;
+use sending::{send, send_batch};
 use std::alloc::Global;
 use std::test::Fail;
 
@@ -24,8 +24,9 @@ type CellsRow = (&'static str, Mode, u32, u64, &'static str, &'static str);
 
 // Cells, true or false, with the mode, the shares and the items of a goal; the events that are sent to its core, each
 // with the number of entries that its sender was told of, and then the share to look from, the place of a match, or the
-// share that is barren; and the answers, with the entries, the items and the ending that the core has then.
-const ON_CELLS: [CellsRow; 12] = [
+// share that is barren; and the answers, with the entries, the items and the ending that the core has then. The sender of a
+// batch was told of none: it has up to so many matches of the first share.
+const ON_CELLS: [CellsRow; 16] = [
     // a commit makes older reports stale
     (
         "t",
@@ -127,6 +128,42 @@ const ON_CELLS: [CellsRow; 12] = [
         "quiet 0 1, look 0 4, quiet 0 2, look 0 5, quiet 0 0",
         "noted, news [] 2, noted, news [] 0, closed blocked, [] 0 blocked",
     ),
+    // a batch is committed whole
+    (
+        "ttt",
+        Mode::Saturate,
+        1,
+        10,
+        "batch 3, quiet 0 0",
+        "batched 0 3, may not come, [0, 1, 2] 4 running",
+    ),
+    // up to where the items are spent
+    (
+        "ttt",
+        Mode::Saturate,
+        1,
+        3,
+        "batch 3, batch 3",
+        "batched 0 2 closed bound, closed bound, [0, 1] 0 bound",
+    ),
+    // or up to a match that does not apply any more
+    (
+        "ttt",
+        Mode::Saturate,
+        1,
+        10,
+        "offer 0 1, batch 3, batch 2",
+        "committed 0, batched 1 1 stale 2, batched 2 0 stale 2, [1, 0] 6 running",
+    ),
+    // a goal of one match gets none
+    (
+        "ttt",
+        Mode::Once,
+        1,
+        10,
+        "batch 3",
+        "may not come, [] 10 running",
+    ),
 ];
 
 // The same of traps: the items, the events and the answers. A fault ends a goal unless it is stale.
@@ -161,11 +198,18 @@ fn told_by<S: Spelled>(
     let mut told = Answer::new(alloc);
     let mut count = Some(0);
     for event in events.split(',') {
-        if let Some(event) = event_of::<S>(alloc, event.trim()) {
-            match send(s, &mut core, base, at, &mut count, event) {
-                Some(reply) => put_reply::<S>(&reply, &mut told),
-                None => told.put("may not come"),
-            }
+        let text = event.trim();
+        let reply = if let Some(limit) = text.strip_prefix("batch ") {
+            count = None;
+            send_batch(alloc, s, &mut core, base, number_of(limit))
+        } else if let Some(event) = event_of::<S>(alloc, text) {
+            send(s, &mut core, base, at, &mut count, event)
+        } else {
+            None
+        };
+        match reply {
+            Some(reply) => put_reply::<S>(&reply, &mut told),
+            None => told.put("may not come"),
         }
         told.put(", ");
     }

@@ -59,16 +59,17 @@ fn put_left(
     }
 }
 
-// What is told of a crew of so many workers, with as many shares, that pursues a goal on so many true cells.
+// What is told of a crew of so many workers, with as many shares and so many matches of a turn, that pursues a goal on so
+// many true cells.
 fn pursued<P: Pace + Sync, R: Threads + Wait + Sync>(
     rt: &R,
     alloc: Global,
-    crew: (u32, Mode),
+    crew: (u32, Mode, u32),
     count: usize,
     items: u64,
     pace: &P,
 ) -> Result<Answer, NoMemory> {
-    let (workers, mode) = crew;
+    let (workers, mode, batch) = crew;
     let mut told = Answer::new(alloc);
     if workers > 0 && workers < 100 {
         let goal = CellsGoal {
@@ -77,7 +78,7 @@ fn pursued<P: Pace + Sync, R: Threads + Wait + Sync>(
         };
         let replicas = rows(alloc, workers as usize, count)?;
         let core = core_of(alloc, goal, count, items)?;
-        let (core, replicas) = pursue(rt, &Cells, core, replicas, pace);
+        let (core, replicas) = pursue(rt, &Cells, core, replicas, pace, batch);
         put_left(core, &replicas, workers, count, &mut told);
     }
     Ok(told)
@@ -87,7 +88,7 @@ fn pursued<P: Pace + Sync, R: Threads + Wait + Sync>(
 fn pursue_often<R: Threads + Wait + Sync>(
     rt: &R,
     alloc: Global,
-    crew: (u32, Mode),
+    crew: (u32, Mode, u32),
     wanted: &str,
 ) -> Result<(), Fail> {
     for _ in 0..200 {
@@ -101,20 +102,22 @@ const EACH: &str = "64 of all, 72 left, blocked, all follow";
 #[test]
 fn each_place_is_committed_once_by_up_to_four_workers(rt: HostRuntime) -> Result<(), Fail> {
     for workers in [1, 2, 3, 4] {
-        pursue_often(&rt, rt.alloc(), (workers, Mode::Saturate), EACH)?;
+        for batch in [1, 8] {
+            pursue_often(&rt, rt.alloc(), (workers, Mode::Saturate, batch), EACH)?;
+        }
     }
     Ok(())
 }
 
 #[test]
 fn each_place_is_committed_once_by_eight_workers(rt: HostRuntime) -> Result<(), Fail> {
-    pursue_often(&rt, rt.alloc(), (8, Mode::Saturate), EACH)
+    pursue_often(&rt, rt.alloc(), (8, Mode::Saturate, 1), EACH)
 }
 
 #[test]
 fn a_goal_of_one_match_gets_one_by_any_number_of_workers(rt: HostRuntime) -> Result<(), Fail> {
     for workers in [1, 2, 3, 4, 8] {
-        let crew = (workers, Mode::Once);
+        let crew = (workers, Mode::Once, 8);
         pursue_often(
             &rt,
             rt.alloc(),
@@ -139,7 +142,7 @@ fn held<R: Threads + Wait + Sync>(
     items: u64,
 ) -> Result<(Answer, Option<bool>), NoMemory> {
     let pace = Held::new(1_000_000_000);
-    let mut told = pursued(rt, alloc, (2, Mode::Saturate), count, items, &pace)?;
+    let mut told = pursued(rt, alloc, (2, Mode::Saturate, 1), count, items, &pace)?;
     put_held(&pace, &mut told);
     Ok((told, pace.first_of_zero()))
 }
@@ -165,8 +168,8 @@ fn workers_one_after_another_are_found(rt: HostRuntime) -> Result<(), Fail> {
     let (gate, mut pass) = opened(rt.alloc(), 2, 10, 3)?;
     let (mut zero, mut one) = (pass.split(&gate, 0), pass.split(&gate, 1));
     let pace = Held::new(1000);
-    work_on(&rt, &Cells, &gate, &mut zero, &mut at_zero, &pace);
-    work_on(&rt, &Cells, &gate, &mut one, &mut at_one, &pace);
+    work_on(&rt, &Cells, &gate, &mut zero, &mut at_zero, &pace, 1);
+    work_on(&rt, &Cells, &gate, &mut one, &mut at_one, &pace, 1);
     assert!(rt; pace.was_late());
     Ok(())
 }

@@ -29,6 +29,8 @@ fn may_ask(gate: &Gate<Cells>, pass: &Pass<Cells>, base: &CellRow, ask: &Ask<usi
         && match ask {
             Ask::Look { from: _ } => true,
             Ask::Offer { found } => matches!(Cells.check(goal, base, found), Verdict::Applies),
+            // Whether its matches are independent cannot be asked.
+            Ask::Batch { founds: _ } => false,
             Ask::Fault { found } => matches!(Cells.check(goal, base, found), Verdict::Faulty(_)),
             Ask::Quiet { share } => {
                 *share < Cells.shares(goal)

@@ -74,8 +74,8 @@ impl<'p> Spelled for Gp<'p> {
     }
 }
 
-// The number of a word; the greatest one for another word.
-fn number_of(word: &str) -> u32 {
+/// The number of a word; the greatest one for another word.
+pub(crate) fn number_of(word: &str) -> u32 {
     word.parse::<u32>().unwrap_or(u32::MAX)
 }
 

@@ -61,6 +61,21 @@ pub(crate) fn opened(
         mode: Mode::Saturate,
         shares: 2,
     };
+    opened_for(alloc, goal, count, items, passes)
+}
+
+/// The same for any goal.
+pub(crate) fn opened_for(
+    alloc: Global,
+    goal: CellsGoal,
+    count: usize,
+    items: u64,
+    passes: u64,
+) -> Result<(Gate<Cells>, Pass<Cells>), NoMemory>
+    requires { 0 < passes }
+    ensures passes { IfOk result (λ r. (r.0.key.passes ≡ passes) × (r.1 ≡ first_pass r.0 passes)) }
+    ensures base { IfOk result (λ r. (start_of r.0).base ≡ row (replicate count true) []) }
+{
     let core = core_of(alloc, goal, count, items)?;
     match Gate::start(alloc, core, passes) {
         Ok(opened) => Ok(opened),

@@ -1,15 +1,17 @@
-//! Workers over Cells: one alone, and one that is stopped by hand while it is held in its search.
+//! Workers over Cells: one alone, by how many matches it may offer in one turn, and one that is stopped by hand while it is
+//! held in its search.
 
 ghost use Rattle.std.specs.Prelude.{◌≡◌};
 ghost use Rattle.opt_gate.specs.Pass.{IsPassOf, start_of};
 
 use super::answers::Answer;
 use super::spelled::{put_core, put_founds};
-use super::starting::{opened, true_cells};
+use super::starting::{opened, opened_for, true_cells};
 use gp_memory::NoMemory;
-use opt_cells::Cells;
+use opt_cells::{Cells, CellsGoal};
 use opt_gate::{Ask, Gate, Pass};
-use opt_worker::{Free, Pace, job_may_be_taken, work};
+use opt_system::Mode;
+use opt_worker::{Commits, Free, Pace, job_may_be_taken, work};
 use std::alloc::Global;
 use std::sync::Wait;
 use std::sync::atomic::{AtomicBool, Ordering};
@@ -24,11 +26,72 @@ fn a_worker_alone_commits_each_place_and_finds_no_more(rt: HostRuntime) -> Resul
     let job = (pass, at);
     job_may_be_taken::<Cells>(&job);
     let (pass, mut at) = job;
-    let pass = work(&rt, &Cells, &gate, pass, &mut at, &Free);
+    let pass = work(&rt, &Cells, &gate, pass, &mut at, &Free, 1);
     let mut told = Answer::new(rt.alloc());
     put_founds::<Cells>(at.taken(), &mut told);
     put_core(gate.close(&rt, pass), &mut told);
     told.expect("[0, 2, 1][0, 2, 1] 4 blocked")
+}
+
+// The mode, the items, and the most matches of a turn; and what a worker alone leaves of eight true cells in one share:
+// how many turns committed, the entries, the items left and the ending.
+const BY_BATCH: [(Mode, u64, u32, &str); 7] = [
+    (
+        Mode::Saturate,
+        100,
+        0,
+        "8 by [0, 1, 2, 3, 4, 5, 6, 7] 84 blocked",
+    ),
+    (
+        Mode::Saturate,
+        100,
+        1,
+        "8 by [0, 1, 2, 3, 4, 5, 6, 7] 84 blocked",
+    ),
+    (
+        Mode::Saturate,
+        100,
+        3,
+        "3 by [0, 1, 2, 3, 4, 5, 6, 7] 84 blocked",
+    ),
+    (
+        Mode::Saturate,
+        100,
+        8,
+        "1 by [0, 1, 2, 3, 4, 5, 6, 7] 84 blocked",
+    ),
+    // the goal ends in the midst of a batch, and before one
+    (Mode::Saturate, 5, 8, "1 by [0, 1, 2] 0 bound"),
+    (Mode::Saturate, 0, 8, "0 by [] 0 bound"),
+    // a goal of one match gets no batch
+    (Mode::Once, 100, 8, "1 by [0] 99 committed"),
+];
+
+// What is told of a worker alone.
+fn told_by_batch<R: Wait>(
+    rt: &R,
+    alloc: Global,
+    mode: Mode,
+    items: u64,
+    batch: u32,
+) -> Result<Answer, NoMemory> {
+    let mut told = Answer::new(alloc);
+    let mut at = true_cells(alloc, 8)?;
+    let (gate, pass) = opened_for(alloc, CellsGoal { mode, shares: 1 }, 8, items, 1)?;
+    let pace = Commits::new();
+    let pass = work(rt, &Cells, &gate, pass, &mut at, &pace, batch);
+    told.put_number(pace.count());
+    told.put(" by ");
+    put_core(gate.close(rt, pass), &mut told);
+    Ok(told)
+}
+
+#[test]
+fn a_worker_commits_as_many_in_a_turn_as_it_may(rt: HostRuntime) -> Result<(), Fail> {
+    for (mode, items, batch, wanted) in &BY_BATCH {
+        told_by_batch(&rt, rt.alloc(), *mode, *items, *batch)?.expect(wanted)?;
+    }
+    Ok(())
 }
 
 // Looks at the flag for a long while. Whether it was set.
@@ -89,7 +152,7 @@ fn stopped_in_search<R: Threads + Wait + Sync>(rt: &R, alloc: Global) -> Result<
     let (door, held) = (&gate, &pace);
     let (mut p, q) = thread::join(
         rt,
-        move || work(rt, &Cells, door, p, &mut at, held),
+        move || work(rt, &Cells, door, p, &mut at, held, 1),
         move || stop_by_hand(rt, &Cells, door, q, held),
     );
     p.join(&gate, q);

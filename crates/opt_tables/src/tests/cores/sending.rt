@@ -1,14 +1,17 @@
 //! Events that are sent to a core, each of which is asked first whether it may come.
 
-ghost use Rattle.std.specs.Prelude.{◌≡◌, ◌≤◌, IsTrue, IfSome, length};
+ghost use Rattle.std.specs.Prelude.{◌≡◌, ◌<◌, ◌≤◌, IsTrue, IfOk, IfSome, length};
+ghost use Rattle.opt_system.specs.Meaning.{AllIndependent, applies};
 ghost use Rattle.opt_core.specs.Core.{at_first};
 ghost use Rattle.opt_core.specs.Runs.{SameStart};
 ghost use Rattle.opt_core.specs.Steps.{MayCome};
 ghost use Rattle.opt_core.specs.declared.event.Event.TheVariants as event;
 ghost use Rattle.opt_tables.specs.inside.Told.{told_of};
 
-use opt_core::{Core, Event, Reply};
-use opt_system::{Sought, System, Verdict};
+use gp_memory::NoMemory;
+use opt_core::{Core, Entries, Event, Reply};
+use opt_system::{Mode, Sought, System, Verdict};
+use std::alloc::Global;
 
 // The number of entries that the sender was told of.
 fn told_of<F>(event: &Event<F>) -> u64
@@ -37,7 +40,7 @@ fn may_come<S: System>(s: &S, core: &Core<S>, at: &S::State, event: &Event<S::Fo
         Event::Quiet { told: _, share } => {
             *share < s.shares(goal) && matches!(s.seek(goal, *share, at), Sought::Barren)
         }
-        // Whether its matches are independent cannot be asked.
+        // Whether its matches are independent cannot be asked: see `send_batch`.
         Event::Batch { told: _, founds: _ } => false,
         Event::Look { told: _, from: _ } => true,
         Event::Stop => true,
@@ -113,4 +116,81 @@ pub(crate) fn send<S: System>(
         Event::Quiet { told, share } => core.step(s, Event::Quiet { told, share }),
         Event::Stop => core.step(s, Event::Stop),
     })
+}
+
+// The match of the goal's first share, and of the others up to so many in all that may be offered together in this state.
+fn held_with<S: System>(
+    alloc: Global,
+    s: &S,
+    goal: S::Goal,
+    at: &S::State,
+    found: S::Found,
+    limit: u32,
+) -> Result<Entries<S::Found>, NoMemory>
+    requires some { 0 < limit }
+    requires share { (S.means s.now).share goal found ≡ 0 }
+    requires applies { (S.means s.now).judged goal at.now found ≡ applies }
+    ensures { IfOk result (λ fs. (0 < length fs) × AllIndependent (S.means s.now) goal at.now fs) }
+{
+    let mut held = Vec::new(alloc);
+    held.push(found)?;
+    s.more(goal, 0, at, &mut held, limit)?;
+    Ok(Entries::from_vec(held))
+}
+
+// Up to so many matches of the goal's first share that may be offered together in this state, unless there is none or
+// memory is refused.
+fn held_in<S: System>(
+    alloc: Global,
+    s: &S,
+    goal: S::Goal,
+    at: &S::State,
+    limit: u32,
+) -> Result<Entries<S::Found>, NoMemory>
+    requires { 0 < limit }
+    ensures { IfOk result (λ fs. (0 < length fs) × AllIndependent (S.means s.now) goal at.now fs) }
+{
+    match s.seek(goal, 0, at) {
+        Sought::Applies(found) => held_with(alloc, s, goal, at, found, limit),
+        _ => Err(NoMemory),
+    }
+}
+
+// The answer to a batch from a sender who was told of no entry, if the goal goes on.
+fn send_held<S: System>(
+    s: &S,
+    core: &mut Core<S>,
+    founds: Entries<S::Found>,
+) -> Option<Reply<S::Found, S::Reason>>
+    requires system { s.now ≡ core.old.system }
+    requires some { 0 < length founds }
+    requires independent { AllIndependent (S.means s.now) core.old.goal core.old.base founds }
+    ensures { SameStart core.old core.new }
+{
+    match s.mode(core.goal()) {
+        Mode::Saturate => Some(core.step(s, Event::Batch { told: 0, founds })),
+        Mode::Once => None,
+    }
+}
+
+/// The answer to a batch of up to so many matches of the first share, from a sender who was told of no entry, if it may
+/// come.
+pub(crate) fn send_batch<S: System>(
+    alloc: Global,
+    s: &S,
+    core: &mut Core<S>,
+    base: &S::State,
+    limit: u32,
+) -> Option<Reply<S::Found, S::Reason>>
+    requires system { s.now ≡ core.old.system }
+    requires base { base.now ≡ core.old.base }
+    ensures { SameStart core.old core.new }
+{
+    if limit == 0 {
+        return None;
+    }
+    match held_in(alloc, s, core.goal(), base, limit) {
+        Ok(founds) => send_held(s, core, founds),
+        Err(NoMemory) => None,
+    }
 }

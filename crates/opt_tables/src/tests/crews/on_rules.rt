@@ -49,7 +49,7 @@ fn held_on_rules<R: AllocGlobal + Threads + Wait + Sync>(rt: &R) -> Result<Answe
     let Ok(core) = Core::start(alloc, &system, base, goal, 2) else {
         return Err(Fail::new("no core was made"));
     };
-    let (core, _) = pursue(rt, &system, core, replicas, &pace);
+    let (core, _) = pursue(rt, &system, core, replicas, &pace, 1);
     put_core(core, &mut told);
     put_held(&pace, &mut told);
     if pace.first_of_zero() == Some(false) {

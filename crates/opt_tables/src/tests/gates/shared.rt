@@ -62,7 +62,7 @@ fn told_of_two<R: Threads + Wait + Sync>(rt: &R, alloc: Global) -> Result<Answer
     if even & odd == 0 && even | odd == 255 {
         told.put("0 to 7 once each, ");
     }
-    p = work(rt, &Cells, &gate, p, &mut at, &Free);
+    p = work(rt, &Cells, &gate, p, &mut at, &Free, 1);
     p.join(&gate, zero);
     p.join(&gate, one);
     let (_, entries, left, ending) = gate.close(rt, p).into_parts();

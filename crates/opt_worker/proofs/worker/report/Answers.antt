@@ -1,20 +1,29 @@
+use Rattle.std.proofs.Common.{IfNone}
+use Rattle.std.proofs.lemmas.Result.{IfOk-weaker}
+use Rattle.opt_gate.specs.Pass.{start_of}
+use Rattle.opt_worker.specs.Replica.{IsDone}
+use Rattle.opt_worker.specs.inside.Replies.{TellsEnding}
 use Rattle.opt_worker.proofs.Later.{later_self, turned}
+use Rattle.opt_worker.proofs.Answered.{none_weaker, ended, told_same}
 use Rattle.opt_worker.proofs.worker.report.Goals as goal
 
 pub returns-in_err-found-clause-later : goal.returns-in_err-found-clause-later
 returns-in_err-found-clause-later g c = later_self c.args.pass.now
 
-pub returns-in-Closed-clause-done : goal.returns-in-Closed-clause-done
-returns-in-Closed-clause-done g c =
-    let x = c.in-Closed.field-0 in
-    let end = c.turn-reply.ensures.closed x c.in-Closed.is in
-    record { ended = (x, end, c.turn-reply.ensures.ending x end); own = c.turn-reply.ensures.own; whole = c.turn-reply.ensures.whole }
+pub returns-clause-later : goal.returns-clause-later
+returns-clause-later g c = turned c.args.pass.now c.turn-reply.new.pass c.in_ok-found.field-0 c.turn-reply.result c.turn-reply.ensures.pass c.turn-reply.ensures.further
 
-pub returns-in-Closed-clause-later : goal.returns-in-Closed-clause-later
-returns-in-Closed-clause-later g c = turned c.args.pass.now c.turn-reply.new.pass c.in_ok-found.field-0 c.turn-reply.result c.turn-reply.ensures.pass c.turn-reply.ensures.further
+pub returns-clause-told : goal.returns-clause-told
+returns-clause-told g c =
+    told_same (g.S.System.means c.args.s.now) (start_of c.args.gate.now) c.args.pass.now c.turn-reply.new.pass c.in_ok-found.field-0 c.turn-reply.result c.in_ok-found.ensures.report c.turn-reply.ensures.one_event c.turn-reply.ensures.told
 
-pub returns-in-NoMemory-clause-later : goal.returns-in-NoMemory-clause-later
-returns-in-NoMemory-clause-later g c = turned c.args.pass.now c.turn-reply.new.pass c.in_ok-found.field-0 c.turn-reply.result c.turn-reply.ensures.pass c.turn-reply.ensures.further
-
-pub returns-in-Noted-clause-later : goal.returns-in-Noted-clause-later
-returns-in-Noted-clause-later g c = turned c.args.pass.now c.turn-reply.new.pass c.in_ok-found.field-0 c.turn-reply.result c.turn-reply.ensures.pass c.turn-reply.ensures.further
+pub returns-clause-done : goal.returns-clause-done
+returns-clause-done g c =
+    let m = g.S.System.means c.args.s.now in
+    let turn = c.turn-reply.ensures in
+    let done = IsDone m c.args.gate.now.key c.turn-reply.new.pass in
+    IfOk-weaker c.look_after.result (λ next. IfNone next (TellsEnding c.turn-reply.result)) (λ next. IfNone next done)
+    (λ next h. none_weaker next (λ tells.
+    let e = ended m (start_of c.args.gate.now) c.args.pass.now c.turn-reply.new.pass c.in_ok-found.field-0 c.turn-reply.result turn.one_event turn.closed tells in
+    record { ended = (e.0, e.1, turn.ending e.0 e.1); own = turn.own; whole = turn.whole }) h)
+    c.look_after.ensures.ended

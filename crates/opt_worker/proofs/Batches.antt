@@ -1,0 +1,40 @@
+-- One match is held.
+use Rattle.std.proofs.Common.{◌≡◌, ℕ, ◌<◌, List, [], ◌∷◌, length, sym, subst, arith}
+use Rattle.std.proofs.lemmas.List.Elements.{All-cons, All-nil}
+use Rattle.opt_system.specs.declared.answers.Mode.TheVariants.{Saturate}
+use Rattle.opt_system.specs.Meaning.{Meaning, applies, AllIndependent}
+use Rattle.opt_system.specs.Batch.{AreHeld}
+use Rattle.opt_core.specs.Core.{Core, reached}
+use Rattle.opt_gate.specs.declared.ask.Ask.TheVariants as ask
+use Rattle.opt_gate.specs.declared.key.Key.{Key}
+use Rattle.opt_gate.specs.Pass.{PassView}
+use Rattle.opt_gate.specs.Turn.{MayAsk, entries_told}
+
+module _ {State Found Goal Reason : Type 0} (m : Meaning State Found Goal Reason) where
+  held_one : (goal : Goal) (share limit : ℕ) (at : State) (f : Found) → m.share goal f ≡ share → m.judged goal at f ≡ applies → 0 < limit → AreHeld m goal share at limit (f ∷ [])
+  held_one goal share limit at f of_share now several = record {
+    some = omega arith;
+    few = omega arith;
+    of_share = All-cons (λ (x : Found). m.share goal x ≡ share) f [] of_share (All-nil (λ (x : Found). m.share goal x ≡ share));
+    independent = record {
+      each_applies = All-cons (λ (x : Found). m.judged goal at x ≡ applies) f [] now (All-nil (λ (x : Found). m.judged goal at x ≡ applies));
+      pairwise = λ i j d low high. absurd (omega arith);
+    };
+  }
+
+  pub one_held : (goal goal' : Goal) (share limit : ℕ) (at : State) (f : Found) (held : List Found) → goal' ≡ goal → held ≡ f ∷ [] → m.share goal f ≡ share → m.judged goal at f ≡ applies → 0 < limit
+      → AreHeld m goal' share at limit held
+  one_held goal goal' share limit at f held same is of_share now several =
+      subst (λ (g : Goal). AreHeld m g share at limit held) (sym same) (subst (λ (fs : List Found). AreHeld m goal share at limit fs) (sym is) (held_one goal share limit at f of_share now several))
+
+  -- what is held is some matches, which are independent
+  pub held_whole : (goal : Goal) (share limit : ℕ) (at : State) (held founds : List Found) → founds ≡ held → AreHeld m goal share at limit held → (0 < length founds) × AllIndependent m goal at founds
+  held_whole goal share limit at held founds is all = subst (λ (fs : List Found). (0 < length fs) × AllIndependent m goal at fs) (sym is) (all.some, all.independent)
+
+module _ {System State Found Goal Reason : Type 0} (m : Meaning State Found Goal Reason) where
+  -- what is held may be offered
+  pub may_batch : (start : Core System State Found Goal Reason) (p : PassView (Key (Core System State Found Goal Reason)) Found Reason) (goal : Goal) (share limit : ℕ) (at : State) (held founds : List Found)
+      → m.mode start.goal ≡ Saturate → goal ≡ start.goal → at ≡ reached m start.base (entries_told p) → founds ≡ held → AreHeld m goal share at limit held → MayAsk m start p (ask.Batch founds)
+  may_batch start p goal share limit at held founds goes_on same here is all =
+      let whole = held_whole m goal share limit at held founds is all in
+      (goes_on, whole.0, subst (λ (s : State). AllIndependent m start.goal s founds) here (subst (λ (g : Goal). AllIndependent m g at founds) same whole.1))
