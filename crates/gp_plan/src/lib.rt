@@ -15,6 +15,7 @@
 //! second comes the node that was changed last, where the hint tells one of the share. Contracts see the numbers that
 //! are still to come as a list (`specs/Round`), and say that it has each number of the share. `Plan::hint_after` tells the
 //! hint after a step; no contract says anything of it, since each hint is as good as another for what is found.
+//! `Steps` counts the probes of a search.
 #![tactic(auto)]
 
 mod changes;
@@ -26,6 +27,7 @@ mod planning;
 mod round;
 mod share;
 pub mod sharing;
+mod steps;
 
 pub use hint::Hint;
 pub use operation::{Operation, Plan};
@@ -33,3 +35,4 @@ pub use planned::{Planned, RuleSet};
 pub use planning::plan;
 pub use round::{Round, numbers_of_share};
 pub use share::Share;
+pub use steps::Steps;
