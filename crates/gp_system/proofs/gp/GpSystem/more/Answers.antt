@@ -17,7 +17,7 @@ pub returns-clause-held : goal.returns-clause-held
 returns-clause-held c =
     are_gathered c.args.self.now c.self.inside.planned c.self.inside.sets.now c.self.inside.shares c.args.goal c.args.share c.args.at.now c.graph-graph.result.now.graph c.index-self-call.result c.as_slice-set.result.now c.new-rules.result c.new-part.result
     c.self.view_is c.self.invariant.0 c.self.invariant.1.well_formed (omega (arith, c.if-call-self.false)) c.as_slice-set.ensures c.graph-graph.ensures c.new-rules.ensures c.new-part.ensures c.args.limit c.args.held.now.items c.gather.new.held.items
-    (numbered c.graph-graph.result.now.graph c.next_numbers-_sound.ensures.sound) c.requires c.gather.ensures.first c.gather.ensures.held
+    (numbered c.graph-graph.result.now.graph c.next_numbers-sound.ensures.sound) c.requires c.gather.ensures.first c.gather.ensures.held
 
 pub returns-clause-full : goal.returns-clause-full
 returns-clause-full c =

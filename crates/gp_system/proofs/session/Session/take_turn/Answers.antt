@@ -7,20 +7,20 @@ pub returns-in-Bound-clause-going : goal.returns-in-Bound-clause-going
 returns-in-Bound-clause-going c = turns_bound _ _ _ _ (turns_none _ _) c.in-Bound.ensures.turned
 
 pub returns-in-Stepped-clause-going : goal.returns-in-Stepped-clause-going
-returns-in-Stepped-clause-going c = goes_on _ _ _ _ c.in-Made.ensures.turned c.in-Stepped.ensures.called
+returns-in-Stepped-clause-going c = goes_on _ _ _ _ c.in-Made.ensures.turned (rw c.in-Stepped.is at c.take_looking-called.ensures.called)
 
 pub returns-in-Stepped-clause-grows : goal.returns-in-Stepped-clause-grows
-returns-in-Stepped-clause-grows c = grows_on _ _ _ c.in-Made.ensures.grows c.take_looking.ensures.grows
+returns-in-Stepped-clause-grows c = grows_on _ _ _ c.in-Made.ensures.grows c.take_looking-called.ensures.grows
 
 pub returns-in-Bound-called-clause-going : goal.returns-in-Bound-called-clause-going
-returns-in-Bound-called-clause-going c = turns_spent _ _ _ _ _ (turns_none _ _) c.in-Made.ensures.turned c.in-Bound-called.ensures.called
+returns-in-Bound-called-clause-going c = turns_spent _ _ _ _ _ (turns_none _ _) c.in-Made.ensures.turned (rw c.in-Bound-called.is at c.take_looking-called.ensures.called)
 
 pub returns-in-Fault-clause-going : goal.returns-in-Fault-clause-going
-returns-in-Fault-clause-going c = turns_faulty _ _ _ _ _ _ _ (turns_none _ _) c.in-Made.ensures.turned c.in-Fault.ensures.called
+returns-in-Fault-clause-going c = turns_faulty _ _ _ _ _ _ _ (turns_none _ _) c.in-Made.ensures.turned (rw c.in-Fault.is at c.take_looking-called.ensures.called)
 
 pub returns-in-Blocked-clause-going : goal.returns-in-Blocked-clause-going
 returns-in-Blocked-clause-going c =
-    turns_end _ _ _ _ _ _ _ (turns_none _ _) c.in-Made.ensures.turned c.in-Blocked.ensures.called c.end.ensures.ended (same_graph _ _ _ _ c.in-Made.ensures.turned c.in-Blocked.ensures.called)
+    turns_end _ _ _ _ _ _ _ (turns_none _ _) c.in-Made.ensures.turned (rw c.in-Blocked.is at c.take_looking-called.ensures.called) c.end.ensures.ended (same_graph _ _ _ _ c.in-Made.ensures.turned (rw c.in-Blocked.is at c.take_looking-called.ensures.called))
 
 pub returns-in-Blocked-clause-grows : goal.returns-in-Blocked-clause-grows
-returns-in-Blocked-clause-grows c = grows_on _ _ _ c.in-Made.ensures.grows (grows_on _ _ _ c.take_looking.ensures.grows c.end.ensures.grows)
+returns-in-Blocked-clause-grows c = grows_on _ _ _ c.in-Made.ensures.grows (grows_on _ _ _ c.take_looking-called.ensures.grows c.end.ensures.grows)
