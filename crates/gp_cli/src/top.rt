@@ -23,7 +23,7 @@ use gp_inputs::load_both;
 use gp_io::{Files, Sink};
 use gp_memory::NoMemory;
 use gp_reader::laws::{texts_have_one_fault, texts_have_one_program, texts_have_one_tree};
-use gp_reply::{Reply, Said, Status, Stop, or_stopped, settled};
+use gp_reply::{Reply, Said, Status, Stop, or_stopped, reply_of, settled};
 use gp_system::Crew;
 use gp_words::{Command, RunCommand, command_of};
 use opt_worker::Pacing;
@@ -102,6 +102,13 @@ fn asks(command: Option<Command<'_>>) -> bool
     }
 }
 
+// The texts of an answer, which is let go.
+fn texts_of(alloc: Global, asked: bool, said: Said<'_>) -> Result<Reply, NoMemory>
+    ensures { IfOk result (λ r. Shows asked (said_of said.entry) (status_code r.status) r.journal.items r.result.items r.err.items) }
+{
+    reply_of(alloc, asked, &said)
+}
+
 fn reply_to<F: Files, R: Threads + Wait + Sync>(
     rt: &R,
     alloc: Global,
@@ -115,7 +122,7 @@ fn reply_to<F: Files, R: Threads + Wait + Sync>(
 {
     let command = command_of(alloc, words)?;
     let said = said_by(rt, alloc, command, files, pace)?;
-    said.into_reply(alloc, asks(command))
+    texts_of(alloc, asks(command), said)
 }
 
 // Answers these words: all text is made before the first write.

@@ -1,7 +1,7 @@
 use Rattle.std.proofs.lemmas.Result.{IfOk-weaker}
 use Rattle.gp_reply.specs.Texts.{derivation_shown, no_derivation_shown, formatted_shown, walked_shown, usage_shown, long_program_shown, long_host_shown, long_trace_shown, long_result_shown, long_script_shown, bad_program_shown, bad_host_shown, bad_trace_shown, bad_script_shown, bound_shown, number_shown, unread_shown}
 use Rattle.gp_reply.proofs.Shown.{on_err_shown, on_out_shown}
-use Rattle.gp_reply.proofs.texts.Said.into_reply.Goals as goal
+use Rattle.gp_reply.proofs.texts.reply_of.Goals as goal
 
 pub returns-in-Derivation : goal.returns-in-Derivation
 returns-in-Derivation c = rw c.in-Derivation.is (IfOk-weaker c.verdict.result _ _ (λ r h. on_out_shown derivation_shown h) c.verdict.ensures)
@@ -10,10 +10,10 @@ pub returns-in-NoDerivation : goal.returns-in-NoDerivation
 returns-in-NoDerivation c = rw c.in-NoDerivation.is (IfOk-weaker c.verdict-in-NoDerivation.result _ _ (λ r h. on_out_shown no_derivation_shown h) c.verdict-in-NoDerivation.ensures)
 
 pub returns-in-Formatted : goal.returns-in-Formatted
-returns-in-Formatted c = rw c.in-Formatted.is (on_out_shown formatted_shown c.whole.ensures)
+returns-in-Formatted c = rw c.in-Formatted.is (IfOk-weaker c.verdict-in-Formatted.result _ _ (λ r h. on_out_shown formatted_shown h) (rw c.deref.ensures.value at c.verdict-in-Formatted.ensures))
 
 pub returns-in-Walked : goal.returns-in-Walked
-returns-in-Walked c = rw c.in-Walked.is (on_out_shown walked_shown c.whole-in-Walked.ensures)
+returns-in-Walked c = rw c.in-Walked.is (IfOk-weaker c.verdict-in-Walked.result _ _ (λ r h. on_out_shown walked_shown h) (rw c.deref-in-Walked.ensures.value at c.verdict-in-Walked.ensures))
 
 pub returns-in-Usage : goal.returns-in-Usage
 returns-in-Usage c = rw c.in-Usage.is (IfOk-weaker c.refusal.result _ _ (λ r h. on_err_shown usage_shown h) c.refusal.ensures)
