@@ -39,14 +39,6 @@ pub can_read : {old new : KnownFiles} {name : Name} (bytes : List ℕ) → (Rose
 can_read bytes n h (risen r) = n r
 can_read {old} {new} {name} bytes n h (lacking l) = not_both old.content name bytes h l
 
-pub can_read : {old new : KnownFiles} {name : Name} (bytes : List ℕ) → (Rose old.faults new.faults → ⊥) → HasFile old.content name bytes → CannotRead old new name → ⊥
-can_read bytes n h (risen r) = n r
-can_read {old} {new} {name} bytes n h (lacking l) = not_both old.content name bytes h l
-
-pub can_read : {old new : KnownFiles} {name : Name} (bytes : List ℕ) → (Rose old.faults new.faults → ⊥) → HasFile old.content name bytes → CannotRead old new name → ⊥
-can_read bytes n h (risen r) = n r
-can_read {old} {new} {name} bytes n h (lacking l) = not_both old.content name bytes h l
-
 module _ {content : Option Content} {name : Name} where
   pub program_bytes : HasFaultyProgram content name → (bytes : List ℕ) × HasFile content name bytes
   program_bytes (has_long_program f) = (f.bytes, f.file)
