@@ -1,5 +1,5 @@
 -- From what is made and run of a demo to what it answers.
-use Rattle.std.proofs.Common.{◌≡◌, ℕ, List, sym, subst}
+use Rattle.std.proofs.Common.{List, sym, subst}
 use Rattle.std.specs.Prelude.{Result, Ok, Err, IfOk}
 use Rattle.gp_memory.specs.declared.refusal.NoMemory.{NoMemory}
 use Rattle.gp_values.specs.Names.{Name}
@@ -7,26 +7,18 @@ use Rattle.gp_values.specs.Graph.{Graph as AnyGraph}
 use Rattle.gp_graph.specs.declared.graph.Graph.{Graph}
 use Rattle.gp_syntax.specs.declared.command.ProgramParts.{ProgramParts}
 use Rattle.gp_syntax.specs.Run.{Program}
-use Rattle.gp_reader.specs.declared.fault.ProgramFault.{ProgramFault}
-use Rattle.gp_reader.specs.Program.{IsFaultyText}
-use Rattle.gp_hostfile.specs.declared.fault.HostFault.{HostFault}
-use Rattle.gp_hostfile.specs.Host.{IsHostText, IsHostFault}
+use Rattle.gp_hostfile.specs.Host.{IsHostText}
 use Rattle.gp_words.specs.CommandLine.{DemoCommand}
 use Rattle.gp_reply.specs.declared.said.Said.{Said}
 use Rattle.gp_reply.specs.declared.said.Stop.{Stop}
 use Rattle.gp_reply.specs.declared.said.Stop.TheVariants as stops
 use Rattle.gp_reply.specs.Texts as texts
 use Rattle.gp_reply.specs.Said.{said_of}
-use Rattle.gp_cli.specs.Answer.{TellsProgram, Comes, demo_program, demo_host, demo_bound, demo_choices, DemoAnswers, demo_program_is_bad, demo_host_is_bad, demo_runs}
-use Rattle.gp_cli.specs.inside.Parts.{FaultOfBoth, in_program, in_host, BothOrFaults, MakesBoth, SaysOfRun}
+use Rattle.gp_inputs.specs.Inputs.{TellsProgram}
+use Rattle.gp_cli.specs.Answer.{Comes, demo_program, demo_host, demo_bound, demo_choices, DemoAnswers, demo_program_is_bad, demo_host_is_bad, demo_runs}
+use Rattle.gp_inputs.specs.Loads.{FaultOfBoth, in_program, in_host, BothOrFaults}
+use Rattle.gp_cli.specs.inside.Parts.{MakesBoth, SaysOfRun}
 use Rattle.gp_cli.proofs.Loads.{IfSettled}
-
-module _ (program host : List ℕ) where
-  pub in_program_stop : (said : texts.Said) → (f : ProgramFault) × (said ≡ texts.bad_program f) × IsFaultyText program f → FaultOfBoth program host said
-  in_program_stop _ h = subst (FaultOfBoth program host) (sym h.1) (in_program h.2)
-
-  pub in_host_stop : {p : Program} {names : List Name} → TellsProgram program p names → (said : texts.Said) → (f : HostFault) × (said ≡ texts.bad_host f) × IsHostFault host f → FaultOfBoth program host said
-  in_host_stop t _ h = subst (FaultOfBoth program host) (sym h.1) (in_host t h.2)
 
 of_fault : {k : DemoCommand} {said : texts.Said} → FaultOfBoth (demo_program k) (demo_host k) said → DemoAnswers k said
 of_fault (in_program f) = demo_program_is_bad f

@@ -3,9 +3,7 @@ pub mod Causes
 pub mod Commands
 pub mod Completeness
 pub mod Demos
-pub mod Faults
 pub mod Formats
-pub mod Held
 pub mod Loads
 pub mod Pieces
 pub mod Ran

@@ -2,12 +2,12 @@
 
 ghost use Rattle.gp_gen.specs.Host.{IsSize};
 ghost use Rattle.gp_words.specs.Told.{demo_now};
-ghost use Rattle.gp_cli.specs.inside.Parts.{BothOrFaults, MakesBoth, SaysOfRun, RunsDemo};
+ghost use Rattle.gp_cli.specs.inside.Parts.{MakesBoth, SaysOfRun, RunsDemo};
 
-use crate::parsed::{host_of, program_of};
 use crate::run::run;
 use gp_gen::generate;
 use gp_graph::Graph;
+use gp_inputs::both_of;
 use gp_memory::NoMemory;
 use gp_reply::{Said, Stop};
 use gp_syntax::Program;
@@ -23,15 +23,6 @@ const BOUND: u64 = 1 << 40;
 
 /// With what the choices of its run begin.
 const CHOICES: u64 = 0;
-
-// The program and the graph of two texts.
-fn both_of<'a>(alloc: Global, program: &[u8], host: &[u8]) -> Result<(Program, Graph), Stop<'a>>
-    ensures { BothOrFaults program.now host.now result }
-{
-    let program = program_of(alloc, program)?;
-    let graph = host_of(alloc, host)?;
-    Ok((program, graph))
-}
 
 // Those of the texts of the demo, which are made.
 fn made<'a>(alloc: Global, command: DemoCommand) -> Result<(Program, Graph), Stop<'a>>
@@ -67,8 +58,9 @@ pub(crate) fn demo<'a, R: Threads + Wait + Sync>(
 {
     let (program, graph) = made(alloc, command)?;
     let crew = Crew {
-        workers: command.workers,
-        fan: command.fan,
+        workers: command.crew.workers,
+        fan: command.crew.fan,
+        batch: command.crew.batch,
         bound: BOUND,
     };
     demo_said(

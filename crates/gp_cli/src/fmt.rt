@@ -7,8 +7,8 @@ ghost use Rattle.gp_reply.specs.Texts.{formatted};
 ghost use Rattle.gp_reply.specs.Said.{said_of};
 ghost use Rattle.gp_cli.specs.inside.Parts.{FormatsFile};
 
-use crate::files::load_tree;
 use gp_fmt::print_program;
+use gp_inputs::load_tree;
 use gp_io::Files;
 use gp_memory::NoMemory;
 use gp_reply::{Said, Stop, or_stopped};

@@ -3,8 +3,8 @@
 ghost use Rattle.gp_words.specs.Told.{step_now};
 ghost use Rattle.gp_cli.specs.inside.Parts.{StepsFiles};
 
-use crate::files::{load_both, load_script};
 use crate::run::run;
+use gp_inputs::{load_both, load_script};
 use gp_io::Files;
 use gp_reply::{Said, Stop, or_stopped};
 use gp_system::Crew;
@@ -29,6 +29,7 @@ pub(crate) fn step<'a, F: Files, R: Threads + Wait + Sync>(
     let crew = Crew {
         workers: 1,
         fan: 1,
+        batch: 1,
         bound: command.bound,
     };
     let said = run(rt, alloc, &program, graph, crew, command.seed, pace)?;

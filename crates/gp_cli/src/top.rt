@@ -15,15 +15,15 @@ ghost use Rattle.gp_reply.specs.Said.{said_of};
 use crate::check::check;
 use crate::deliver::deliver;
 use crate::demo::demo;
-use crate::files::load_both;
 use crate::fmt::fmt;
 use crate::run::run;
 use crate::step::step;
 use gp_fmt::laws::{canonical_texts_are_read, canonical_texts_stay};
+use gp_inputs::load_both;
 use gp_io::{Files, Sink};
 use gp_memory::NoMemory;
 use gp_reader::laws::{texts_have_one_fault, texts_have_one_program, texts_have_one_tree};
-use gp_reply::{Reply, Said, Status, Stop, or_stopped, reply_of, settled};
+use gp_reply::{Reply, Said, Status, Stop, or_stopped, settled};
 use gp_system::Crew;
 use gp_words::{Command, RunCommand, command_of};
 use opt_worker::Pacing;
@@ -43,8 +43,9 @@ fn said_by_files<'a, F: Files, R: Threads + Wait + Sync>(
 {
     let (program, graph) = load_both(alloc, files, command.program, command.host)?;
     let crew = Crew {
-        workers: command.workers,
-        fan: command.fan,
+        workers: command.crew.workers,
+        fan: command.crew.fan,
+        batch: command.crew.batch,
         bound: command.bound,
     };
     or_stopped(run(rt, alloc, &program, graph, crew, command.seed, pace))
@@ -101,13 +102,6 @@ fn asks(command: Option<Command<'_>>) -> bool
     }
 }
 
-// The texts of an answer, which is let go.
-fn texts_of(alloc: Global, asked: bool, said: Said<'_>) -> Result<Reply, NoMemory>
-    ensures { IfOk result (λ r. Shows asked (said_of said.entry) (status_code r.status) r.journal.items r.result.items r.err.items) }
-{
-    reply_of(alloc, asked, &said)
-}
-
 fn reply_to<F: Files, R: Threads + Wait + Sync>(
     rt: &R,
     alloc: Global,
@@ -121,7 +115,7 @@ fn reply_to<F: Files, R: Threads + Wait + Sync>(
 {
     let command = command_of(alloc, words)?;
     let said = said_by(rt, alloc, command, files, pace)?;
-    texts_of(alloc, asks(command), said)
+    said.into_reply(alloc, asks(command))
 }
 
 // Answers these words: all text is made before the first write.

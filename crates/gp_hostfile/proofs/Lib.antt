@@ -7,6 +7,7 @@ pub mod Grammars
 pub mod Hosts
 pub mod Always
 pub mod Answered
+pub mod Puts
 pub mod Sorted
 pub mod Lines
 pub mod GraphPieces

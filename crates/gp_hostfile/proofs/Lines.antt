@@ -1,6 +1,5 @@
 -- The lines of edges, and the text of a graph.
-use Rattle.std.proofs.Common.{◌≡◌, ℕ, suc, ◌+◌, ◌<◌, ◌≤◌, Bool, false, List, [], ◌∷◌, ◌++◌, length, get_or, map, drop, refl, sym, ap, subst, ◌∙◌, append_assoc, add-one, drop-cons, arith}
-use Rattle.std.proofs.Math.ListN.{drop_of_length-le}
+use Rattle.std.proofs.Common.{◌≡◌, ℕ, zero, suc, ◌+◌, ◌<◌, Bool, false, List, [], ◌∷◌, ◌++◌, length, get_or, map, take, refl, sym, ap, subst, ◌∙◌, append_assoc, arith}
 use Rattle.std.proofs.lemmas.List.{append-nil, map-append, length-map}
 use Rattle.std.proofs.lemmas.Grind.{flat_map-append}
 use Rattle.std.specs.Prelude.{codes, flat_map, nat_eq, if◌then◌else◌, IsPermutation, sum_by, Result, Ok, Err, OnErr}
@@ -35,11 +34,6 @@ one_node g n =
     ap (flat_map node_line) (entries_from-one_more g.nodes 0 n ∙ ap (λ k. nodes_from g 0 n ++ numbered k (node_at g k)) z)
     ∙ flat_map-append node_line (nodes_from g 0 n) (numbered n (node_at g n))
 
-pub node_turn : (g : Graph) (n : ℕ) (old mid new : List ℕ) → mid ≡ old ++ flat_map node_line (nodes_from g 0 n) → new ≡ mid ++ flat_map node_line (numbered n (node_at g n)) → new ≡ old ++ flat_map node_line (nodes_from g 0 (n + 1))
-node_turn g n old mid new a b =
-    b ∙ ap (λ t. t ++ flat_map node_line (numbered n (node_at g n))) a ∙ append_assoc old (flat_map node_line (nodes_from g 0 n)) (flat_map node_line (numbered n (node_at g n)))
-    ∙ ap (λ t. old ++ t) (sym (one_node g n))
-
 pub edge_turn : (g : Graph) (e : ℕ) (mid new : List EdgeKey) → mid ≡ entry_keys (edges_from g 0 e) → new ≡ mid ++ entry_keys (numbered e (edge_at g e)) → new ≡ entry_keys (edges_from g 0 (e + 1))
 edge_turn g e mid new a b =
     let z : 0 + e ≡ e = omega arith in
@@ -48,18 +42,26 @@ edge_turn g e mid new a b =
 
 -- ---- the lines one by one
 
-pub line_turn : (ls : List EdgeLine) (i : ℕ) (l : EdgeLine) (old mid new : List ℕ) → i < length ls → l ≡ get_or ls i l
-    → mid ++ key_lines i (line_keys (drop i ls)) ≡ old ++ key_lines 0 (line_keys ls) → new ≡ mid ++ key_line i (line_key l)
-    → new ++ key_lines (i + 1) (line_keys (drop (i + 1) ls)) ≡ old ++ key_lines 0 (line_keys ls)
+pub no_line : (ls : List EdgeLine) → key_lines 0 (line_keys (take 0 ls)) ≡ []
 unfolding key_lines
-line_turn ls i l old mid new lt is before e =
-    let d : drop i ls ≡ l ∷ drop (i + 1) ls = drop-cons ls i l lt ∙ ap (λ y. y ∷ drop (suc i) ls) (sym is) ∙ rw add-one refl in
-    ap (λ t. t ++ key_lines (i + 1) (line_keys (drop (i + 1) ls))) e ∙ append_assoc mid (key_line i (line_key l)) (key_lines (i + 1) (line_keys (drop (i + 1) ls)))
-    ∙ ap (λ xs. mid ++ key_lines i (line_keys xs)) (sym d) ∙ before
+no_line ls = refl
 
-pub lines_end : (ls : List EdgeLine) (i : ℕ) (old mid : List ℕ) → length ls ≤ i → mid ++ key_lines i (line_keys (drop i ls)) ≡ old ++ key_lines 0 (line_keys ls) → mid ≡ old ++ key_lines 0 (line_keys ls)
+one_line : (j : ℕ) (ls : List EdgeLine) (i : ℕ) (l : EdgeLine) → i < length ls → l ≡ get_or ls i l → key_lines j (line_keys (take (suc i) ls)) ≡ key_lines j (line_keys (take i ls)) ++ key_line (j + i) (line_key l)
 unfolding key_lines
-lines_end ls i old mid le before = sym (append-nil mid) ∙ ap (λ xs. mid ++ key_lines i (line_keys xs)) (sym (drop_of_length-le ls le)) ∙ before
+one_line j [] i l lt e = absurd (omega (arith, lt))
+one_line j (y ∷ ys) zero l lt e =
+    let z : j ≡ j + 0 = omega arith in
+    append-nil (key_line j (line_key y)) ∙ ap (λ k. key_line k (line_key y)) z ∙ ap (λ x. key_line (j + 0) (line_key x)) (sym e)
+one_line j (y ∷ ys) (suc i) l lt e =
+    let s : j + 1 + i ≡ j + suc i = omega arith in
+    ap (λ t. key_line j (line_key y) ++ t) (one_line (j + 1) ys i l (omega (arith, lt)) e ∙ ap (λ k. key_lines (j + 1) (line_keys (take i ys)) ++ key_line k (line_key l)) s)
+    ∙ sym (append_assoc (key_line j (line_key y)) (key_lines (j + 1) (line_keys (take i ys))) (key_line (j + suc i) (line_key l)))
+
+pub line_more : (ls : List EdgeLine) (i : ℕ) (l : EdgeLine) → i < length ls → l ≡ get_or ls i l → key_lines 0 (line_keys (take (i + 1) ls)) ≡ key_lines 0 (line_keys (take i ls)) ++ key_line i (line_key l)
+line_more ls i l lt e =
+    let n : i + 1 ≡ suc i = omega arith in
+    let z : 0 + i ≡ i = omega arith in
+    ap (λ k. key_lines 0 (line_keys (take k ls))) n ∙ one_line 0 ls i l lt e ∙ ap (λ k. key_lines 0 (line_keys (take i ls)) ++ key_line k (line_key l)) z
 
 -- ---- the order
 

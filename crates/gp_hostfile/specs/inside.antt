@@ -3,3 +3,4 @@ pub mod Lines
 pub mod Held
 pub mod Edges
 pub mod Passing
+pub mod Puts

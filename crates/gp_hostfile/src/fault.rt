@@ -3,39 +3,64 @@
 use gp_memory::NoMemory;
 use gp_tokens::{LexFault, Text};
 use std::alloc::AllocError;
+use std::error::Error;
 use std::fmt::{Debug, Display, Formatter, Result, Write};
-use thiserror::Error;
 
 /// Why a host text gave no graph: its first fault, in the order of these variants. Those of one variant go by the
 /// order of the text, and those of nodes come before those of edges.
-#[derive(Drop, Error)]
+#[derive(Drop)]
 pub enum HostFault {
     /// The text has no tokens, and this is why.
-    #[error("{0}")]
     Lex(LexFault),
     /// The tokens are no host. The number is the line, counted from 1, of a token that fits nothing, or that on which
     /// the text ends.
-    #[error("Syntax {0}")]
     Syntax(u64),
     /// An integer of a label is 2 to the power of 127; the offset of its Number in bytes.
-    #[error("NumberRange {0}")]
     NumberRange(u64),
     /// The name of a node stood at a node before.
-    #[error("TwoNodes {0}")]
     TwoNodes(Text),
     /// The name of an edge stood at an edge before.
-    #[error("TwoEdges {0}")]
     TwoEdges(Text),
     /// The end of an edge names no node.
-    #[error("NoSuchEnd {0}")]
     NoSuchEnd(Text),
     /// The word at the place of a mark is no mark of nodes, or of edges; the name of that node or edge.
-    #[error("WrongMark {0}")]
     WrongMark(Text),
     /// Memory was refused.
-    #[error("NoMemory")]
     NoMemory,
 }
+
+impl HostFault {
+    // The kind of the fault, before what more is shown of it.
+    fn kind(&self) -> &'static str {
+        match self {
+            HostFault::Lex(_) => "",
+            HostFault::Syntax(_) => "Syntax ",
+            HostFault::NumberRange(_) => "NumberRange ",
+            HostFault::TwoNodes(_) => "TwoNodes ",
+            HostFault::TwoEdges(_) => "TwoEdges ",
+            HostFault::NoSuchEnd(_) => "NoSuchEnd ",
+            HostFault::WrongMark(_) => "WrongMark ",
+            HostFault::NoMemory => "NoMemory",
+        }
+    }
+}
+
+impl Display for HostFault {
+    fn fmt<W: Write>(&self, f: &mut Formatter<W>) -> Result {
+        f.write_str(self.kind())?;
+        match self {
+            HostFault::Lex(fault) => Display::fmt(fault, f),
+            HostFault::Syntax(number) | HostFault::NumberRange(number) => Display::fmt(number, f),
+            HostFault::TwoNodes(name)
+            | HostFault::TwoEdges(name)
+            | HostFault::NoSuchEnd(name)
+            | HostFault::WrongMark(name) => Display::fmt(name, f),
+            HostFault::NoMemory => Ok(()),
+        }
+    }
+}
+
+impl Error for HostFault {}
 
 // As it is shown to users.
 impl Debug for HostFault {

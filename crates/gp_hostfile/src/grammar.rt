@@ -4,7 +4,7 @@ ghost use Rattle.std.specs.Prelude.{◌≡◌};
 ghost use Rattle.gp_grammar.specs.Cursor.{Reads, ReadsAs};
 ghost use Rattle.gp_grammar.specs.Reading.{reader_of};
 ghost use Rattle.gp_hostfile.specs.Grammar as spec;
-ghost use Rattle.gp_hostfile.specs.inside.Edges.{rest_of_edge};
+ghost use Rattle.gp_hostfile.specs.inside.Edges.{item, placed_label, last_label};
 ghost use Rattle.gp_hostfile.specs.inside.Passing.{Passes};
 
 use crate::tree::{AtomTree, AtomTrees, EdgeTree, HostTree, NodeTree};
@@ -121,21 +121,40 @@ fn read_root(tokens: &mut Tokens<'_, '_>) -> Result<bool, ReadError>
     Err(tokens.refusal())
 }
 
-// Node = "(" Item ["(" "R" ")"] "," Label [Position] ")"
-#[tactic(auto, unfolding(crate::specs::Grammar::node))]
-fn read_node<'t>(tokens: &mut Tokens<'_, 't>, _nothing: ()) -> Result<NodeTree<'t>, ReadError>
-    ensures { Reads (reader_of spec.node tokens.old) result tokens.new }
+// A name behind a sign.
+#[tactic(auto, unfolding(crate::specs::inside::Edges::item))]
+fn read_item<'s, 't>(tokens: &mut Tokens<'s, 't>, sign: Want) -> Result<&'s Token<'t>, ReadError>
+    ensures { ReadsAs (λ x. x.now) (reader_of (item sign) tokens.old) result tokens.new }
 {
-    if !tokens.eat(OPEN) {
+    if !tokens.eat(sign) {
         return Err(tokens.refusal());
     }
-    let name = tokens.expect(Want::Item)?;
-    let root = read_root(tokens)?;
+    tokens.expect(Want::Item)
+}
+
+// "," Label [Position] ")"
+#[tactic(auto, unfolding(crate::specs::inside::Edges::placed_label))]
+fn read_placed_label<'t>(
+    tokens: &mut Tokens<'_, 't>,
+) -> Result<(AtomTrees, Option<Slice<'t>>), ReadError>
+    ensures { Reads (reader_of placed_label tokens.old) result tokens.new }
+{
     tokens.expect(COMMA)?;
-    let (label, mark) = read_label(tokens)?;
+    let label = read_label(tokens)?;
     if !passes_place(tokens) || !tokens.eat(CLOSE) {
         return Err(tokens.refusal());
     }
+    Ok(label)
+}
+
+// Node = "(" Item ["(" "R" ")"] "," Label [Position] ")"
+#[tactic(auto, using(crate::proofs::Edges::node_parts), unfolding(crate::specs::inside::Edges::node_in_parts))]
+fn read_node<'t>(tokens: &mut Tokens<'_, 't>, _nothing: ()) -> Result<NodeTree<'t>, ReadError>
+    ensures { Reads (reader_of spec.node tokens.old) result tokens.new }
+{
+    let name = read_item(tokens, OPEN)?;
+    let root = read_root(tokens)?;
+    let (label, mark) = read_placed_label(tokens)?;
     Ok(NodeTree {
         name: name.text.again(),
         label,
@@ -144,33 +163,32 @@ fn read_node<'t>(tokens: &mut Tokens<'_, 't>, _nothing: ()) -> Result<NodeTree<'
     })
 }
 
+// "," Label ")"
+#[tactic(auto, unfolding(crate::specs::inside::Edges::last_label))]
+fn read_last_label<'t>(
+    tokens: &mut Tokens<'_, 't>,
+) -> Result<(AtomTrees, Option<Slice<'t>>), ReadError>
+    ensures { Reads (reader_of last_label tokens.old) result tokens.new }
+{
+    tokens.expect(COMMA)?;
+    let label = read_label(tokens)?;
+    if !tokens.eat(CLOSE) {
+        return Err(tokens.refusal());
+    }
+    Ok(label)
+}
+
 // Edge = "(" Item "," Item "," Item "," Label ")"
-#[tactic(auto, unfolding(crate::specs::Grammar::edge))]
+#[tactic(auto, using(crate::proofs::Edges::edge_parts), unfolding(crate::specs::inside::Edges::edge_in_parts))]
 fn read_edge<'t>(tokens: &mut Tokens<'_, 't>, _nothing: ()) -> Result<EdgeTree<'t>, ReadError>
     ensures { Reads (reader_of spec.edge tokens.old) result tokens.new }
 {
-    tokens.expect(OPEN)?;
-    let name = tokens.expect(Want::Item)?;
-    tokens.expect(COMMA)?;
-    read_rest_of_edge(tokens, &name.text)
-}
-
-// Item "," Item "," Label ")", behind the name of an edge
-#[tactic(auto, unfolding(crate::specs::inside::Edges::rest_of_edge))]
-fn read_rest_of_edge<'t>(
-    tokens: &mut Tokens<'_, 't>,
-    name: &Slice<'t>,
-) -> Result<EdgeTree<'t>, ReadError>
-    ensures { Reads (reader_of (rest_of_edge name.now) tokens.old) result tokens.new }
-{
-    let source = tokens.expect(Want::Item)?;
-    tokens.expect(COMMA)?;
-    let target = tokens.expect(Want::Item)?;
-    tokens.expect(COMMA)?;
-    let (label, mark) = read_label(tokens)?;
-    tokens.expect(CLOSE)?;
+    let name = read_item(tokens, OPEN)?;
+    let source = read_item(tokens, COMMA)?;
+    let target = read_item(tokens, COMMA)?;
+    let (label, mark) = read_last_label(tokens)?;
     Ok(EdgeTree {
-        name: name.again(),
+        name: name.text.again(),
         source: source.text.again(),
         target: target.text.again(),
         label,

@@ -15,6 +15,7 @@ mod grammar;
 pub mod laws;
 mod line;
 mod read;
+mod sheet;
 mod text;
 mod tree;
 

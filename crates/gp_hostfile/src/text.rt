@@ -1,16 +1,16 @@
 //! The texts of graphs.
 
-ghost use Rattle.std.specs.Prelude.{◌≡◌, ◌∷◌, [], ◌++◌, ◌<◌, codes, flat_map, IfOk, OnOk, OnErr};
-ghost use Rattle.std.specs.Fmt.{decimal};
+ghost use Rattle.std.specs.Prelude.{◌≡◌, ◌++◌, codes, flat_map, IfOk, OnOk, OnErr};
 ghost use Rattle.gp_values.specs.Graph.{IsGraph, node_at, edge_at};
 ghost use Rattle.gp_values.specs.Order.{numbered, nodes_from, edges_from};
 ghost use Rattle.gp_hostfile.specs.GraphText.{IsGraphText, WritesGraph, BeginsGraph, root_text, node_mark_text, edge_mark_text, node_line};
 ghost use Rattle.gp_hostfile.specs.inside.Lines.{line_key, line_keys, entry_keys, key_line, key_lines};
+ghost use Rattle.gp_hostfile.specs.inside.Puts.{Puts, Says};
 
+use crate::sheet::Sheet;
 use gp_graph::Graph;
 use gp_memory::NoMemory;
 use gp_values::{EdgeMark, List, NodeMark};
-use itoa::Buffer;
 use std::alloc::Global;
 
 /// Writes the text of the graph: the nodes in the order of their numbers, and the edges in the order of source,
@@ -30,69 +30,50 @@ fn graph_text(alloc: Global, graph: &Graph) -> Result<Vec<u8>, NoMemory>
 {
     let mut edges = edge_lines(alloc, graph)?;
     edges.sort()?;
-    let mut text = Vec::new(alloc);
-    write(b"[\n", &mut text)?;
-    write_nodes(graph, &mut text)?;
-    write(b"|\n", &mut text)?;
-    write_edges(&edges, &mut text)?;
-    write(b"]\n", &mut text)?;
-    Ok(text)
+    sheet_of(alloc, graph, &edges).into_text()
 }
 
-fn write(piece: &[u8], text: &mut Vec<u8>) -> Result<(), NoMemory>
-    ensures { OnOk result (text.new.items ≡ text.old.items ++ piece.now) }
+// The text, with the lines of the edges in this order.
+fn sheet_of(alloc: Global, graph: &Graph, edges: &[EdgeLine]) -> Sheet
+    ensures { Says result (codes "[\n" ++ flat_map node_line (nodes_from graph.now.graph 0 graph.now.graph.next_node) ++ codes "|\n" ++ key_lines 0 (line_keys edges.now) ++ codes "]\n") }
 {
-    text.extend_from_slice(piece)?;
-    Ok(())
+    let mut sheet = Sheet::new(alloc);
+    sheet.put(b"[\n");
+    put_nodes(graph, &mut sheet);
+    sheet.put(b"|\n");
+    put_edges(edges, &mut sheet);
+    sheet.put(b"]\n");
+    sheet
 }
 
-fn write_number(number: u64, text: &mut Vec<u8>) -> Result<(), NoMemory>
-    ensures { OnOk result (text.new.items ≡ text.old.items ++ decimal number) }
-{
-    write(Buffer::new().format(number).as_bytes(), text)
-}
-
-fn write_numbered(piece: &[u8], number: u64, text: &mut Vec<u8>) -> Result<(), NoMemory>
-    ensures { OnOk result (text.new.items ≡ (text.old.items ++ piece.now) ++ decimal number) }
-{
-    write(piece, text)?;
-    write_number(number, text)
-}
-
-fn write_nodes(graph: &Graph, text: &mut Vec<u8>) -> Result<(), NoMemory>
-    ensures { OnOk result (text.new.items ≡ text.old.items ++ flat_map node_line (nodes_from graph.now.graph 0 graph.now.graph.next_node)) }
+fn put_nodes(graph: &Graph, sheet: &mut Sheet)
+    ensures { Puts sheet.old sheet.new (flat_map node_line (nodes_from graph.now.graph 0 graph.now.graph.next_node)) }
 {
     let (next_node, _) = graph.next_numbers();
     for n in 0..next_node {
-        write_node_at(graph, n, text)?;
-    }
-    Ok(())
-}
-
-fn write_node_at(graph: &Graph, n: u64, text: &mut Vec<u8>) -> Result<(), NoMemory>
-    ensures { OnOk result (text.new.items ≡ text.old.items ++ flat_map node_line (numbered n (node_at graph.now.graph n))) }
-{
-    match graph.node(n) {
-        Some((label, mark, root)) => write_node(n, label, mark, root, text),
-        None => Ok(()),
+        put_node_at(graph, n, sheet);
     }
 }
 
-fn write_node(
-    n: u64,
-    label: &List,
-    mark: NodeMark,
-    root: bool,
-    text: &mut Vec<u8>,
-) -> Result<(), NoMemory>
-    ensures { OnOk result (text.new.items ≡ text.old.items ++ node_line (n, record { label = label.now; mark = mark; root = root })) }
+fn put_node_at(graph: &Graph, n: u64, sheet: &mut Sheet)
+    ensures { Puts sheet.old sheet.new (flat_map node_line (numbered n (node_at graph.now.graph n))) }
 {
-    write_numbered(b"  (n", n, text)?;
-    write(root_text(root), text)?;
-    write(b", ", text)?;
-    label.write_label(text)?;
-    write(node_mark_text(mark), text)?;
-    write(b")\n", text)
+    let Some((label, mark, root)) = graph.node(n) else {
+        return;
+    };
+    put_node(n, label, mark, root, sheet);
+}
+
+fn put_node(n: u64, label: &List, mark: NodeMark, root: bool, sheet: &mut Sheet)
+    ensures { Puts sheet.old sheet.new (node_line (n, record { label = label.now; mark = mark; root = root })) }
+{
+    sheet.put(b"  (n");
+    sheet.number(n);
+    sheet.put(root_text(root));
+    sheet.put(b", ");
+    sheet.label(label);
+    sheet.put(node_mark_text(mark));
+    sheet.put(b")\n");
 }
 
 fn root_text(root: bool) -> &'static [u8]
@@ -156,25 +137,27 @@ fn add_line_at(
     Ok(())
 }
 
-fn write_edges(lines: &[EdgeLine], text: &mut Vec<u8>) -> Result<(), NoMemory>
-    ensures { OnOk result (text.new.items ≡ text.old.items ++ key_lines 0 (line_keys lines.now)) }
+fn put_edges(lines: &[EdgeLine], sheet: &mut Sheet)
+    ensures { Puts sheet.old sheet.new (key_lines 0 (line_keys lines.now)) }
 {
     for (i, line) in lines.iter().enumerate() {
-        write_edge(i as u64, line, text)?;
+        put_edge(i as u64, line, sheet);
     }
-    Ok(())
 }
 
-fn write_edge(i: u64, line: &EdgeLine, text: &mut Vec<u8>) -> Result<(), NoMemory>
-    ensures { OnOk result (text.new.items ≡ text.old.items ++ key_line i (line_key line.now)) }
+fn put_edge(i: u64, line: &EdgeLine, sheet: &mut Sheet)
+    ensures { Puts sheet.old sheet.new (key_line i (line_key line.now)) }
 {
-    write_numbered(b"  (e", i, text)?;
-    write_numbered(b", n", line.source, text)?;
-    write_numbered(b", n", line.target, text)?;
-    write(b", ", text)?;
-    write(&line.label, text)?;
-    write(edge_mark_text(line.mark), text)?;
-    write(b")\n", text)
+    sheet.put(b"  (e");
+    sheet.number(i);
+    sheet.put(b", n");
+    sheet.number(line.source);
+    sheet.put(b", n");
+    sheet.number(line.target);
+    sheet.put(b", ");
+    sheet.put(&line.label);
+    sheet.put(edge_mark_text(line.mark));
+    sheet.put(b")\n");
 }
 
 fn edge_mark_text(mark: EdgeMark) -> &'static [u8]

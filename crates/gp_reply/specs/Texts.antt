@@ -57,8 +57,8 @@ of_demo_run k said = said
 
 abbrev pub usage_text : List ℕ
 usage_text =
-    codes "usage: gp2 run PROGRAM HOST [--workers N] [--bound N] [--fan N] [--seed N] [--journal]\n"
-    ++ (codes "       gp2 demo KIND SIZE SEED [--workers N] [--fan N]\n"
+    codes "usage: gp2 run PROGRAM HOST [--workers N] [--bound N] [--fan N] [--seed N] [--journal] [--batch N]\n"
+    ++ (codes "       gp2 demo KIND SIZE SEED [--workers N] [--fan N] [--batch N]\n"
     ++ (codes "       gp2 check PROGRAM HOST TRACE RESULT\n"
     ++ (codes "       gp2 fmt PROGRAM\n"
     ++ codes "       gp2 step PROGRAM HOST SCRIPT [--bound N] [--seed N]\n")))

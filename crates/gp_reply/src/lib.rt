@@ -1,6 +1,6 @@
 //! What is answered, and the texts that tell it.
 //!
-//! Call `reply_of` with an answer, `Said`: it gives the `Reply`, which is the status of the process, the journal and the result
+//! Call `into_reply` of an answer, `Said`: it gives the `Reply`, which is the status of the process, the journal and the result
 //! for standard output, and the text for standard error. `specs/Texts` says which texts and which status each answer has
 //! (`Shows`), and `specs/Said` which answer a value of the code is (`said_of`).
 //! What goes on until an answer is known is a `Result` of a `Said` and a `Stop`: a stop is an answer, or that memory was refused.
@@ -22,4 +22,3 @@ pub use reply::Reply;
 pub use said::{Said, Stop, or_stopped, settled};
 pub use status::Status;
 pub use summary_lines::summary;
-pub use texts::reply_of;

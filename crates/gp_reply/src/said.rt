@@ -1,8 +1,9 @@
 //! What is answered, before it has a text.
 
-ghost use Rattle.std.specs.Prelude.{◌≡◌, IfOk, map};
+ghost use Rattle.std.specs.Prelude.{◌≡◌, Err, IfOk, OnErr, map};
 ghost use Rattle.gp_syntax.specs.Tree.{rule_of_tree};
 ghost use Rattle.gp_words.specs.Told.{demo_now};
+ghost use Rattle.gp_reply.specs.declared.said.Stop.TheVariants.{NoMemory as no_memory};
 ghost use Rattle.gp_reply.specs.Texts.{of_demo_run};
 ghost use Rattle.gp_reply.specs.Said.{said_of, IsAnswer, or_stopped, HasJournal, WalksSaid};
 
@@ -124,7 +125,8 @@ impl<'a> From<NoMemory> for Stop<'a> {
 
 /// The answer, or that memory was refused.
 pub fn settled<'a>(outcome: Result<Said<'a>, Stop<'a>>) -> Result<Said<'a>, NoMemory>
-    ensures { IfOk result (λ s. IsAnswer outcome.entry (said_of s)) }
+    ensures answer { IfOk result (λ s. IsAnswer outcome.entry (said_of s)) }
+    ensures refused { OnErr result (outcome.entry ≡ Err no_memory) }
 {
     match outcome {
         Ok(said) => Ok(said),

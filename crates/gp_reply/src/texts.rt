@@ -27,7 +27,7 @@ use itoa::Buffer;
 use std::alloc::Global;
 
 const USAGE: &[u8] =
-    b"usage: gp2 run PROGRAM HOST [--workers N] [--bound N] [--fan N] [--seed N] [--journal]\n       gp2 demo KIND SIZE SEED [--workers N] [--fan N]\n       gp2 check PROGRAM HOST TRACE RESULT\n       gp2 fmt PROGRAM\n       gp2 step PROGRAM HOST SCRIPT [--bound N] [--seed N]\n";
+    b"usage: gp2 run PROGRAM HOST [--workers N] [--bound N] [--fan N] [--seed N] [--journal] [--batch N]\n       gp2 demo KIND SIZE SEED [--workers N] [--fan N] [--batch N]\n       gp2 check PROGRAM HOST TRACE RESULT\n       gp2 fmt PROGRAM\n       gp2 step PROGRAM HOST SCRIPT [--bound N] [--seed N]\n";
 
 // A line of these three parts.
 fn line_of_parts(
@@ -185,12 +185,18 @@ fn demo_reply(alloc: Global, kind: Kind, size: u64, journal: &Journal) -> Result
     Ok(on_out(alloc, Status::Graph, Vec::new(alloc), text))
 }
 
-// What a check, a format or a walk says, on standard output.
+// A text that is there, on standard output alone.
+fn whole(alloc: Global, status: Status, text: Vec<u8>) -> Reply
+    ensures { IsOnOut status [] text.items result }
+{
+    on_out(alloc, status, Vec::new(alloc), text)
+}
+
+// What a check says, on standard output.
 fn verdict(alloc: Global, status: Status, text: &[u8]) -> Result<Reply, NoMemory>
     ensures { IfOk result (IsOnOut status [] text.now) }
 {
-    let copied = Vec::from_slice(alloc, text)?;
-    Ok(on_out(alloc, status, Vec::new(alloc), copied))
+    Ok(whole(alloc, status, Vec::from_slice(alloc, text)?))
 }
 
 // A refusal that is always told by the same text.
@@ -210,30 +216,36 @@ fn told(alloc: Global, status: Status, line: Result<Vec<u8>, NoMemory>) -> Resul
     }
 }
 
-/// The texts of an answer, with the journal where it is asked for.
-pub fn reply_of(alloc: Global, asked: bool, said: &Said<'_>) -> Result<Reply, NoMemory>
-    ensures { IfOk result (λ r. Shows asked (said_of said.now) (status_code r.status) r.journal.items r.result.items r.err.items) }
-{
-    match said {
-        Said::Graph(journal) => graph_reply(alloc, asked, journal),
-        Said::Fail(journal) => fail_reply(alloc, asked, journal),
-        Said::Demo(kind, size, journal) => demo_reply(alloc, *kind, *size, journal),
-        Said::Derivation => verdict(alloc, Status::Derivation, b"derivation\n"),
-        Said::NoDerivation => verdict(alloc, Status::NoDerivation, b"no derivation\n"),
-        Said::Formatted(text) => verdict(alloc, Status::Formatted, text),
-        Said::Walked(text) => verdict(alloc, Status::Walked, text),
-        Said::Usage => refusal(alloc, Status::Words, USAGE),
-        Said::LongProgram => refusal(alloc, Status::Program, b"program: TooLong\n"),
-        Said::BadProgram(fault) => told(alloc, Status::Program, program_line(alloc, fault)),
-        Said::LongHost => refusal(alloc, Status::Host, b"host: TooLong\n"),
-        Said::BadHost(fault) => told(alloc, Status::Host, host_line(alloc, fault)),
-        Said::LongTrace => refusal(alloc, Status::Trace, b"trace: TooLong\n"),
-        Said::BadTrace(line) => told(alloc, Status::Trace, trace_line(alloc, *line)),
-        Said::LongResult => refusal(alloc, Status::Trace, b"result: TooLong\n"),
-        Said::LongScript => refusal(alloc, Status::Script, b"script: TooLong\n"),
-        Said::BadScript(line) => told(alloc, Status::Script, script_line(alloc, *line)),
-        Said::Bound(bound) => told(alloc, Status::Bound, bound_text(alloc, *bound)),
-        Said::Number(rule, kind) => told(alloc, Status::Number, number_text(alloc, rule, *kind)),
-        Said::Unread(name) => told(alloc, Status::Read, read_text(alloc, name)),
+impl<'a> Said<'a> {
+    /// The texts of the answer, with the journal where it is asked for. A text that the answer has is handed on.
+    pub fn into_reply(self, alloc: Global, asked: bool) -> Result<Reply, NoMemory>
+        ensures { IfOk result (λ r. Shows asked (said_of self.entry) (status_code r.status) r.journal.items r.result.items r.err.items) }
+    {
+        match self {
+            Said::Graph(journal) => graph_reply(alloc, asked, &journal),
+            Said::Fail(journal) => fail_reply(alloc, asked, &journal),
+            Said::Demo(kind, size, journal) => demo_reply(alloc, kind, size, &journal),
+            Said::Derivation => verdict(alloc, Status::Derivation, b"derivation\n"),
+            Said::NoDerivation => verdict(alloc, Status::NoDerivation, b"no derivation\n"),
+            Said::Formatted(text) => Ok(whole(alloc, Status::Formatted, text)),
+            Said::Walked(text) => Ok(whole(alloc, Status::Walked, text)),
+            Said::Usage => refusal(alloc, Status::Words, USAGE),
+            Said::LongProgram => refusal(alloc, Status::Program, b"program: TooLong\n"),
+            Said::BadProgram(fault) => told(alloc, Status::Program, program_line(alloc, &fault)),
+            Said::LongHost => refusal(alloc, Status::Host, b"host: TooLong\n"),
+            Said::BadHost(fault) => told(alloc, Status::Host, host_line(alloc, &fault)),
+            Said::LongTrace => refusal(alloc, Status::Trace, b"trace: TooLong\n"),
+            Said::BadTrace(line) => told(alloc, Status::Trace, trace_line(alloc, line)),
+            Said::LongResult => refusal(alloc, Status::Trace, b"result: TooLong\n"),
+            Said::LongScript => refusal(alloc, Status::Script, b"script: TooLong\n"),
+            Said::BadScript(line) => told(alloc, Status::Script, script_line(alloc, line)),
+            Said::Bound(bound) => told(alloc, Status::Bound, bound_text(alloc, bound)),
+            Said::Number(rule, kind) => told(
+                alloc,
+                Status::Number,
+                number_text(alloc, &rule, kind),
+            ),
+            Said::Unread(name) => told(alloc, Status::Read, read_text(alloc, name)),
+        }
     }
 }

@@ -1,7 +1,9 @@
 //! The kinds of rows.
 
 use crate::graphs::{beside, edits, hub};
-use crate::runs::{certified, commands, crews, independence, journals, moves, random, upgrades};
+use crate::runs::{
+    batches, certified, commands, crews, independence, journals, moves, random, upgrades,
+};
 use gp_rows::Answer;
 use std::alloc::Global;
 use std::sync::Wait;
@@ -22,6 +24,7 @@ pub(crate) enum Kind {
     Derivations,
     Independence,
     Pairs,
+    Batches,
     Replays,
     Parts,
     Moves,
@@ -31,7 +34,7 @@ pub(crate) enum Kind {
 }
 
 /// The files of rows, `NAME.rows`, and the kind of each.
-pub(crate) const FILES: [(&'static str, Kind); 18] = [
+pub(crate) const FILES: [(&'static str, Kind); 19] = [
     ("edits", Kind::Edits),
     ("leads", Kind::Leads),
     ("walks", Kind::Walks),
@@ -44,6 +47,7 @@ pub(crate) const FILES: [(&'static str, Kind); 18] = [
     ("derivations", Kind::Derivations),
     ("independence", Kind::Independence),
     ("pairs", Kind::Pairs),
+    ("batches", Kind::Batches),
     ("replays", Kind::Replays),
     ("parts", Kind::Parts),
     ("moves", Kind::Moves),
@@ -73,6 +77,7 @@ pub(crate) fn answer<R: Threads + Wait + Sync>(
         Kind::Derivations => certified::derivation(alloc, fields, out),
         Kind::Independence => independence::answer(alloc, fields, out),
         Kind::Pairs => independence::pairs(alloc, fields, out),
+        Kind::Batches => batches::answer(alloc, fields, out),
         Kind::Replays => random::replays(alloc, fields, out),
         Kind::Parts => random::parts(alloc, fields, out),
         Kind::Moves => moves::answer(alloc, fields, out),

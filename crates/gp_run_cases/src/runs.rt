@@ -1,5 +1,6 @@
 //! Kinds of rows that are about journals, commands and crews.
 
+pub(crate) mod batches;
 mod bits;
 pub(crate) mod certified;
 pub(crate) mod commands;

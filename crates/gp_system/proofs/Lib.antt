@@ -1,6 +1,7 @@
 pub mod Searches
 pub mod Nodes
 pub mod Sessions
+pub mod Goes
 pub mod Runs
 pub mod Systems
 pub mod Batches

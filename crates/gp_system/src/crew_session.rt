@@ -53,12 +53,17 @@ impl<'a> Model for CrewSession<'a> {
     ghost invariant = { λ a. IsCrewed a.session a.system a.crew.workers a.replicas.items a.had };
 }
 
-// How many shares a goal has for so many workers.
-fn shares_for(workers: u32) -> u32
-    requires { 0 < workers }
+// How many shares a goal has: several for each worker; one where a worker may offer several matches of a share in a turn.
+fn shares_for(crew: Crew) -> u32
+    requires { 0 < crew.workers }
     ensures { 0 < result }
 {
-    workers.checked_mul(SHARES_OF_A_WORKER).unwrap_or(workers)
+    if crew.batch > 1 {
+        return crew.workers;
+    }
+    crew.workers
+        .checked_mul(SHARES_OF_A_WORKER)
+        .unwrap_or(crew.workers)
 }
 
 // What came of a goal of one match.
@@ -75,7 +80,7 @@ fn called(ending: Ending<Fault>) -> Called
 }
 
 impl<'a> CrewSession<'a> {
-    // Whether the call goes to the crew.
+    // Whether the call goes to the crew at once.
     fn is_wide(&self, call: u32) -> bool {
         self.system
             .is_wide(call, self.session.graph(), self.crew.fan)
@@ -99,7 +104,7 @@ impl<'a> CrewSession<'a> {
         let _sound = host.next_numbers();
         CrewSession {
             session: Session::new(alloc, program, plans, host, crew.bound),
-            system: Gp::new(alloc, program, plans, shares_for(crew.workers)),
+            system: Gp::new(alloc, program, plans, shares_for(crew)),
             crew,
             pace,
             replicas: Vec::new(alloc),
@@ -131,7 +136,12 @@ impl<'a> CrewSession<'a> {
         let missing = &items.as_slice()[had..];
         let rules = self.system.rules();
         let there = brought(rules, self.crew.workers, &trail, missing, replicas)?;
-        let asked = Asked { goal, trail, left };
+        let asked = Asked {
+            goal,
+            trail,
+            left,
+            batch: self.crew.batch,
+        };
         let pursued = pursue_goal(rt, &self.system, asked, there, self.pace)?;
         let used = left - pursued.left;
         note_used(&mut items, pursued.entries, goal.mode, used)?;
@@ -199,10 +209,13 @@ impl<'a, R: Threads + Wait + Sync> Engine<R> for CrewSession<'a> {
     }
 
     fn repeat(&mut self, rt: &R, call: u32) -> Repeated {
-        if self.is_wide(call) {
+        if self.crew.fan <= 1 && self.is_wide(call) {
             return self.pursue_all(rt, call);
         }
-        self.session.take_all(call)
+        match self.session.take_cheap(call, u64::from(self.crew.fan)) {
+            Some(repeated) => repeated,
+            None => self.pursue_all(rt, call),
+        }
     }
 
     fn turn(&mut self, _rt: &R) -> Turned {

@@ -33,12 +33,13 @@ pub(crate) struct Pursued {
     pub(crate) replicas: Vec<Trail>,
 }
 
-/// A goal to be pursued from the trail, with so many counted items left for it.
+/// A goal to be pursued from the trail, with so many counted items left for it, and up to so many matches in one turn.
 #[derive(Drop)]
 pub(crate) struct Asked {
     pub(crate) goal: CallGoal,
     pub(crate) trail: Trail,
     pub(crate) left: u64,
+    pub(crate) batch: u32,
 }
 
 // So many copies of a trail.
@@ -141,11 +142,16 @@ pub(crate) fn pursue_goal<P: Pace + Sync, R: Threads + Wait + Sync>(
     ensures there { IfOk result (λ p. All (λ t. t ≡ p.trail) p.replicas.items) }
     ensures few { IfOk result (λ p. vec_len p.replicas < 2 ^ 32) }
 {
-    let Asked { goal, trail, left } = asked;
+    let Asked {
+        goal,
+        trail,
+        left,
+        batch,
+    } = asked;
     let Ok(core) = Core::start(*replicas.allocator(), system, trail, goal, left) else {
         return Err(NoMemory);
     };
-    let (core, mut replicas) = pursue(rt, system, core, replicas, pace, 1);
+    let (core, mut replicas) = pursue(rt, system, core, replicas, pace, batch);
     let (trail, entries, left, ending) = core.into_parts();
     level(system, &entries, &trail, &mut replicas)?;
     let Some(ending) = ending else { unreachable!() };

@@ -9,24 +9,28 @@ use Rattle.gp_gen.specs.declared.kind.Kind.{Kind}
 use Rattle.gp_gen.specs.declared.kind.Kind.TheVariants.{Closure, Colour, Tree}
 use Rattle.gp_gen.specs.Host.{largest}
 
+-- how many workers there are, how many candidates they are wanted for, and how many matches one may offer in a turn
+pub record CrewOptions : Type 0 where
+  pub workers : ℕ
+  pub fan : ℕ
+  pub batch : ℕ
+
 -- `run`: the names of the program's file and of the host's, how many items may be counted, with what the choices of `or`
--- begin, whether the journal is wanted, how many workers there are, and how many candidates they are wanted for
+-- begin, whether the journal is wanted, and its workers
 pub record RunCommand : Type 0 where
   pub program : Name
   pub host : Name
   pub bound : ℕ
   pub seed : ℕ
   pub journal : Bool
-  pub workers : ℕ
-  pub fan : ℕ
+  pub crew : CrewOptions
 
--- `demo`: the kind of the workload, its size, and the seed of its host
+-- `demo`: the kind of the workload, its size, the seed of its host, and its workers
 pub record DemoCommand : Type 0 where
   pub kind : Kind
   pub size : ℕ
   pub seed : ℕ
-  pub workers : ℕ
-  pub fan : ℕ
+  pub crew : CrewOptions
 
 -- `check`: the names of the files of the program, of the host, of the trace and of the result
 pub record CheckCommand : Type 0 where
@@ -71,7 +75,7 @@ flag id = record (new_rule id) { long = Some id; action = Some SetTrue }
 
 -- the options of `run` and of `demo`
 abbrev pub with_crew : App → App
-with_crew app = with_rule (with_rule app (option (codes "workers"))) (option (codes "fan"))
+with_crew app = with_rule (with_rule (with_rule app (option (codes "workers"))) (option (codes "fan"))) (option (codes "batch"))
 
 -- `run PROGRAM HOST`, with its options in any order
 abbrev pub run_app : App
@@ -145,6 +149,12 @@ usual_fan = 64
 abbrev pub greatest_fan : ℕ
 greatest_fan = 2 ^ 32 - 1
 
+abbrev pub usual_batch : ℕ
+usual_batch = 1
+
+abbrev pub greatest_batch : ℕ
+greatest_batch = 64
+
 abbrev pub kind_name : Kind → Name
 kind_name Closure = codes "closure"
 kind_name Colour = codes "colour"
@@ -168,6 +178,16 @@ workers_of rows = value_or usual_workers 1 greatest_workers (first_of (codes "wo
 abbrev pub fan_of : List Row → Option ℕ
 fan_of rows = value_or usual_fan 1 greatest_fan (first_of (codes "fan") rows)
 
+abbrev pub batch_of : List Row → Option ℕ
+batch_of rows = value_or usual_batch 1 greatest_batch (first_of (codes "batch") rows)
+
+abbrev pub crew_with : Option ℕ → Option ℕ → Option ℕ → Option CrewOptions
+crew_with (Some workers) (Some fan) (Some batch) = Some (record { workers = workers; fan = fan; batch = batch })
+crew_with workers fan batch = None
+
+abbrev pub crew_of : List Row → Option CrewOptions
+crew_of rows = crew_with (workers_of rows) (fan_of rows) (batch_of rows)
+
 abbrev pub bound_of : List Row → Option ℕ
 bound_of rows = value_or usual_bound 0 greatest_bound (first_of (codes "bound") rows)
 
@@ -176,27 +196,27 @@ seed_of rows = value_or usual_seed 0 greatest_seed (first_of (codes "seed") rows
 
 -- ---- the command
 
-abbrev pub run_with : Name → Name → Bool → Option ℕ → Option ℕ → Option ℕ → Option ℕ → Option Command
-run_with program host journal (Some bound) (Some seed) (Some workers) (Some fan) =
-    Some (run (record { program = program; host = host; bound = bound; seed = seed; journal = journal; workers = workers; fan = fan }))
-run_with program host journal bound seed workers fan = None
+abbrev pub run_with : Name → Name → Bool → Option ℕ → Option ℕ → Option CrewOptions → Option Command
+run_with program host journal (Some bound) (Some seed) (Some crew) =
+    Some (run (record { program = program; host = host; bound = bound; seed = seed; journal = journal; crew = crew }))
+run_with program host journal bound seed crew = None
 
 abbrev pub run_files : List Row → Option Name → Option Name → Option Command
 run_files rows (Some program) (Some host) =
-    run_with program host (is_set (first_of (codes "journal") rows)) (bound_of rows) (seed_of rows) (workers_of rows) (fan_of rows)
+    run_with program host (is_set (first_of (codes "journal") rows)) (bound_of rows) (seed_of rows) (crew_of rows)
 run_files rows program host = None
 
 -- what clap found at `run`
 abbrev pub run_of : List Row → Option Command
 run_of rows = run_files rows (first_of (codes "program") rows) (first_of (codes "host") rows)
 
-abbrev pub demo_with : Kind → Option ℕ → Option ℕ → Option ℕ → Option ℕ → Option Command
-demo_with kind (Some size) (Some seed) (Some workers) (Some fan) = Some (demo (record { kind = kind; size = size; seed = seed; workers = workers; fan = fan }))
-demo_with kind size seed workers fan = None
+abbrev pub demo_with : Kind → Option ℕ → Option ℕ → Option CrewOptions → Option Command
+demo_with kind (Some size) (Some seed) (Some crew) = Some (demo (record { kind = kind; size = size; seed = seed; crew = crew }))
+demo_with kind size seed crew = None
 
 abbrev pub demo_words : List Row → Option Name → Option Name → Option Name → Option Command
 demo_words rows (Some kind) (Some size) (Some seed) =
-    option_and_then (λ (k : Kind). demo_with k (number_between 1 (largest k) size) (number_between 0 greatest_seed seed) (workers_of rows) (fan_of rows)) (kind_named kind)
+    option_and_then (λ (k : Kind). demo_with k (number_between 1 (largest k) size) (number_between 0 greatest_seed seed) (crew_of rows)) (kind_named kind)
 demo_words rows kind size seed = None
 
 -- what clap found at `demo`

@@ -1,5 +1,6 @@
 -- A command in memory as the command that it is.
 use Rattle.gp_gen.specs.Host.{IsSize}
+use Rattle.gp_words.specs.declared.command.CrewOptions.{CrewOptions}
 use Rattle.gp_words.specs.declared.command.RunCommand.{RunCommand}
 use Rattle.gp_words.specs.declared.command.DemoCommand.{DemoCommand}
 use Rattle.gp_words.specs.declared.command.CheckCommand.{CheckCommand}
@@ -9,11 +10,14 @@ use Rattle.gp_words.specs.declared.command.Command.{Command}
 use Rattle.gp_words.specs.declared.command.Command.TheVariants.{Run, Demo, Check, Fmt, Step}
 use Rattle.gp_words.specs.CommandLine as meant
 
+abbrev pub crew_now : CrewOptions → meant.CrewOptions
+crew_now c = record { workers = c.workers; fan = c.fan; batch = c.batch }
+
 abbrev pub run_now : RunCommand → meant.RunCommand
-run_now c = record { program = c.program.now; host = c.host.now; bound = c.bound; seed = c.seed; journal = c.journal; workers = c.workers; fan = c.fan }
+run_now c = record { program = c.program.now; host = c.host.now; bound = c.bound; seed = c.seed; journal = c.journal; crew = crew_now c.crew }
 
 abbrev pub demo_now : DemoCommand → meant.DemoCommand
-demo_now c = record { kind = c.kind; size = c.size; seed = c.seed; workers = c.workers; fan = c.fan }
+demo_now c = record { kind = c.kind; size = c.size; seed = c.seed; crew = crew_now c.crew }
 
 abbrev pub check_now : CheckCommand → meant.CheckCommand
 check_now c = record { program = c.program.now; host = c.host.now; trace = c.trace.now; result = c.result.now }

@@ -19,7 +19,7 @@ enum Form {
     Flag,
 }
 
-const RUN: [(Form, &'static str); 7] = [
+const RUN: [(Form, &'static str); 8] = [
     (Form::Place, "program"),
     (Form::Place, "host"),
     (Form::Option, "bound"),
@@ -27,14 +27,16 @@ const RUN: [(Form, &'static str); 7] = [
     (Form::Flag, "journal"),
     (Form::Option, "workers"),
     (Form::Option, "fan"),
+    (Form::Option, "batch"),
 ];
 
-const DEMO: [(Form, &'static str); 5] = [
+const DEMO: [(Form, &'static str); 6] = [
     (Form::Place, "kind"),
     (Form::Place, "size"),
     (Form::Place, "seed"),
     (Form::Option, "workers"),
     (Form::Option, "fan"),
+    (Form::Option, "batch"),
 ];
 
 const CHECK: [(Form, &'static str); 4] = [

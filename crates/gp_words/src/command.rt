@@ -2,9 +2,17 @@
 
 use gp_gen::Kind;
 
+/// How many workers there are (1 to 64), how many candidates they are wanted for, and how many matches one may offer in
+/// a turn (1 to 64).
+#[derive(Clone, Copy)]
+pub struct CrewOptions {
+    pub workers: u32,
+    pub fan: u32,
+    pub batch: u32,
+}
+
 /// `run PROGRAM HOST` with its options: the names of the files, how many items may be counted, with what the choices of
-/// `or` begin, whether the journal is wanted, how many workers there are (1 to 64), and how many candidates they are
-/// wanted for.
+/// `or` begin, whether the journal is wanted, and its workers.
 #[derive(Clone, Copy)]
 pub struct RunCommand<'a> {
     pub program: &'a str,
@@ -12,18 +20,16 @@ pub struct RunCommand<'a> {
     pub bound: u64,
     pub seed: u64,
     pub journal: bool,
-    pub workers: u32,
-    pub fan: u32,
+    pub crew: CrewOptions,
 }
 
-/// `demo KIND SIZE SEED` with its options: the workload, and workers and candidates as for `run`.
+/// `demo KIND SIZE SEED` with its options: the workload, and its workers.
 #[derive(Clone, Copy)]
 pub struct DemoCommand {
     pub kind: Kind,
     pub size: u64,
     pub seed: u64,
-    pub workers: u32,
-    pub fan: u32,
+    pub crew: CrewOptions,
 }
 
 /// `check PROGRAM HOST TRACE RESULT`: the names of the files.

@@ -4,9 +4,11 @@ ghost use Rattle.std.specs.Prelude.{◌≡◌, ◌≤◌, Option, Some, IfSome, 
 ghost use Rattle.clap.specs.Words.{found_of, rows_of, first_of};
 ghost use Rattle.gp_gen.specs.Host.{largest};
 ghost use Rattle.gp_words.specs.CommandLine as spec;
-ghost use Rattle.gp_words.specs.Told.{command_now, HasSize};
+ghost use Rattle.gp_words.specs.Told.{crew_now, command_now, HasSize};
 
-use crate::command::{CheckCommand, Command, DemoCommand, FmtCommand, RunCommand, StepCommand};
+use crate::command::{
+    CheckCommand, Command, CrewOptions, DemoCommand, FmtCommand, RunCommand, StepCommand,
+};
 use crate::number::{number_between, value_or};
 use clap::ArgMatches;
 use gp_gen::Kind;
@@ -25,6 +27,11 @@ const GREATEST_WORKERS: u64 = 64;
 const USUAL_FAN: u64 = 64;
 
 const GREATEST_FAN: u64 = (1 << 32) - 1;
+
+/// How many matches a worker may offer in one turn, where no number is written, and the greatest.
+const USUAL_BATCH: u64 = 1;
+
+const GREATEST_BATCH: u64 = 64;
 
 // The value that clap found under a name.
 fn text_of<'a>(matches: &ArgMatches<'a>, id: &str) -> Option<&'a str>
@@ -61,6 +68,29 @@ fn fan_of(matches: &ArgMatches<'_>) -> Option<u32>
     }
 }
 
+fn batch_of(matches: &ArgMatches<'_>) -> Option<u32>
+    ensures { result ≡ spec.batch_of (rows_of (found_of matches.now)) }
+{
+    match value_or(USUAL_BATCH, 1, GREATEST_BATCH, text_of(matches, "batch")) {
+        None => None,
+        Some(batch) => Some(batch as u32),
+    }
+}
+
+// The workers that are asked for.
+fn crew_of(matches: &ArgMatches<'_>) -> Option<CrewOptions>
+    ensures { option_map crew_now result ≡ spec.crew_of (rows_of (found_of matches.now)) }
+{
+    match (workers_of(matches), fan_of(matches), batch_of(matches)) {
+        (Some(workers), Some(fan), Some(batch)) => Some(CrewOptions {
+            workers,
+            fan,
+            batch,
+        }),
+        _ => None,
+    }
+}
+
 fn bound_of(matches: &ArgMatches<'_>) -> Option<u64>
     ensures { result ≡ spec.bound_of (rows_of (found_of matches.now)) }
 {
@@ -79,20 +109,14 @@ fn run_files<'a>(matches: &ArgMatches<'a>, program: &'a str, host: &'a str) -> O
     ensures size { IfSome result HasSize }
 {
     let journal = is_set(text_of(matches, "journal"));
-    match (
-        bound_of(matches),
-        seed_of(matches),
-        workers_of(matches),
-        fan_of(matches),
-    ) {
-        (Some(bound), Some(seed), Some(workers), Some(fan)) => Some(Command::Run(RunCommand {
+    match (bound_of(matches), seed_of(matches), crew_of(matches)) {
+        (Some(bound), Some(seed), Some(crew)) => Some(Command::Run(RunCommand {
             program,
             host,
             bound,
             seed,
             journal,
-            workers,
-            fan,
+            crew,
         })),
         _ => None,
     }
@@ -139,18 +163,17 @@ fn demo_with<'a>(
     seed: &str,
 ) -> Option<Command<'a>>
     ensures demo { option_map command_now result ≡ spec.demo_with kind (spec.number_between 1 (largest kind) size.now) (spec.number_between 0 spec.greatest_seed seed.now)
-        (spec.workers_of (rows_of (found_of matches.now))) (spec.fan_of (rows_of (found_of matches.now))) }
+        (spec.crew_of (rows_of (found_of matches.now))) }
     ensures size { IfSome result HasSize }
 {
     let size = number_between(1, largest(kind), size);
     let seed = number_between(0, u64::MAX, seed);
-    match (size, seed, workers_of(matches), fan_of(matches)) {
-        (Some(size), Some(seed), Some(workers), Some(fan)) => Some(Command::Demo(DemoCommand {
+    match (size, seed, crew_of(matches)) {
+        (Some(size), Some(seed), Some(crew)) => Some(Command::Demo(DemoCommand {
             kind,
             size,
             seed,
-            workers,
-            fan,
+            crew,
         })),
         _ => None,
     }

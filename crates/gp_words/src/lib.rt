@@ -11,5 +11,7 @@ mod found;
 mod number;
 mod words;
 
-pub use command::{CheckCommand, Command, DemoCommand, FmtCommand, RunCommand, StepCommand};
+pub use command::{
+    CheckCommand, Command, CrewOptions, DemoCommand, FmtCommand, RunCommand, StepCommand,
+};
 pub use words::command_of;

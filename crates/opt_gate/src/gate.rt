@@ -12,6 +12,7 @@ ghost use Rattle.opt_gate.specs.Turn.{MayAsk, IsOneEvent, IsTrueEnding, entries_
 ghost use Rattle.opt_gate.specs.inside.Seats.{told_and_handed};
 
 use crate::ask::Ask;
+use crate::bells::Bells;
 use crate::key::Key;
 use crate::pass::{Pass, PassOf};
 use crate::rule::{GateRule, HasGoal};
@@ -35,6 +36,7 @@ pub struct GateOf<
     G: Copy,
 > {
     pub(crate) table: Table<Option<C>, View<Key<C>, F, R>, Key<C>, P, Global>,
+    bells: Bells,
     goal: G,
 }
 
@@ -78,10 +80,13 @@ impl<S: System> GateOf<Core<S>, S::Found, S::Reason, GateRule<S>, S::Goal> {
         let Ok(mut slots) = Vec::with_capacity(alloc, 1) else {
             return Err(core);
         };
+        let Ok(bells) = Bells::silent(alloc) else {
+            return Err(core);
+        };
         slots.push_reserved(Some(core));
         match Table::new(alloc, &[0, 0], slots, &key) {
             Ok((table, seat)) => Ok((
-                GateOf { table, goal },
+                GateOf { table, bells, goal },
                 PassOf {
                     seat,
                     number: 0,
@@ -116,7 +121,14 @@ impl<S: System> GateOf<Core<S>, S::Found, S::Reason, GateRule<S>, S::Goal> {
         ensures whole { IsWhole self.now.key pass.new }
     {
         let event = ask.into_event(pass.told);
-        let reply = act(rt, &self.table.shared, &mut pass.seat, s, event);
+        let reply = act(
+            rt,
+            &self.table.shared,
+            &self.bells,
+            &mut pass.seat,
+            s,
+            event,
+        );
         pass.told = told_then(pass.told, &reply);
         reply
     }
@@ -133,14 +145,18 @@ impl<S: System> GateOf<Core<S>, S::Found, S::Reason, GateRule<S>, S::Goal> {
         ensures each_once { pass.room ≡ self.key.passes → (place : ℕ) → times place pass.own ≡ once_below place (length result.entries) }
         ensures stopped { pass.room ≡ self.key.passes → result.ending ≡ Some Stopped → 0 < pass.stops }
     {
-        let GateOf { table, goal: _ } = self;
+        let GateOf {
+            table,
+            bells,
+            goal: _,
+        } = self;
         let PassOf {
             mut seat,
             number: _,
             told: _,
             room: _,
         } = pass;
-        take(rt, &table.shared, &mut seat)
+        take(rt, &table.shared, &bells, &mut seat)
     }
 }
 

@@ -10,6 +10,7 @@
 #![tactic(auto)]
 
 mod ask;
+mod bells;
 mod gate;
 mod key;
 mod pass;

@@ -6,6 +6,7 @@ ghost use Rattle.opt_gate.specs.inside.Follow.{MayFollow};
 ghost use Rattle.opt_core.specs.Core.{Legal};
 ghost use Rattle.opt_gate.specs.inside.Seats.{Acts, MayComeTo, is_stop};
 
+use crate::bells::Bells;
 use crate::key::Key;
 use crate::rule::{Draw, GateRule, JoinPasses, PassOn, PassOnStop, Show, Watch};
 use crate::view::View;
@@ -15,8 +16,11 @@ use opt_system::System;
 use std::sync::Wait;
 use std::{hint, thread};
 
-// How often a waiting pass looks at the ticket that is served before it lets other threads run between two looks.
+// How often a waiting pass looks at the ticket that is served before it lets other threads run between two looks, and how
+// often it does that before it sleeps.
 const LOOKS: u32 = 64;
+
+const YIELDS: u32 = 8;
 
 // The words and the slot of a gate.
 type GateTable<S: System> = Shared<
@@ -40,7 +44,13 @@ fn draw<S: System>(shared: &GateTable<S>, seat: &mut GateSeat<S>) -> u64
 }
 
 // Waits until the ticket is served. Then the seat has the core.
-fn watch<S: System, R: Wait>(rt: &R, shared: &GateTable<S>, seat: &mut GateSeat<S>, ticket: u64)
+fn watch<S: System, R: Wait>(
+    rt: &R,
+    shared: &GateTable<S>,
+    bells: &Bells,
+    seat: &mut GateSeat<S>,
+    ticket: u64,
+)
     requires table { (seat.old.table_id ≡ shared.now.table_id) × (shared.now.table_id.words ≡ 2) }
     requires drawn { (seat.old.me.0.served ≡ false) × (seat.old.me.1 ≡ []) × ((t : ℕ) × (seat.old.me.0.ticket ≡ Some t) × (t % 2 ^ 64 ≡ ticket)) }
     ensures same { seat.new.table_id ≡ seat.old.table_id }
@@ -54,15 +64,24 @@ fn watch<S: System, R: Wait>(rt: &R, shared: &GateTable<S>, seat: &mut GateSeat<
         if looks < LOOKS {
             looks += 1;
             hint::spin_loop();
-        } else {
+        } else if looks < LOOKS + YIELDS {
+            looks += 1;
             thread::yield_now();
+        } else {
+            bells.sleep(rt, ticket);
         }
     }
     unreachable!()
 }
 
 // Puts the core back, and passes the turn on.
-fn hand_on<S: System>(shared: &GateTable<S>, seat: &mut GateSeat<S>, core: Core<S>, is_stop: bool)
+fn hand_on<S: System>(
+    shared: &GateTable<S>,
+    bells: &Bells,
+    seat: &mut GateSeat<S>,
+    core: Core<S>,
+    is_stop: bool,
+)
     requires table { (seat.old.table_id ≡ shared.now.table_id) × (shared.now.table_id.words ≡ 2) × (shared.now.table_id.slots ≡ 1) }
     requires served { (seat.old.me.0.served ≡ true) × ((held : _) × (seat.old.me.1 ≡ (0, held) ∷ [])) }
     requires core { MayFollow entries_of ended_of (IsOfKey S.means) (if is_stop then 1 else 0) seat.old.me.0 core }
@@ -72,9 +91,9 @@ fn hand_on<S: System>(shared: &GateTable<S>, seat: &mut GateSeat<S>, core: Core<
 {
     drop(shared.exchange(seat, 0, Some(core)));
     if is_stop {
-        shared.fetch_add::<PassOnStop<S>>(seat, 0, 1);
+        bells.ring_behind(shared.fetch_add::<PassOnStop<S>>(seat, 0, 1));
     } else {
-        shared.fetch_add::<PassOn<S>>(seat, 0, 1);
+        bells.ring_behind(shared.fetch_add::<PassOn<S>>(seat, 0, 1));
     }
 }
 
@@ -92,6 +111,7 @@ fn asks_stop<F>(event: &Event<F>) -> bool
 pub(crate) fn take<S: System, R: Wait>(
     rt: &R,
     shared: &GateTable<S>,
+    bells: &Bells,
     seat: &mut GateSeat<S>,
 ) -> Core<S>
     requires table { (seat.old.table_id ≡ shared.now.table_id) × (shared.now.table_id.words ≡ 2) }
@@ -101,7 +121,7 @@ pub(crate) fn take<S: System, R: Wait>(
     ensures legal { Legal (S.means result.system) result }
 {
     let ticket = draw(shared, seat);
-    watch(rt, shared, seat, ticket);
+    watch(rt, shared, bells, seat, ticket);
     let core = shared.exchange(seat, 0, None).unwrap();
     // Reads the core, so that what its type says is known of it.
     let _ = core.ending();
@@ -112,6 +132,7 @@ pub(crate) fn take<S: System, R: Wait>(
 pub(crate) fn act<S: System, R: Wait>(
     rt: &R,
     shared: &GateTable<S>,
+    bells: &Bells,
     seat: &mut GateSeat<S>,
     s: &S,
     event: Event<S::Found>,
@@ -124,9 +145,9 @@ pub(crate) fn act<S: System, R: Wait>(
     ensures acts { Acts (S.means s.now) seat.old.me.0 event result seat.new.me }
 {
     let is_stop = asks_stop(&event);
-    let mut core = take(rt, shared, seat);
+    let mut core = take(rt, shared, bells, seat);
     let reply = core.step(s, event);
-    hand_on(shared, seat, core, is_stop);
+    hand_on(shared, bells, seat, core, is_stop);
     reply
 }
 

@@ -7,15 +7,18 @@
 //! replica is the base after a beginning of the entries, whose length its depth tells (`specs/Replica`). Where memory is
 //! refused to it, it stops the goal.
 //!
-//! `work` and `work_on` may wait, for turns. A `Pace` may hold workers between searches and turns, as tests do by `Held`:
-//! `Free` does nothing, and `Pacing` is either. That each event's condition holds is proved at each turn; definitions that only bodies need are in `specs/inside`.
+//! `work` and `work_on` may wait, for turns. A `Pace` may hold workers between searches and turns, as tests do by `Held`, or
+//! hear of them, as `Commits` does: `Free` does nothing, and `Pacing` is one of these. That each event's condition holds is
+//! proved at each turn; definitions that only bodies need are in `specs/inside`.
 #![tactic(auto)]
 
+mod commits;
 mod held;
 mod pace;
 mod sharing;
 mod worker;
 
+pub use commits::Commits;
 pub use held::Held;
 pub use pace::{Free, Pace, Pacing};
 pub use sharing::job_may_be_taken;

@@ -1,5 +1,6 @@
 //! What may hold workers, and hears of what they do.
 
+use crate::commits::Commits;
 use crate::held::Held;
 use std::sync::Wait;
 
@@ -23,19 +24,29 @@ impl Pace for Free {
     fn turned(&self, _rt: &impl Wait, _worker: u32, _told: u64, _committed: bool) {}
 }
 
-/// The paces that a program hands to its runs: one that holds nobody, or one that holds two workers to an order.
+/// The paces that a program hands to its runs: one that holds nobody, one that holds two workers to an order, or one that
+/// counts.
 #[derive(Drop)]
 pub enum Pacing {
     Free,
     Held(Held),
+    Counted(Commits),
 }
 
 impl Pacing {
     /// What holds the workers, if there is such.
     pub fn held(&self) -> Option<&Held> {
         match self {
-            Pacing::Free => None,
             Pacing::Held(held) => Some(held),
+            Pacing::Free | Pacing::Counted(_) => None,
+        }
+    }
+
+    /// How many turns committed a match, where that is counted.
+    pub fn commits(&self) -> Option<u64> {
+        match self {
+            Pacing::Counted(commits) => Some(commits.count()),
+            Pacing::Free | Pacing::Held(_) => None,
         }
     }
 }
@@ -45,6 +56,7 @@ impl Pace for Pacing {
         match self {
             Pacing::Free => {}
             Pacing::Held(held) => held.searched(rt, worker, told),
+            Pacing::Counted(commits) => commits.searched(rt, worker, told),
         }
     }
 
@@ -52,6 +64,7 @@ impl Pace for Pacing {
         match self {
             Pacing::Free => {}
             Pacing::Held(held) => held.turned(rt, worker, told, committed),
+            Pacing::Counted(commits) => commits.turned(rt, worker, told, committed),
         }
     }
 }

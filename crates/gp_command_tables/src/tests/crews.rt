@@ -2,7 +2,7 @@
 
 use crate::tests::answers::{Answer, expect};
 use crate::tests::calls::{Call, check_rows, told_of};
-use opt_worker::{Held, Pacing};
+use opt_worker::{Commits, Held, Pacing};
 use std::alloc::{AllocGlobal, Global};
 use std::sync::Wait;
 use std::test::Fail;
@@ -194,12 +194,14 @@ link(a, b, x, y, z:list) [ (n0, x) (n1, y) (n2, z) | (e0, n0, n1, a) (e1, n1, n2
 % 5 err
 bound 0";
 
-const CREWS: [&str; 5] = [
+const CREWS: [&str; 7] = [
     "",
     "--workers 2",
     "--workers 2 --fan 1",
     "--workers 3 --fan 1",
     "--workers 4 --fan 1",
+    "--workers 4 --fan 1 --batch 8",
+    "--workers 2 --batch 64",
 ];
 
 #[test]
@@ -350,6 +352,29 @@ fn few_candidates_and_one_worker_need_no_crew(rt: HostRuntime) -> Result<(), Fai
     for crew in &["--workers 2 --fan 3", "--workers 1 --fan 1"] {
         let told = held(&rt, crew, 1000);
         expect(told.is("first untold") || told.is("second untold"), crew)?;
+    }
+    Ok(())
+}
+
+const EIGHT: &str = "[ (a, 1) (b, 2) (c, 3) (d, 4) (e, 5) (f, 6) (g, 7) (h, 8) | ]";
+
+// How many turns of two workers that delete eight nodes committed, and whether the nodes are gone.
+fn put_commits<R: AllocGlobal + Threads + Wait + Sync>(rt: &R, batch: &str, told: &mut Answer) {
+    let pace = Pacing::Counted(Commits::new());
+    let words = ("run p h --workers 2 --fan 1 --bound 100", batch);
+    let shown = told_of(rt, &Call::new(DELETE, EIGHT, words), &pace);
+    told.number(pace.commits().unwrap_or(0));
+    if shown.is("0 out\n[\n|\n]\n") {
+        told.word("gone");
+    }
+}
+
+#[test]
+fn a_turn_commits_what_a_worker_holds_of_its_share(rt: HostRuntime) -> Result<(), Fail> {
+    for (batch, wanted) in &[("--batch 8", "2 gone"), ("--batch 1", "8 gone")] {
+        let mut told = Answer::new(rt.alloc());
+        put_commits(&rt, batch, &mut told);
+        expect(told.is(wanted), batch)?;
     }
     Ok(())
 }

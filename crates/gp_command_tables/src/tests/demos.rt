@@ -107,7 +107,8 @@ steps 1023";
 #[test]
 fn demos_tell_their_summaries(rt: HostRuntime) -> Result<(), Fail> {
     check_rows(&rt, DEMOS, "--workers 1 --fan 64")?;
-    check_rows(&rt, DEMOS, "--workers 4 --fan 1")
+    check_rows(&rt, DEMOS, "--workers 4 --fan 1")?;
+    check_rows(&rt, DEMOS, "--workers 4 --fan 1 --batch 8")
 }
 
 const HOST: &str = "[ (a, empty # red) (b, empty # blue) (c, empty) (d(R), empty # red) | ]";

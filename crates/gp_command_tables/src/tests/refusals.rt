@@ -234,8 +234,8 @@ fn refused_hosts_have_their_lines(rt: HostRuntime) -> Result<(), Fail> {
 }
 
 const USAGE: &str = "2 err
-usage: gp2 run PROGRAM HOST [--workers N] [--bound N] [--fan N] [--seed N] [--journal]
-       gp2 demo KIND SIZE SEED [--workers N] [--fan N]
+usage: gp2 run PROGRAM HOST [--workers N] [--bound N] [--fan N] [--seed N] [--journal] [--batch N]
+       gp2 demo KIND SIZE SEED [--workers N] [--fan N] [--batch N]
        gp2 check PROGRAM HOST TRACE RESULT
        gp2 fmt PROGRAM
        gp2 step PROGRAM HOST SCRIPT [--bound N] [--seed N]";

@@ -9,25 +9,27 @@ use std::alloc::Global;
 use std::test::Fail;
 
 // Words, and the parts of their command: its names, and then its numbers, where a run has its workers, its bound, its fan,
-// its seed, and 1 for the journal, a demo its size, its seed, its workers and its fan, a check and a format none, and a step its bound and
-// its seed.
-const COMMANDS: &str = "run p h => p h 1 1000000 64 0 0
-run p h --bound 10 => p h 1 10 64 0 0
-run --bound=007 p h => p h 1 7 64 0 0
-run p --seed 18446744073709551615 h --journal => p h 1 1000000 64 18446744073709551615 1
-run --journal --bound 1099511627776 p h => p h 1 1099511627776 64 0 1
-run -- -p --h => -p --h 1 1000000 64 0 0
-run  h =>  h 1 1000000 64 0 0
-run - h => - h 1 1000000 64 0 0
-run p h --workers 64 => p h 64 1000000 64 0 0
-run --fan 4294967295 p --workers=001 h => p h 1 1000000 4294967295 0 0
-run p h --fan 1 => p h 1 1000000 1 0 0
-demo closure 3 1 => closure 3 1 1 64
-demo colour 500 007 => colour 500 7 1 64
-demo tree 18 0 => tree 18 0 1 64
-demo closure 1 7 --workers 4 --fan 1 => closure 1 7 4 1
-demo --fan 2 --workers 3 tree 1 9 => tree 1 9 3 2
-demo closure 500 18446744073709551615 => closure 500 18446744073709551615 1 64
+// its seed, 1 for the journal, and its batch, a demo its size, its seed, its workers, its fan and its batch, a check and a
+// format none, and a step its bound and its seed.
+const COMMANDS: &str = "run p h => p h 1 1000000 64 0 0 1
+run p h --bound 10 => p h 1 10 64 0 0 1
+run --bound=007 p h => p h 1 7 64 0 0 1
+run p --seed 18446744073709551615 h --journal => p h 1 1000000 64 18446744073709551615 1 1
+run --journal --bound 1099511627776 p h => p h 1 1099511627776 64 0 1 1
+run -- -p --h => -p --h 1 1000000 64 0 0 1
+run  h =>  h 1 1000000 64 0 0 1
+run - h => - h 1 1000000 64 0 0 1
+run p h --workers 64 => p h 64 1000000 64 0 0 1
+run --fan 4294967295 p --workers=001 h => p h 1 1000000 4294967295 0 0 1
+run p h --fan 1 => p h 1 1000000 1 0 0 1
+run p h --batch 64 --workers 2 => p h 2 1000000 64 0 0 64
+demo closure 3 1 => closure 3 1 1 64 1
+demo colour 500 007 => colour 500 7 1 64 1
+demo tree 18 0 => tree 18 0 1 64 1
+demo closure 1 7 --workers 4 --fan 1 => closure 1 7 4 1 1
+demo --fan 2 --workers 3 tree 1 9 => tree 1 9 3 2 1
+demo tree 1 9 --batch 8 => tree 1 9 1 64 8
+demo closure 500 18446744073709551615 => closure 500 18446744073709551615 1 64 1
 check p h t r => p h t r
 check -- -p --h t -r => -p --h t -r
 check p  t r => p  t r
@@ -56,6 +58,8 @@ run p h --workers 65
 run p h --workers +2
 run p h --fan 0
 run p h --fan 4294967296
+run p h --batch 0
+run p h --batch 65
 demo
 demo closure 3
 demo closure 3 1 2
@@ -68,6 +72,7 @@ demo closure 3 18446744073709551616
 demo closure 3 1 --journal
 demo closure 3 1 --bound 5
 demo closure 3 1 --workers 0
+demo closure 3 1 --batch 65
 check
 check p h t
 check p h t r x
@@ -80,6 +85,7 @@ step p h
 step p h s x
 step p h s --journal
 step p h s --workers 2
+step p h s --batch 2
 step p h s --bound 1099511627777
 --help
 help";
@@ -90,11 +96,12 @@ fn put_run(c: &RunCommand<'_>, told: &mut Answer) {
     told.put(b" ");
     told.put(c.host.as_bytes());
     told.numbers(&[
-        u64::from(c.workers),
+        u64::from(c.crew.workers),
         c.bound,
-        u64::from(c.fan),
+        u64::from(c.crew.fan),
         c.seed,
         u64::from(c.journal),
+        u64::from(c.crew.batch),
     ]);
 }
 
@@ -105,7 +112,13 @@ fn put_demo(c: &DemoCommand, told: &mut Answer) {
         Kind::Colour => "colour",
         Kind::Tree => "tree",
     });
-    told.numbers(&[c.size, c.seed, u64::from(c.workers), u64::from(c.fan)]);
+    told.numbers(&[
+        c.size,
+        c.seed,
+        u64::from(c.crew.workers),
+        u64::from(c.crew.fan),
+        u64::from(c.crew.batch),
+    ]);
 }
 
 // Tells the names of a check.

@@ -46,6 +46,7 @@ fn run<R: Threads + Wait + Sync>(
     let crew = Crew {
         workers: 1,
         fan: 1,
+        batch: 1,
         bound,
     };
     let mut bits = Bits(number(fields, 2));

@@ -1,7 +1,8 @@
-//! Runs by several workers, each of which is replayed by its printed journal.
+//! Runs by several workers, each of which is replayed by its printed journal, and every tenth judged by the checker.
 
 use crate::runs::bits::Bits;
-use crate::runs::replay::{are_alike, catch_up};
+use crate::runs::replay::{are_alike, catch_up, text_of};
+use gp_derivation::is_derivation;
 use gp_graph::Graph;
 use gp_hostfile::read_host;
 use gp_journal::{Journal, Trail};
@@ -9,14 +10,14 @@ use gp_reader::read_program;
 use gp_rows::{Answer, Wrong, field, number};
 use gp_syntax::{Program, Rule};
 use gp_system::{Crew, Outcome, execute};
-use gp_trace::{read_trace, write_trace};
+use gp_trace::{Version, read_trace, write_trace};
 use opt_worker::Pacing;
 use std::alloc::Global;
 use std::sync::Wait;
 use std::thread::Threads;
 
-/// How many runs left a graph to which their printed journal leads: a program, a host, how many workers there are, and how
-/// many runs.
+/// How many runs left a graph to which their printed journal leads, and every tenth a derivation: a program, a host, how
+/// many workers there are, how many matches one may offer in a turn, and how many runs.
 pub(crate) fn answer<R: Threads + Wait + Sync>(
     rt: &R,
     alloc: Global,
@@ -40,35 +41,52 @@ fn replayed<R: Threads + Wait + Sync>(
 ) -> Result<u64, Wrong> {
     let host = read_host(alloc, field(fields, 1))?;
     let program = read_program(alloc, field(fields, 0))?;
-    let workers = u32::try_from(number(fields, 2))?;
-    let runs = number(fields, 3);
+    let crew = Crew {
+        workers: u32::try_from(number(fields, 2))?,
+        fan: 1,
+        batch: u32::try_from(number(fields, 3))?,
+        bound: 1000,
+    };
+    let runs = number(fields, 4);
     for run in 0..runs {
-        if !is_good(rt, alloc, &program, &host, workers)? {
+        let Some(journal) = journal_of(rt, alloc, &program, &host, crew)? else {
+            return Ok(run);
+        };
+        if !is_replayed(alloc, program.parts().rules.as_slice(), &host, &journal)? {
+            return Ok(run);
+        }
+        if run % 10 == 0 && !is_derived(alloc, &program, &host, &journal)? {
             return Ok(run);
         }
     }
     Ok(runs)
 }
 
-// Whether a run leaves a graph that its journal leads to.
-fn is_good<R: Threads + Wait + Sync>(
+// The journal of a run that leaves a graph.
+fn journal_of<R: Threads + Wait + Sync>(
     rt: &R,
     alloc: Global,
     program: &Program,
     host: &Graph,
-    workers: u32,
-) -> Result<bool, Wrong> {
+    crew: Crew,
+) -> Result<Option<Journal>, Wrong> {
     let copy = host.copy(alloc)?;
-    let rules = program.parts().rules.as_slice();
-    let crew = Crew {
-        workers,
-        fan: 1,
-        bound: 1000,
-    };
     match execute(rt, alloc, program, copy, crew, &mut Bits(0), &Pacing::Free) {
-        Outcome::Graph(journal) => is_replayed(alloc, rules, host, &journal),
-        _ => Ok(false),
+        Outcome::Graph(journal) => Ok(Some(journal)),
+        _ => Ok(None),
     }
+}
+
+// Whether the journal and the text of its graph are a derivation of the program on the host.
+fn is_derived(
+    alloc: Global,
+    program: &Program,
+    host: &Graph,
+    journal: &Journal,
+) -> Result<bool, Wrong> {
+    let text = text_of(alloc, journal.graph())?;
+    let items = journal.items();
+    Ok(is_derivation(alloc, program, host, Version::Two, items, &text)?)
 }
 
 // Whether the journal's printed text is read and leads from the host to the journal's graph.

@@ -186,6 +186,7 @@ fn walked<R: Threads + Wait + Sync>(
     let crew = Crew {
         workers: 1,
         fan: 1,
+        batch: 1,
         bound: 1000,
     };
     match execute(rt, alloc, &program, host, crew, &mut Bits(0), &Pacing::Free) {

@@ -1,4 +1,5 @@
-//! Workers over Cells: one alone, by how many matches it may offer in one turn, and one that is stopped by hand while it is held in its search.
+//! Workers over Cells: one alone, by how many matches it may offer in one turn, and one that is stopped by hand while it is
+//! held in its search.
 
 ghost use Rattle.std.specs.Prelude.{◌≡◌};
 ghost use Rattle.opt_gate.specs.Pass.{IsPassOf, start_of};
@@ -10,10 +11,10 @@ use gp_memory::NoMemory;
 use opt_cells::{Cells, CellsGoal};
 use opt_gate::{Ask, Gate, Pass};
 use opt_system::Mode;
-use opt_worker::{Free, Pace, job_may_be_taken, work};
+use opt_worker::{Commits, Free, Pace, job_may_be_taken, work};
 use std::alloc::Global;
 use std::sync::Wait;
-use std::sync::atomic::{AtomicBool, AtomicU64, Ordering};
+use std::sync::atomic::{AtomicBool, Ordering};
 use std::test::Fail;
 use std::thread;
 use std::thread::Threads;
@@ -30,22 +31,6 @@ fn a_worker_alone_commits_each_place_and_finds_no_more(rt: HostRuntime) -> Resul
     put_founds::<Cells>(at.taken(), &mut told);
     put_core(gate.close(&rt, pass), &mut told);
     told.expect("[0, 2, 1][0, 2, 1] 4 blocked")
-}
-
-// Counts the turns that committed.
-#[derive(Drop)]
-struct Commits {
-    count: AtomicU64,
-}
-
-impl Pace for Commits {
-    fn searched(&self, _rt: &impl Wait, _worker: u32, _told: u64) {}
-
-    fn turned(&self, _rt: &impl Wait, _worker: u32, _told: u64, committed: bool) {
-        if committed {
-            self.count.fetch_add(1, Ordering::SeqCst);
-        }
-    }
 }
 
 // The mode, the items, and the most matches of a turn; and what a worker alone leaves of eight true cells in one share:
@@ -93,11 +78,9 @@ fn told_by_batch<R: Wait>(
     let mut told = Answer::new(alloc);
     let mut at = true_cells(alloc, 8)?;
     let (gate, pass) = opened_for(alloc, CellsGoal { mode, shares: 1 }, 8, items, 1)?;
-    let pace = Commits {
-        count: AtomicU64::new(0),
-    };
+    let pace = Commits::new();
     let pass = work(rt, &Cells, &gate, pass, &mut at, &pace, batch);
-    told.put_number(pace.count.load(Ordering::SeqCst));
+    told.put_number(pace.count());
     told.put(" by ");
     put_core(gate.close(rt, pass), &mut told);
     Ok(told)

@@ -1,0 +1,36 @@
+-- A loop over a call that goes on behind some turns.
+use Rattle.std.proofs.Common.{◌≡◌, ℕ, ◌<◌, Bool, List, [], ◌++◌, refl, sym, subst, ◌∙◌, arith}
+use Rattle.gp_values.specs.Graph.{Graph}
+use Rattle.gp_syntax.specs.Run.{Call, Loop, Program, Item, Ending, Run}
+use Rattle.gp_run.specs.declared.engine.Repeated.{Repeated}
+use Rattle.gp_run.specs.declared.engine.Repeated.TheVariants as repeated
+use Rattle.gp_run.specs.declared.engine.Called.TheVariants as called
+use Rattle.gp_run.specs.declared.engine.Turned.TheVariants as turned
+use Rattle.gp_run.specs.Engine.{View, MakesCall, HasCalled, HasTurned, HasRepeated}
+use Rattle.gp_run.proofs.Leads.{adds-append}
+use Rattle.gp_run.proofs.Turns.{Turns, turns_none, turns_more, turns_less}
+use Rattle.gp_system.specs.inside.Going.{GoesOn}
+
+module _ (c : ℕ) (v w x : View) (t : Turns c v w) where
+  -- the rest of the loop, seen from its beginning
+  rest_of_loop : (e : Ending) → MakesCall (Loop (Call c)) w x e → MakesCall (Loop (Call c)) v x e
+  rest_of_loop e m =
+      let r : Run v.program (Loop (Call c)) w.graph [] m.trace e = subst (λ (p : Program). Run p (Loop (Call c)) w.graph [] m.trace e) t.adds.program m.makes.run in
+      record {
+        trace = t.trace ++ m.trace;
+        makes = record { run = t.so_far.onward [] _ m.trace _ _ refl refl r; adds = adds-append v w x t.trace m.trace t.adds m.makes.adds };
+        room = m.room ∙ t.room;
+      }
+
+  repeated_on : (r : Repeated) → HasRepeated c r w x → HasRepeated c r v x
+  repeated_on repeated.Ended m = rest_of_loop _ m
+  repeated_on repeated.Bound m = (m.0, rest_of_loop m.0 m.1, m.2)
+  repeated_on (repeated.Fault r k) m = (rest_of_loop _ m.0, m.1)
+  repeated_on repeated.NoMemory m = tt
+
+-- behind a turn with a step
+pub goes_on : (c : ℕ) (v w x : View) → HasTurned turned.Made v w → HasCalled c called.Stepped w x → GoesOn c v x × (x.left < v.left)
+goes_on c v w x a m = ((λ r y h. repeated_on c v x y (turns_more c v v w x (turns_none c v) a m) r h), turns_less c v w x a m)
+
+pub goes_on_all : (c : ℕ) (v w x : View) → GoesOn c v w → GoesOn c w x → GoesOn c v x
+goes_on_all c v w x f g r y h = f r y (g r y h)
