@@ -1,5 +1,5 @@
 use Rattle.std.proofs.Common.{◌∙◌, ap, refl, List, [], ◌∷◌, ◌++◌}
-use Rattle.opt_worker.proofs.Batches.{one_held, held_whole}
+use Rattle.opt_tables.proofs.Held.{one_held, held_whole}
 use Rattle.opt_tables.proofs.tests.cores.sending.held_with.Goals as goal
 
 pub more-requires : goal.more-requires
