@@ -235,7 +235,7 @@ slot_take (y ∷ z ∷ xs) zero k e h = absurd (omega arith)
 slot_take (y ∷ xs) (suc n) zero e h = refl
 slot_take (y ∷ xs) (suc n) (suc k) e h = slot_take xs n k (omega arith) h
 
-slot_dropped : {X : Type 0} (xs : List (Option X)) → 0 < length xs → slot_in xs (length xs - 1) ≡ None → (k : ℕ) → slot_in (take (length xs - 1) xs) k ≡ slot_in xs k
+pub slot_dropped : {X : Type 0} (xs : List (Option X)) → 0 < length xs → slot_in xs (length xs - 1) ≡ None → (k : ℕ) → slot_in (take (length xs - 1) xs) k ≡ slot_in xs k
 slot_dropped xs some h k = slot_take xs (length xs - 1) k (omega arith) h
 
 pub held_node_dropped : (ns : List (Option NodeSlot)) (es : List (Option EdgeSlot)) (r : Ring) (c : ℕ) → IsHeld ns es r c → 0 < length ns → node_at (graph_from ns es) (length ns - 1) ≡ None → IsHeld (take (length ns - 1) ns) es r c

@@ -1,13 +1,12 @@
 -- What a change of one slot makes of links and rings.
-use Rattle.std.proofs.Common.{inl, inr, ◌≡◌, ◌≢◌, ℕ, zero, suc, ◌+◌, ◌<◌, ◌≤◌, List, [], ◌∷◌, ◌++◌, length, set, refl, sym, ap, subst, ◌∙◌, arith}
-use Rattle.std.specs.Prelude.{◌⊎◌, ◌↔◌, Option, Some, None, IsSome, IsSomeAnd, slice_set}
+use Rattle.std.proofs.Common.{inl, inr, ◌≡◌, ◌≢◌, ℕ, zero, suc, ◌<◌, List, [], ◌∷◌, length, refl, sym, ap, subst, ◌∙◌, arith}
+use Rattle.std.specs.Prelude.{Option, Some, None, IsSome, slice_set}
 use Rattle.std.specs.Option.{option_map}
 use Rattle.std.proofs.lemmas.Bool.{cases_eq}
 use Rattle.gp_graph.specs.inside.Slots.{slot_in}
 use Rattle.gp_graph.specs.Chains.{Joins}
 use Rattle.gp_graph.specs.inside.View.{node_of, edge_of}
-use Rattle.gp_graph.specs.inside.Rings.{other, link_in, ring_in, with_next, with_prev, with_ring, changed_at, next_of, prev_of, first_of, count_of, root_link, ShowSame}
-use Rattle.gp_graph.specs.declared.slots.Link.{Link}
+use Rattle.gp_graph.specs.inside.Rings.{other, link_in, ring_in, with_next, with_prev, with_ring, changed_at, next_of, prev_of, root_link}
 use Rattle.gp_graph.specs.declared.slots.Ring.{Ring}
 use Rattle.gp_graph.specs.declared.slots.NodeSlot.{NodeSlot}
 use Rattle.gp_graph.specs.declared.slots.EdgeSlot.{EdgeSlot}

@@ -1,15 +1,14 @@
 -- What walks give, and how many.
-use Rattle.std.proofs.Common.{inl, inr, ◌≡◌, ◌≢◌, ℕ, zero, suc, ◌+◌, ◌<◌, ◌≤◌, ◌==◌, Bool, true, false, if◌then◌else◌, List, [], ◌∷◌, length, refl, sym, ap, subst, ◌∙◌, arith}
-use Rattle.std.specs.Prelude.{◌⊎◌, ◌↔◌, Contains, Option, Some, None, IsSome, IsSomeAnd, is_some}
+use Rattle.std.proofs.Common.{inl, inr, ◌≡◌, ℕ, zero, suc, ◌+◌, ◌<◌, ◌≤◌, ◌==◌, Bool, true, false, if◌then◌else◌, List, [], ◌∷◌, length, refl, sym, ap, subst, ◌∙◌, arith}
+use Rattle.std.specs.Prelude.{◌↔◌, Option, Some, None, IsSome, IsSomeAnd, is_some}
 use Rattle.std.specs.Option.{option_map}
 use Rattle.std.proofs.lemmas.Bool.{cases_eq, eqb-true, eq-eqb}
-use Rattle.gp_values.specs.Apart.{AreApart}
-use Rattle.gp_values.specs.Graph.{Node, Edge, Graph, node_at, edge_at, in_degree, out_degree, node_count, root_count}
+use Rattle.gp_values.specs.Graph.{in_degree, out_degree, root_count}
 use Rattle.gp_graph.specs.Walks.{Walks, IsNode, IsRoot, BeginsAt, EndsAt, GoesBetween}
 use Rattle.gp_graph.specs.inside.Slots.{slot_in}
 use Rattle.gp_graph.specs.Chains.{follow}
 use Rattle.gp_graph.specs.inside.View.{node_of, edge_of, graph_from}
-use Rattle.gp_graph.specs.inside.Rings.{end_of, next_of, first_of, count_of, Meets, HasRings}
+use Rattle.gp_graph.specs.inside.Rings.{ring_in, next_of, first_of, count_of, Meets, HasRings}
 use Rattle.gp_graph.specs.inside.Roots.{next_root, IsRootAt, HasRoots}
 use Rattle.gp_graph.specs.inside.Sought.{after, those, has_end, passes}
 use Rattle.gp_graph.specs.declared.slots.Ring.{Ring}
@@ -19,7 +18,7 @@ use Rattle.gp_graph.specs.declared.rings.Side.{Side}
 use Rattle.gp_graph.specs.declared.rings.Side.TheVariants.{Beginning, Ending}
 use Rattle.gp_graph.proofs.Numbers.{first_or_later, here, later, apart_more, Walks-same}
 use Rattle.gp_graph.proofs.SlotMaps.{seen_at}
-use Rattle.gp_graph.proofs.Degrees.{in_degree-walk, out_degree-walk, node_count-walk, root_count-walk}
+use Rattle.gp_graph.proofs.Degrees.{in_degree-walk, out_degree-walk, root_count-walk}
 use Rattle.gp_graph.proofs.Rounds.{length-follow}
 use Rattle.gp_graph.proofs.Those.{Walks-those}
 
@@ -53,17 +52,24 @@ counts_in ns es n r = sym (length-follow (next_of Ending es) (count_of Ending ns
 abbrev pub gone_round : Side → Option ℕ → List (Option NodeSlot) → List (Option EdgeSlot) → ℕ → List ℕ
 gone_round side wanted ns es n = those (passes side wanted es) (ring_list side ns es n)
 
-pub walks_out_all : (ns : List (Option NodeSlot)) (es : List (Option EdgeSlot)) (n : ℕ) → HasRings Beginning ns es → Walks (gone_round Beginning None ns es n) (BeginsAt (graph_from ns es) n)
+walks_out_all : (ns : List (Option NodeSlot)) (es : List (Option EdgeSlot)) (n : ℕ) → HasRings Beginning ns es → Walks (gone_round Beginning None ns es n) (BeginsAt (graph_from ns es) n)
 walks_out_all ns es n r = rw (all_kept (ring_list Beginning ns es n)) (walks_out ns es n r)
 
-pub walks_in_all : (ns : List (Option NodeSlot)) (es : List (Option EdgeSlot)) (n : ℕ) → HasRings Ending ns es → Walks (gone_round Ending None ns es n) (EndsAt (graph_from ns es) n)
+walks_in_all : (ns : List (Option NodeSlot)) (es : List (Option EdgeSlot)) (n : ℕ) → HasRings Ending ns es → Walks (gone_round Ending None ns es n) (EndsAt (graph_from ns es) n)
 walks_in_all ns es n r = rw (all_kept (ring_list Ending ns es n)) (walks_in ns es n r)
 
-pub counts_out_all : (ns : List (Option NodeSlot)) (es : List (Option EdgeSlot)) (n : ℕ) → HasRings Beginning ns es → length (gone_round Beginning None ns es n) ≡ out_degree (graph_from ns es) n
-counts_out_all ns es n r = out_degree-walk (graph_from ns es) n (gone_round Beginning None ns es n) (walks_out_all ns es n r)
+-- the same of slots that are equal, and of the ring that stands at a node
+pub walks_out_ring : (ns : List (Option NodeSlot)) (es es' : List (Option EdgeSlot)) (n : ℕ) (r : Ring) → es' ≡ es → r ≡ ring_in Beginning (slot_in ns n) → HasRings Beginning ns es
+    → Walks (those (passes Beginning None es') (follow (next_of Beginning es') r.count r.first)) (BeginsAt (graph_from ns es) n)
+walks_out_ring ns es es' n r same is h =
+    subst (λ xs. Walks (those (passes Beginning None xs) (follow (next_of Beginning xs) r.count r.first)) (BeginsAt (graph_from ns es) n)) (sym same)
+    (subst (λ (q : Ring). Walks (those (passes Beginning None es) (follow (next_of Beginning es) q.count q.first)) (BeginsAt (graph_from ns es) n)) (sym is) (walks_out_all ns es n h))
 
-pub counts_in_all : (ns : List (Option NodeSlot)) (es : List (Option EdgeSlot)) (n : ℕ) → HasRings Ending ns es → length (gone_round Ending None ns es n) ≡ in_degree (graph_from ns es) n
-counts_in_all ns es n r = in_degree-walk (graph_from ns es) n (gone_round Ending None ns es n) (walks_in_all ns es n r)
+pub walks_in_ring : (ns : List (Option NodeSlot)) (es es' : List (Option EdgeSlot)) (n : ℕ) (r : Ring) → es' ≡ es → r ≡ ring_in Ending (slot_in ns n) → HasRings Ending ns es
+    → Walks (those (passes Ending None es') (follow (next_of Ending es') r.count r.first)) (EndsAt (graph_from ns es) n)
+walks_in_ring ns es es' n r same is h =
+    subst (λ xs. Walks (those (passes Ending None xs) (follow (next_of Ending xs) r.count r.first)) (EndsAt (graph_from ns es) n)) (sym same)
+    (subst (λ (q : Ring). Walks (those (passes Ending None es) (follow (next_of Ending es) q.count q.first)) (EndsAt (graph_from ns es) n)) (sym is) (walks_in_all ns es n h))
 
 between-at : (o : Option EdgeSlot) (m n : ℕ) → IsSomeAnd (option_map edge_of o) (λ d. (d.source ≡ m) × (d.target ≡ n)) ↔ (IsSomeAnd (option_map edge_of o) (λ d. d.source ≡ m) × (has_end Ending n o ≡ true))
 between-at None m n = (λ h. absurd h, λ h. absurd h.0)
@@ -73,15 +79,27 @@ between_back-at : (o : Option EdgeSlot) (m n : ℕ) → IsSomeAnd (option_map ed
 between_back-at None m n = (λ h. absurd h, λ h. absurd h.0)
 between_back-at (Some s) m n = (λ h. (h.1, eq-eqb s.source m h.0), λ h. (eqb-true s.source m h.1, h.0))
 
-pub walks_between : (ns : List (Option NodeSlot)) (es : List (Option EdgeSlot)) (m n : ℕ) → HasRings Beginning ns es → Walks (gone_round Beginning (Some n) ns es m) (GoesBetween (graph_from ns es) m n)
+walks_between : (ns : List (Option NodeSlot)) (es : List (Option EdgeSlot)) (m n : ℕ) → HasRings Beginning ns es → Walks (gone_round Beginning (Some n) ns es m) (GoesBetween (graph_from ns es) m n)
 walks_between ns es m n r =
     Walks-those (passes Beginning (Some n) es) (ring_list Beginning ns es m) (Meets Beginning es m) (GoesBetween (graph_from ns es) m n) (r.walks m)
     (λ k. rw (seen_at edge_of es k) (between-at (slot_in es k) m n))
 
-pub walks_between_back : (ns : List (Option NodeSlot)) (es : List (Option EdgeSlot)) (m n : ℕ) → HasRings Ending ns es → Walks (gone_round Ending (Some m) ns es n) (GoesBetween (graph_from ns es) m n)
+walks_between_back : (ns : List (Option NodeSlot)) (es : List (Option EdgeSlot)) (m n : ℕ) → HasRings Ending ns es → Walks (gone_round Ending (Some m) ns es n) (GoesBetween (graph_from ns es) m n)
 walks_between_back ns es m n r =
     Walks-those (passes Ending (Some m) es) (ring_list Ending ns es n) (Meets Ending es n) (GoesBetween (graph_from ns es) m n) (r.walks n)
     (λ k. rw (seen_at edge_of es k) (between_back-at (slot_in es k) m n))
+
+pub walks_between_ring : (ns : List (Option NodeSlot)) (es es' : List (Option EdgeSlot)) (m n : ℕ) (r : Ring) → es' ≡ es → r ≡ ring_in Beginning (slot_in ns m) → HasRings Beginning ns es
+    → Walks (those (passes Beginning (Some n) es') (follow (next_of Beginning es') r.count r.first)) (GoesBetween (graph_from ns es) m n)
+walks_between_ring ns es es' m n r same is h =
+    subst (λ xs. Walks (those (passes Beginning (Some n) xs) (follow (next_of Beginning xs) r.count r.first)) (GoesBetween (graph_from ns es) m n)) (sym same)
+    (subst (λ (q : Ring). Walks (those (passes Beginning (Some n) es) (follow (next_of Beginning es) q.count q.first)) (GoesBetween (graph_from ns es) m n)) (sym is) (walks_between ns es m n h))
+
+pub walks_back_ring : (ns : List (Option NodeSlot)) (es es' : List (Option EdgeSlot)) (m n : ℕ) (r : Ring) → es' ≡ es → r ≡ ring_in Ending (slot_in ns n) → HasRings Ending ns es
+    → Walks (those (passes Ending (Some m) es') (follow (next_of Ending es') r.count r.first)) (GoesBetween (graph_from ns es) m n)
+walks_back_ring ns es es' m n r same is h =
+    subst (λ xs. Walks (those (passes Ending (Some m) xs) (follow (next_of Ending xs) r.count r.first)) (GoesBetween (graph_from ns es) m n)) (sym same)
+    (subst (λ (q : Ring). Walks (those (passes Ending (Some m) es) (follow (next_of Ending es) q.count q.first)) (GoesBetween (graph_from ns es) m n)) (sym is) (walks_between_back ns es m n h))
 
 -- ---- roots
 
@@ -91,14 +109,14 @@ root_here ns es n = rw (seen_at node_of ns n) (λ h. h.1, λ h. (refl, h))
 walks_roots : (ns : List (Option NodeSlot)) (es : List (Option EdgeSlot)) (r : Ring) → HasRoots r ns → Walks (follow (next_root ns) r.count r.first) (IsRoot (graph_from ns es))
 walks_roots ns es r h = Walks-same (follow (next_root ns) r.count r.first) (λ n. ◌≡◌ {A = ℕ} 0 0 × IsRootAt ns n) (IsRoot (graph_from ns es)) (root_here ns es) (h.walks 0)
 
-pub walks_roots_all : (ns : List (Option NodeSlot)) (es : List (Option EdgeSlot)) (r : Ring) → HasRoots r ns → Walks (those (λ k. true) (follow (next_root ns) r.count r.first)) (IsRoot (graph_from ns es))
+walks_roots_all : (ns : List (Option NodeSlot)) (es : List (Option EdgeSlot)) (r : Ring) → HasRoots r ns → Walks (those (λ k. true) (follow (next_root ns) r.count r.first)) (IsRoot (graph_from ns es))
 walks_roots_all ns es r h = rw (all_kept (follow (next_root ns) r.count r.first)) (walks_roots ns es r h)
 
 pub counts_roots : (ns : List (Option NodeSlot)) (es : List (Option EdgeSlot)) (r : Ring) → HasRoots r ns → r.count ≡ root_count (graph_from ns es)
 counts_roots ns es r h = sym (length-follow (next_root ns) r.count r.first) ∙ root_count-walk (graph_from ns es) (follow (next_root ns) r.count r.first) (walks_roots ns es r h)
 
-pub counts_roots_all : (ns : List (Option NodeSlot)) (es : List (Option EdgeSlot)) (r : Ring) → HasRoots r ns → length (those (λ k. true) (follow (next_root ns) r.count r.first)) ≡ root_count (graph_from ns es)
-counts_roots_all ns es r h = root_count-walk (graph_from ns es) (those (λ k. true) (follow (next_root ns) r.count r.first)) (walks_roots_all ns es r h)
+pub walks_roots_ring : (ns : List (Option NodeSlot)) (es : List (Option EdgeSlot)) (ns' : List (Option NodeSlot)) (r : Ring) → ns' ≡ ns → HasRoots r ns → Walks (those (λ k. true) (follow (next_root ns') r.count r.first)) (IsRoot (graph_from ns es))
+walks_roots_ring ns es ns' r same h = subst (λ xs. Walks (those (λ k. true) (follow (next_root xs) r.count r.first)) (IsRoot (graph_from ns es))) (sym same) (walks_roots_all ns es r h)
 
 -- ---- all nodes
 
@@ -138,9 +156,12 @@ some_seen f (Some x) k n within = (λ h. ((omega arith, within refl), refl), λ 
 node_seen : (ns : List (Option NodeSlot)) (es : List (Option EdgeSlot)) (k : ℕ) → (IsSome (slot_in ns k) → k < length ns) → IsNode (graph_from ns es) k ↔ (((0 ≤ k) × (k < 0 + length ns)) × (is_some (slot_in ns k) ≡ true))
 node_seen ns es k within = rw (seen_at node_of ns k) (some_seen node_of (slot_in ns k) k (0 + length ns) (λ h. let l = within h in omega arith))
 
-pub walks_nodes : (ns : List (Option NodeSlot)) (es : List (Option EdgeSlot)) → ((k : ℕ) → IsSome (slot_in ns k) → k < length ns) → length ns ≤ 18446744073709551615 → Walks (those (λ k. is_some (slot_in ns k)) (follow after (length ns) 0)) (IsNode (graph_from ns es))
+walks_nodes : (ns : List (Option NodeSlot)) (es : List (Option EdgeSlot)) → ((k : ℕ) → IsSome (slot_in ns k) → k < length ns) → length ns ≤ 18446744073709551615 → Walks (those (λ k. is_some (slot_in ns k)) (follow after (length ns) 0)) (IsNode (graph_from ns es))
 walks_nodes ns es within h =
     Walks-those (λ k. is_some (slot_in ns k)) (follow after (length ns) 0) (λ k. (0 ≤ k) × (k < 0 + length ns)) (IsNode (graph_from ns es)) (walks_on (length ns) 0 (omega arith)) (λ k. node_seen ns es k (within k))
 
-pub counts_nodes : (ns : List (Option NodeSlot)) (es : List (Option EdgeSlot)) → ((k : ℕ) → IsSome (slot_in ns k) → k < length ns) → length ns ≤ 18446744073709551615 → length (those (λ k. is_some (slot_in ns k)) (follow after (length ns) 0)) ≡ node_count (graph_from ns es)
-counts_nodes ns es within h = node_count-walk (graph_from ns es) (those (λ k. is_some (slot_in ns k)) (follow after (length ns) 0)) (walks_nodes ns es within h)
+pub walks_nodes_all : (ns : List (Option NodeSlot)) (es : List (Option EdgeSlot)) (ns' : List (Option NodeSlot)) (count : ℕ) → ns' ≡ ns → count ≡ length ns → ((k : ℕ) → IsSome (slot_in ns k) → k < length ns) → length ns ≤ 18446744073709551615
+    → Walks (those (λ k. is_some (slot_in ns' k)) (follow after count 0)) (IsNode (graph_from ns es))
+walks_nodes_all ns es ns' count same n within h =
+    subst (λ xs. Walks (those (λ k. is_some (slot_in xs k)) (follow after count 0)) (IsNode (graph_from ns es))) (sym same)
+    (subst (λ c. Walks (those (λ k. is_some (slot_in ns k)) (follow after c 0)) (IsNode (graph_from ns es))) (sym n) (walks_nodes ns es within h))

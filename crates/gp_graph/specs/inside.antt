@@ -2,6 +2,7 @@
 pub mod Slots
 pub mod View
 pub mod Rings
+pub mod Pairs
 pub mod Roots
 pub mod Sound
 pub mod Sought

@@ -4,12 +4,13 @@ ghost use Rattle.std.specs.Prelude.{◌≡◌, ◌<◌, ◌≤◌, ◌+◌, ◌-
 ghost use Rattle.gp_values.specs.Graph.{IsGraph, HasNoEdges, empty_graph, with_node, with_edge, without_node, without_edge, relabeled, relabeled_edge, with_node_at, with_edge_at, without_node_number, without_edge_number, node_at, edge_at, in_degree, out_degree, node_count, root_count};
 ghost use Rattle.gp_graph.specs.Walks.{Walks, IsNode, IsRoot, BeginsAt, EndsAt, GoesBetween};
 
+use crate::pairs::PairIndex;
 use crate::rings::{
     Side, begin_at, begin_behind, ends_of, enter_both, leave_both, rewrite_edge, ring_at,
 };
 use crate::roots::{admit, clear, fill, relabel};
 use crate::slots::{EdgeSlot, NodeSlot, Ring, append, copy_of, drop_last, look, put};
-use crate::walk::{Walk, over_edges, over_nodes, over_roots};
+use crate::walk::{Sought, Walk, over};
 use gp_memory::NoMemory;
 use gp_values::{EdgeMark, List, NodeMark};
 use std::alloc::Global;
@@ -22,6 +23,7 @@ pub struct Graph {
     nodes: Vec<Option<NodeSlot>>,
     edges: Vec<Option<EdgeSlot>>,
     roots: Ring,
+    index: PairIndex,
     node_count: u64,
     start: u64,
     changed: Option<u64>,
@@ -33,12 +35,14 @@ impl Drop for Graph {
             nodes,
             edges,
             roots: _,
+            index,
             node_count: _,
             start: _,
             changed: _,
         } = self;
         drop(nodes);
         drop(edges);
+        drop(index);
     }
 }
 
@@ -50,11 +54,11 @@ impl Model for Graph {
     ghost coded = { held_code };
 
     ghost use Rattle.gp_graph.specs.inside.View.{held_of};
-    ghost use Rattle.gp_graph.specs.inside.Sound.{IsHeld};
+    ghost use Rattle.gp_graph.specs.inside.Sound.{IsSound};
 
     ghost view = { held_of };
 
-    ghost invariant = { λ a. IsHeld a.nodes.items a.edges.items a.roots a.node_count };
+    ghost invariant = { λ a. IsSound a.nodes.items a.edges.items a.roots a.node_count a.index };
 }
 
 impl Graph {
@@ -66,6 +70,7 @@ impl Graph {
             nodes: Vec::new(alloc),
             edges: Vec::new(alloc),
             roots: Ring { first: 0, count: 0 },
+            index: PairIndex::new(alloc),
             node_count: 0,
             start: 0,
             changed: None,
@@ -83,6 +88,16 @@ impl Graph {
         self.nodes.reserve(nodes as usize)?;
         self.edges.reserve(edges as usize)?;
         Ok(())
+    }
+
+    /// Indexes the edges by the pair of their ends, here and in copies: `edges_between` then takes constant time for
+    /// what it gives. Each edge that is added takes more memory. Where that is refused, walks go on without an index.
+    pub fn index_edges(&mut self)
+        ensures graph { self.new.graph ≡ self.old.graph }
+        ensures node_room { self.new.node_room ≡ self.old.node_room }
+        ensures edge_room { self.new.edge_room ≡ self.old.edge_room }
+    {
+        self.index.renew(&self.edges);
     }
 
     /// Adds a node and gives its number. On refusal the graph is as before.
@@ -123,6 +138,7 @@ impl Graph {
         let number = self.edges.len() as u64;
         append(&mut self.edges, EdgeSlot::new(source, target, label, mark))?;
         enter_both(&mut self.nodes, &mut self.edges, source, target, number);
+        self.index.add(&self.edges, number);
         Ok(number)
     }
 
@@ -156,6 +172,7 @@ impl Graph {
     {
         let (source, target) = ends_of(&self.edges, e);
         leave_both(&mut self.nodes, &mut self.edges, source, target, e);
+        self.index.leave(&self.edges, e);
         match put(&mut self.edges, e, None) {
             Some(slot) => (slot.source, slot.target, slot.label, slot.mark),
             None => unreachable!(),
@@ -198,6 +215,7 @@ impl Graph {
         ensures edge_room { self.new.edge_room ≡ self.old.edge_room }
     {
         begin_at(&mut self.nodes, &self.edges, e);
+        self.index.begin(&self.edges, e, false);
     }
 
     /// Lets the walks over the edges at both ends of an edge begin behind it. The graph stays.
@@ -208,6 +226,7 @@ impl Graph {
         ensures edge_room { self.new.edge_room ≡ self.old.edge_room }
     {
         begin_behind(&mut self.nodes, &self.edges, e);
+        self.index.begin(&self.edges, e, true);
     }
 
     /// Puts a node back at a number that is vacant and below the next one. It takes no memory.
@@ -238,6 +257,7 @@ impl Graph {
         let slot = EdgeSlot::new(source, target, label, mark);
         let _vacant = put(&mut self.edges, e, Some(slot));
         enter_both(&mut self.nodes, &mut self.edges, source, target, e);
+        self.index.enter(&self.edges, e);
         self.begin_at(e);
     }
 
@@ -303,7 +323,8 @@ impl Graph {
         ensures counted { length result ≡ node_count self.now.graph }
         ensures fits { length result < 2 ^ 64 }
     {
-        over_nodes(&self.nodes)
+        let count = self.nodes.len() as u64;
+        over(Sought::Nodes(&self.nodes), Ring { first: 0, count })
     }
 
     /// How many nodes there are. It takes constant time.
@@ -319,7 +340,7 @@ impl Graph {
         ensures counted { length result ≡ root_count self.now.graph }
         ensures fits { length result < 2 ^ 64 }
     {
-        over_roots(&self.nodes, self.roots)
+        over(Sought::Roots(&self.nodes), self.roots)
     }
 
     /// How many roots there are. It takes constant time.
@@ -337,7 +358,7 @@ impl Graph {
         ensures fits { length result < 2 ^ 64 }
     {
         let ring = ring_at(&self.nodes, Side::Beginning, n);
-        over_edges(&self.edges, Side::Beginning, ring, None)
+        over(Sought::Edges(&self.edges, Side::Beginning, None), ring)
     }
 
     /// The numbers of the edges that end at a node. A loop is among them.
@@ -348,11 +369,11 @@ impl Graph {
         ensures fits { length result < 2 ^ 64 }
     {
         let ring = ring_at(&self.nodes, Side::Ending, n);
-        over_edges(&self.edges, Side::Ending, ring, None)
+        over(Sought::Edges(&self.edges, Side::Ending, None), ring)
     }
 
     /// The numbers of the edges that go from the node `source` to the node `target`. The walk goes over the edges
-    /// that begin at the one or over those that end at the other, whichever are fewer.
+    /// that begin at the one, those that end at the other, or those of a bucket of the index, whichever are fewest.
     pub fn edges_between(&self, source: u64, target: u64) -> Walk<'_>
         requires source { IsSome (node_at self.now.graph source) }
         requires target { IsSome (node_at self.now.graph target) }
@@ -363,10 +384,17 @@ impl Graph {
     {
         let from = ring_at(&self.nodes, Side::Beginning, source);
         let to = ring_at(&self.nodes, Side::Ending, target);
+        let most = from.count.min(to.count);
+        if let Some(ring) = self.index.ring(source, target, most) {
+            return over(Sought::Pairs(&self.index.pairs, source, target), ring);
+        }
         if from.count <= to.count {
-            over_edges(&self.edges, Side::Beginning, from, Some(target))
+            over(
+                Sought::Edges(&self.edges, Side::Beginning, Some(target)),
+                from,
+            )
         } else {
-            over_edges(&self.edges, Side::Ending, to, Some(source))
+            over(Sought::Edges(&self.edges, Side::Ending, Some(source)), to)
         }
     }
 
@@ -409,6 +437,7 @@ impl Graph {
             nodes: copy_of(&self.nodes, alloc)?,
             edges: copy_of(&self.edges, alloc)?,
             roots: self.roots,
+            index: self.index.copy(alloc)?,
             node_count: self.node_count,
             start: self.start,
             changed: self.changed,

@@ -170,15 +170,8 @@ fn enter(nodes: &mut [Option<NodeSlot>], edges: &mut [Option<EdgeSlot>], side: S
     let (first, last) = ends(nodes, edges, side, n, e);
     join(edges, side, last, e);
     join(edges, side, e, first);
-    set_ring(
-        nodes,
-        side,
-        n,
-        Ring {
-            first,
-            count: ring.count + 1,
-        },
-    );
+    let count = ring.count + 1;
+    set_ring(nodes, side, n, Ring { first, count });
 }
 
 /// Takes an edge out of the ring of its node, which then begins behind it.
@@ -192,15 +185,9 @@ fn leave(nodes: &mut [Option<NodeSlot>], edges: &mut [Option<EdgeSlot>], side: S
     let link = link_at(edges, side, e);
     join(edges, side, link.prev, link.next);
     let ring = ring_at(nodes, side, n);
-    set_ring(
-        nodes,
-        side,
-        n,
-        Ring {
-            first: link.next,
-            count: ring.count - 1,
-        },
-    );
+    let first = link.next;
+    let count = ring.count - 1;
+    set_ring(nodes, side, n, Ring { first, count });
 }
 
 /// Puts an edge at the back of the two rings that it belongs to.

@@ -9,7 +9,7 @@ ghost use Rattle.gp_graph.specs.inside.View.{node_of};
 ghost use Rattle.gp_graph.specs.inside.Rings.{changed_at, root_link};
 ghost use Rattle.gp_graph.specs.inside.Roots.{with_next_root, with_prev_root, next_root, prev_root, is_root_in, IsRootAt, HasRoots, HasRootsBut, KeepsNodes, rewritten};
 
-use crate::slots::{Link, NodeSlot, Ring, look, put};
+use crate::slots::{Link, NodeSlot, Ring, ends, look, put};
 use gp_values::{List, NodeMark};
 use std::mem;
 
@@ -61,18 +61,6 @@ fn join_roots(nodes: &mut [Option<NodeSlot>], from: u64, to: u64)
     set_prev(nodes, to, from);
 }
 
-// What is to be the first and what the last before a node that enters the ring.
-fn ends_of_roots(nodes: &[Option<NodeSlot>], roots: Ring, n: u64) -> (u64, u64)
-    ensures none { roots.count ≡ 0 → (result.0 ≡ n) × (result.1 ≡ n) }
-    ensures some { roots.count ≢ 0 → (result.0 ≡ roots.first) × (result.1 ≡ prev_root nodes.now roots.first) }
-{
-    if roots.count == 0 {
-        (n, n)
-    } else {
-        (roots.first, root_link_at(nodes, roots.first).prev)
-    }
-}
-
 // Puts a root at the back of the ring.
 fn enter_roots(nodes: &mut [Option<NodeSlot>], roots: Ring, n: u64) -> Ring
     requires root { IsRootAt nodes.old n }
@@ -80,7 +68,8 @@ fn enter_roots(nodes: &mut [Option<NodeSlot>], roots: Ring, n: u64) -> Ring
     ensures rings { HasRoots result nodes.new }
     ensures keeps { KeepsNodes nodes.old nodes.new }
 {
-    let (first, last) = ends_of_roots(nodes, roots, n);
+    let before = root_link_at(nodes, roots.first).prev;
+    let (first, last) = ends(roots, before, n);
     join_roots(nodes, last, n);
     join_roots(nodes, n, first);
     Ring {

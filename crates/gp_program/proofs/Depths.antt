@@ -4,7 +4,7 @@ use Rattle.std.specs.Prelude.{if◌then◌else◌, nat_lt, option_map, fold, sum
 use Rattle.std.proofs.lemmas.Bool.{ltb-true, ltb-false}
 use Rattle.gp_memory.specs.declared.refusal.NoMemory.{NoMemory}
 use Rattle.gp_tokens.specs.declared.token.Token.{Token}
-use Rattle.gp_program.specs.Depth.{Nesting, behind, outside, depth, IsTooDeep, IsShallow, FindsDepth}
+use Rattle.gp_program.specs.Depth.{Nesting, behind, outside, FindsDepth}
 use Rattle.gp_program.specs.inside.Deep.{too_deep_from, GivesPlace}
 
 -- the depth at the last of these tokens, behind tokens of this nesting

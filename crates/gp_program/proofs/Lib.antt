@@ -6,3 +6,6 @@ pub mod CommandLaws
 pub mod ProgramLaws
 pub mod Widening
 pub mod Parsing
+pub mod Turns
+pub mod RuleEnds
+pub mod CommandParts

@@ -1,10 +1,9 @@
 -- What the tokens of a program are read as is their one tree.
-use Rattle.std.proofs.Common.{◌≡◌, ◌≢◌, ℕ, List, [], ◌∷◌, length, Option, Some, None, Ok, Err, refl, sym, ◌∙◌, ap, subst, arith}
-use Rattle.std.specs.Prelude.{Result, ◌≤◌}
+use Rattle.std.proofs.Common.{◌≡◌, ◌≢◌, ℕ, List, [], ◌∷◌, length, Option, Some, None, Ok, Err, refl, ap, subst, arith}
+use Rattle.std.specs.Prelude.{Result}
 use Rattle.gp_tokens.specs.declared.token.Token.{Token}
-use Rattle.gp_grammar.specs.Grammar.{shape_of}
 use Rattle.gp_grammar.specs.Reading.{reader_of}
-use Rattle.gp_program.specs.Depth.{IsShallow, IsTooDeep, FindsDepth, outside}
+use Rattle.gp_program.specs.Depth.{IsShallow, FindsDepth, outside}
 use Rattle.gp_program.specs.inside.Deep.{too_deep_from}
 use Rattle.gp_program.proofs.Depths.{finds}
 use Rattle.gp_syntax.specs.declared.tree.Ast.{Ast}
@@ -12,7 +11,7 @@ use Rattle.gp_expressions.specs.declared.ranged.Ranged.{Ranged}
 use Rattle.gp_program.specs.declared.parse.ParseFault.{ParseFault}
 use Rattle.gp_program.specs.declared.parse.ParseFault.TheVariants as faults
 use Rattle.gp_program.specs.Programs.{program}
-use Rattle.gp_program.specs.Program.{IsProgram, IsTree, IsPastRange, IsNoProgram, ParsesProgram, place_of_start}
+use Rattle.gp_program.specs.Program.{IsProgram, IsTree, IsPastRange, ParsesProgram, place_of_start}
 use Rattle.gp_program.specs.Laws.{TokensHaveOneTree, TokensHaveAnAnswer}
 use Rattle.gp_program.specs.inside.Stages.{all_read, read_by, ReadsTree}
 use Rattle.gp_program.proofs.ProgramLaws.{program_sound, program_again}

@@ -1,6 +1,5 @@
 -- Programs are read without a doubt, and each has one tree.
-use Rattle.std.proofs.Common.{◌≡◌, ℕ, zero, suc, ◌⊎◌, inl, inr, Bool, true, false, List, [], ◌∷◌, ◌++◌, length, Some, None, Ok, Err, refl, sym, ◌∙◌, ap}
-use Rattle.std.specs.Prelude.{Option, Result}
+use Rattle.std.proofs.Common.{◌≡◌, ℕ, zero, suc, ◌⊎◌, inl, inr, Bool, true, false, List, [], ◌∷◌, ◌++◌, Some, refl}
 use Rattle.gp_tokens.specs.declared.token.Token.{Token}
 use Rattle.gp_tokens.specs.Kinds.{same_kind}
 use Rattle.gp_grammar.specs.declared.want.Want.{Want}
@@ -8,7 +7,7 @@ use Rattle.gp_grammar.specs.declared.want.Want.TheVariants as wants
 use Rattle.gp_grammar.specs.Wants.{excludes, meets}
 use Rattle.gp_grammar.specs.Grammar.{Grammar, One, Made, Repeated, shape_of}
 use Rattle.gp_grammar.specs.Fits.{Fits, Avoids, AllAvoid, NoneOf, BeginsBy, enders, nullable}
-use Rattle.gp_grammar.specs.Laws.{Again, Sound}
+use Rattle.gp_grammar.specs.Laws.{Sound}
 use Rattle.gp_grammar.specs.Signs.{close_bracket}
 use Rattle.gp_grammar.specs.Reading.{reader_of}
 use Rattle.gp_grammar.proofs.Complete.{all_again}
@@ -20,7 +19,6 @@ use Rattle.gp_expressions.specs.Signs.{where_word}
 use Rattle.gp_expressions.specs.Expressions.{name, list}
 use Rattle.gp_expressions.specs.Conditions.{condition}
 use Rattle.gp_program.specs.Rules.{rule, rule_with}
-use Rattle.gp_program.specs.Commands.{commands_of}
 use Rattle.gp_program.specs.Programs.{rule_decl, rules, locals, procedure, procedure_group, declarations_in, declarations, program}
 use Rattle.gp_expressions.proofs.ListLaws.{list_part}
 use Rattle.gp_expressions.proofs.ConditionLaws.{condition_enders, condition_fits, condition_full, condition_follow, avoid_both}

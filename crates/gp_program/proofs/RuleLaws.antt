@@ -1,10 +1,8 @@
 -- Rules are read without a doubt.
-use Rattle.std.proofs.Common.{◌≡◌, Bool, true, false, List, [], ◌∷◌, ◌++◌, refl, ◌∙◌}
+use Rattle.std.proofs.Common.{◌≡◌, true, false, List, [], ◌∷◌, ◌++◌, refl, ◌∙◌}
 use Rattle.gp_tokens.specs.declared.token.Token.{Token}
 use Rattle.gp_tokens.specs.Kinds.{same_kind}
 use Rattle.gp_grammar.specs.Wants.{excludes, meets}
-use Rattle.gp_grammar.specs.declared.want.Want.{Want}
-use Rattle.gp_grammar.specs.declared.want.Want.TheVariants as wants
 use Rattle.gp_grammar.specs.Shape.{Is, Many, none, more, ◌then◌, second_of}
 use Rattle.gp_grammar.specs.Grammar.{Grammar, One, Made, ◌followed_by◌, shape_of}
 use Rattle.gp_grammar.specs.Fits.{Fits, Avoids, AllAvoid, Lacks, Answers, BeginsBy, enders, nullable}
@@ -21,7 +19,7 @@ use Rattle.gp_expressions.specs.Expressions.{Tree, name}
 use Rattle.gp_expressions.specs.Conditions.{CondTree, mark, label}
 use Rattle.gp_program.specs.Rules.{coord, position, place, flag, node, edge, nodes, edges, body, two_bars, barred, graph, variable_type, variable_group, variables, interface, where_part, rule_with}
 use Rattle.gp_expressions.proofs.ListLaws.{IsListPart}
-use Rattle.gp_expressions.proofs.ConditionLaws.{IsLabelPart, label_part, avoid_both}
+use Rattle.gp_expressions.proofs.ConditionLaws.{label_part, avoid_both}
 
 module _ (l : Grammar (Ranged Tree)) (p : IsListPart l) where
   label_lacks : Lacks bar (label l) × Lacks close_bracket (label l)

@@ -1,5 +1,5 @@
 -- Commands and declarations, by the room that is left.
-use Rattle.std.proofs.Common.{◌≡◌, ◌≢◌, ℕ, zero, suc, ◌-◌, refl, ap, arith}
+use Rattle.std.proofs.Common.{◌≡◌, ◌≢◌, ℕ, zero, suc, ◌-◌, refl, arith}
 use Rattle.gp_program.specs.Commands.{simple, simple_in, sequence}
 use Rattle.gp_program.specs.Programs.{declarations, declarations_in}
 

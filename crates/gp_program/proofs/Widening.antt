@@ -1,34 +1,31 @@
 -- A tree at some room is a tree at each room that is no less than the number of tokens.
-use Rattle.std.proofs.Common.{◌≡◌, ℕ, zero, suc, ◌<◌, ◌≤◌, Bool, true, false, List, [], ◌∷◌, length, Option, refl, arith}
+use Rattle.std.proofs.Common.{◌≡◌, ℕ, zero, suc, ◌<◌, ◌≤◌, false, List, [], length, refl, arith}
 use Rattle.gp_tokens.specs.declared.token.Token.{Token}
 use Rattle.gp_grammar.specs.declared.want.Want.{Want}
 use Rattle.gp_grammar.specs.declared.want.Want.TheVariants as wants
-use Rattle.gp_grammar.specs.Grammar.{Grammar, One, Made, Repeated, Separated, ◌followed_by◌, shape_of}
+use Rattle.gp_grammar.specs.Grammar.{Grammar, One, Made, ◌followed_by◌, shape_of}
 use Rattle.gp_grammar.specs.Fits.{nullable}
-use Rattle.gp_grammar.specs.Laws.{Keeps, Shrinks}
+use Rattle.gp_grammar.specs.Laws.{Keeps}
 use Rattle.gp_grammar.specs.Shape.{Shape, Is, ◌then◌, one, other, none, more, list_of, second_of}
 use Rattle.gp_grammar.specs.Shape as s
-use Rattle.gp_grammar.specs.Signs.{open_sign, close_sign, open_bracket, close_bracket, open_brace, comma, colon, semicolon, dot, plus, minus, star, slash, bar, arrow, equal, root_word}
+use Rattle.gp_grammar.specs.Signs.{open_sign, close_sign, open_bracket, open_brace, comma, colon, semicolon, dot, plus, minus, star, slash, bar, arrow, equal, root_word}
 use Rattle.gp_grammar.proofs.Complete.{keeps, shrinks}
 use Rattle.gp_grammar.proofs.Shapes.{token_shrinks}
-use Rattle.gp_values.specs.Names.{Name}
 use Rattle.gp_syntax.specs.declared.kinds.VariableType.{VariableType}
 use Rattle.gp_syntax.specs.declared.kinds.VariableType.TheVariants as types
 use Rattle.gp_syntax.specs.declared.expression.SumSign.TheVariants as sums
 use Rattle.gp_syntax.specs.declared.expression.ProductSign.TheVariants as products
-use Rattle.gp_syntax.specs.declared.tree.Ast.{Ast}
 use Rattle.gp_syntax.specs.declared.tree.Decl.{Decl}
 use Rattle.gp_syntax.specs.declared.tree.CommandTree.{CommandTree}
 use Rattle.gp_expressions.specs.declared.ranged.Ranged.{Ranged}
 use Rattle.gp_expressions.specs.Signs.{not_word, and_word, or_word, edge_word, then_word}
 use Rattle.gp_expressions.specs.Expressions.{Tree, signed_by, behind, unary, quotients, product, differences, sum, dots, joins, name, nested, operand, list}
-use Rattle.gp_expressions.specs.Conditions.{CondTree, mark, label, comparison, typed, edge_label, edge_test, comparing, plain_test, conjunction, disjunction, in_parentheses, negated_in, negation, condition}
+use Rattle.gp_expressions.specs.Conditions.{CondTree, label, comparison, typed, edge_label, edge_test, comparing, plain_test, conjunction, disjunction, in_parentheses, negated_in, negation, condition}
 use Rattle.gp_expressions.proofs.ListLaws.{never_empty}
 use Rattle.gp_expressions.proofs.ConditionLaws.{negation_full}
-use Rattle.gp_program.specs.Rules.{position, place, flag, node, edge, nodes, edges, body, barred, graph, variables, interface, where_part, rule_with, rule}
+use Rattle.gp_program.specs.Rules.{position, flag, node, edge, nodes, edges, body, barred, graph, variables, interface, where_part, rule_with, rule}
 use Rattle.gp_program.specs.Commands.{repeatable, simple_in, block, part, command, sequence, simple, commands_of}
 use Rattle.gp_program.specs.Programs.{rule_decl, rules, locals, procedure, procedure_group, declarations_in, declarations, program}
-use Rattle.gp_program.specs.Program.{IsProgram}
 use Rattle.gp_program.specs.Laws.{ProgramsHaveRoom}
 use Rattle.gp_program.proofs.CommandLaws.{simple_full}
 

@@ -1,5 +1,5 @@
 -- How deep tokens are nested: brackets, and runs of minus signs or of `not`.
-use Rattle.std.specs.Prelude.{◌≡◌, ℕ, ◌+◌, ◌<◌, ◌≤◌, Bool, if◌then◌else◌, sum, fold, take, length, List, [], ◌∷◌, Option, Some, None, Result, Ok, Err}
+use Rattle.std.specs.Prelude.{ℕ, ◌+◌, ◌<◌, ◌≤◌, Bool, if◌then◌else◌, sum, fold, take, length, List, [], ◌∷◌, Option, Some, None, Result, Ok, Err}
 use Rattle.gp_memory.specs.declared.refusal.NoMemory.{NoMemory}
 use Rattle.gp_memory.specs.Free.{Free}
 use Rattle.gp_tokens.specs.declared.keyword.Keyword.TheVariants as word

@@ -1,5 +1,5 @@
 -- What holds of programs' tokens.
-use Rattle.std.specs.Prelude.{◌≡◌, ◌≢◌, ℕ, List, [], Result, Ok, Err}
+use Rattle.std.specs.Prelude.{◌≡◌, ◌≢◌, ℕ, List, [], Result, Err}
 use Rattle.gp_tokens.specs.declared.token.Token.{Token}
 use Rattle.gp_syntax.specs.declared.tree.Ast.{Ast}
 use Rattle.gp_expressions.specs.declared.ranged.Ranged.{Ranged}

@@ -20,7 +20,7 @@ use Rattle.gp_syntax.specs.declared.tree.RuleDecl.{RuleDecl}
 use Rattle.gp_expressions.specs.declared.ranged.Ranged.{Ranged}
 use Rattle.gp_expressions.specs.Ranges.{whole, with, both, gathered}
 use Rattle.gp_expressions.specs.Signs.{int_word, char_word, string_word, atom_word, list_word, where_word, interface_word, bidirectional_word}
-use Rattle.gp_expressions.specs.Expressions.{Tree, name, inner, behind, list}
+use Rattle.gp_expressions.specs.Expressions.{Tree, name, behind, list}
 use Rattle.gp_expressions.specs.Conditions.{CondTree, label, means, condition}
 
 -- ---- positions, of which nothing is kept

@@ -1,6 +1,7 @@
 pub mod Deep
 pub mod Stages
 pub mod RuleParts
+pub mod Branches
 pub mod Calls
 pub mod EdgeParts
 pub mod Groups

@@ -3,9 +3,8 @@
 ghost use Rattle.std.specs.Prelude.{◌≡◌, MatchResult};
 ghost use Rattle.gp_grammar.specs.Cursor.{Reads};
 ghost use Rattle.gp_grammar.specs.Reading.{reader_of};
-ghost use Rattle.gp_expressions.specs.Expressions.{behind};
-ghost use Rattle.gp_expressions.specs.Signs.{then_word};
 ghost use Rattle.gp_program.specs.Commands as spec;
+ghost use Rattle.gp_program.specs.inside.Branches.{part_of, branches_behind};
 ghost use Rattle.gp_program.specs.inside.Calls.{call};
 ghost use Rattle.gp_program.specs.inside.Groups.{group_of, branches_of};
 
@@ -179,47 +178,54 @@ fn read_block(tokens: &mut Tokens<'_, '_>, room: u64) -> Result<CommandTree, Rea
     grouped(tokens.alloc(), Group::Or, parts)
 }
 
-// "then" Block
-#[cycle(command)]
-fn read_then(tokens: &mut Tokens<'_, '_>, room: u64) -> Result<CommandTree, ReadError>
-    ensures { Reads (reader_of (behind then_word (spec.block (spec.simple room))) tokens.old) result tokens.new }
-{
-    if tokens.eat(THEN) {
-        return read_block(tokens, room);
-    }
-    Err(tokens.refusal())
-}
-
-// [word Block]
+// word Block where it has to be there, [word Block] elsewhere
 #[cycle(command)]
 #[tactic(auto, unfolding(crate::specs::Commands::part))]
-fn read_part(tokens: &mut Tokens<'_, '_>, room: u64, word: Want) -> Result<CommandTree, ReadError>
-    ensures { Reads (reader_of (spec.part (spec.simple room) word) tokens.old) result tokens.new }
+fn read_part(
+    tokens: &mut Tokens<'_, '_>,
+    room: u64,
+    word: Want,
+    required: bool,
+) -> Result<CommandTree, ReadError>
+    ensures { Reads (reader_of (part_of required (spec.simple room) word) tokens.old) result tokens.new }
 {
     if tokens.eat(word) {
         return read_block(tokens, room);
+    }
+    if required {
+        return Err(tokens.refusal());
     }
     let missing = CommandTree::Skip;
     Ok(missing)
 }
 
+// Block "then" Block ["else" Block], behind "if", and Block ["then" Block] ["else" Block], behind "try"
+#[cycle(command)]
+#[tactic(auto, unfolding(crate::specs::inside::Branches::branches_behind))]
+fn read_branches(
+    tokens: &mut Tokens<'_, '_>,
+    room: u64,
+    tried: bool,
+) -> Result<CommandTree, ReadError>
+    ensures { Reads (reader_of (branches_behind tried (spec.simple room)) tokens.old) result tokens.new }
+{
+    let condition = read_block(tokens, room)?;
+    let met = read_part(tokens, room, THEN, !tried)?;
+    let unmet = read_part(tokens, room, ELSE, false)?;
+    branches(tokens.alloc(), tried, condition, met, unmet)
+}
+
 // Com = Block | "if" Block "then" Block ["else" Block] | "try" Block ["then" Block] ["else" Block]
 #[cycle(command)]
-#[tactic(auto, unfolding(crate::specs::Commands::command))]
+#[tactic(auto, using(crate::proofs::CommandParts::if_parts, crate::proofs::CommandParts::try_parts, crate::proofs::CommandParts::block_alone))]
 fn read_command(tokens: &mut Tokens<'_, '_>, room: u64) -> Result<CommandTree, ReadError>
     ensures { Reads (reader_of (spec.command (spec.simple room)) tokens.old) result tokens.new }
 {
     if tokens.eat(Want::Keyword(Keyword::If)) {
-        let condition = read_block(tokens, room)?;
-        let yes = read_then(tokens, room)?;
-        let no = read_part(tokens, room, ELSE)?;
-        return branches(tokens.alloc(), false, condition, yes, no);
+        return read_branches(tokens, room, false);
     }
     if tokens.eat(Want::Keyword(Keyword::Try)) {
-        let condition = read_block(tokens, room)?;
-        let yes = read_part(tokens, room, THEN)?;
-        let no = read_part(tokens, room, ELSE)?;
-        return branches(tokens.alloc(), true, condition, yes, no);
+        return read_branches(tokens, room, true);
     }
     read_block(tokens, room)
 }

@@ -12,10 +12,11 @@ use gp_memory::NoMemory as Refused;
 use gp_syntax::Ast;
 use gp_tokens::Token;
 use std::alloc::Global;
+use std::fmt::{self, Debug, Display, Formatter, Write};
 use thiserror::Error;
 
 /// Why tokens have no tree: the first of these that holds. The number is the place of a token, counted from 0.
-#[derive(Debug, Drop, Error)]
+#[derive(Drop, Error)]
 pub enum ParseFault {
     /// The first token that is nested more than 64 deep.
     #[error("TooDeep {0}")]
@@ -29,6 +30,13 @@ pub enum ParseFault {
     /// Memory was refused.
     #[error("NoMemory")]
     NoMemory,
+}
+
+// As it is displayed.
+impl Debug for ParseFault {
+    fn fmt<W: Write>(&self, f: &mut Formatter<W>) -> fmt::Result {
+        Display::fmt(self, f)
+    }
 }
 
 impl From<Refused> for ParseFault {

@@ -8,7 +8,7 @@ ghost use Rattle.gp_expressions.specs.Conditions.{condition};
 ghost use Rattle.gp_expressions.specs.Expressions.{behind, name as name_of, list};
 ghost use Rattle.gp_program.specs.Rules as spec;
 ghost use Rattle.gp_program.specs.inside.Names.{names};
-ghost use Rattle.gp_program.specs.inside.RuleParts.{whole_rule, rule_end, rule_sides};
+ghost use Rattle.gp_program.specs.inside.RuleParts.{whole_rule, interface_part, rule_end, rule_sides};
 
 use crate::graph::read_graph;
 use gp_expressions::{CondTree, Ranged, read_condition, read_name, whole};
@@ -165,8 +165,23 @@ impl Sides {
     }
 }
 
+// "interface" "=" "{" [Item {"," Item}] "}"
+#[tactic(auto, unfolding(crate::specs::inside::RuleParts::interface_part, crate::specs::Rules::interface))]
+fn read_interface(tokens: &mut Tokens<'_, '_>) -> Result<Items<Name>, ReadError>
+    ensures { Reads (reader_of interface_part tokens.old) result tokens.new }
+{
+    tokens.expect(Want::Keyword(Keyword::Interface))?;
+    tokens.expect(Want::Kind(Kind::Equal))?;
+    tokens.expect(Want::Kind(Kind::OpenBrace))?;
+    let names = read_names(tokens, Want::Item)?;
+    if !tokens.eat(Want::Kind(Kind::CloseBrace)) {
+        return Err(tokens.refusal());
+    }
+    Ok(names)
+}
+
 // "interface" "=" "{" [Item {"," Item}] "}" ["where" Cond], behind the sides
-#[tactic(auto, unfolding(crate::specs::inside::RuleParts::rule_end, crate::specs::Rules::interface))]
+#[tactic(auto, unfolding(crate::specs::inside::RuleParts::rule_end))]
 fn read_end(
     tokens: &mut Tokens<'_, '_>,
     room: u64,
@@ -174,16 +189,7 @@ fn read_end(
 ) -> Result<Ranged<RuleDecl>, ReadError>
     ensures { Reads (reader_of (rule_end sides (condition room room)) tokens.old) result tokens.new }
 {
-    if !tokens.eat(Want::Keyword(Keyword::Interface))
-        || !tokens.eat(Want::Kind(Kind::Equal))
-        || !tokens.eat(Want::Kind(Kind::OpenBrace))
-    {
-        return Err(tokens.refusal());
-    }
-    let interface = read_names(tokens, Want::Item)?;
-    if !tokens.eat(Want::Kind(Kind::CloseBrace)) {
-        return Err(tokens.refusal());
-    }
+    let interface = read_interface(tokens)?;
     let condition = read_where(tokens, room)?;
     Ok(sides.into_rule(interface, condition))
 }

@@ -5,11 +5,11 @@ use Rattle.gp_graph.specs.Chains.{follow}
 use Rattle.gp_graph.specs.inside.View.{edge_of}
 use Rattle.gp_graph.specs.inside.Rings.{next_of, other, end_of}
 use Rattle.gp_graph.specs.inside.Roots.{next_root}
-use Rattle.gp_graph.specs.declared.slots.NodeSlot.{NodeSlot}
+use Rattle.gp_graph.specs.inside.Pairs.{pair_at, next_pair, has_ends}
 use Rattle.gp_graph.specs.declared.slots.EdgeSlot.{EdgeSlot}
 use Rattle.gp_graph.specs.declared.rings.Side.{Side}
 use Rattle.gp_graph.specs.declared.walk.Sought.{Sought}
-use Rattle.gp_graph.specs.declared.walk.Sought.TheVariants.{Nodes, Roots, Edges}
+use Rattle.gp_graph.specs.declared.walk.Sought.TheVariants.{Nodes, Roots, Edges, Pairs}
 
 abbrev pub has_end : Side → ℕ → Option EdgeSlot → Bool
 has_end side t None = false
@@ -25,6 +25,7 @@ abbrev pub is_given : Sought → ℕ → Bool
 is_given (Nodes ns) k = is_some (slot_in ns.now k)
 is_given (Roots ns) k = true
 is_given (Edges es side wanted) k = passes side wanted es.now k
+is_given (Pairs ps source target) k = has_ends source target (pair_at ps.now k)
 
 -- the number after a number of 64 bits, and 0 after the last
 abbrev pub after : ℕ → ℕ
@@ -35,6 +36,7 @@ abbrev pub behind : Sought → ℕ → ℕ
 behind (Nodes ns) k = after k
 behind (Roots ns) k = next_root ns.now k
 behind (Edges es side wanted) k = next_of side es.now k
+behind (Pairs ps source target) k = next_pair ps.now k
 
 -- the numbers that pass a test
 abbrev pub those : (ℕ → Bool) → List ℕ → List ℕ

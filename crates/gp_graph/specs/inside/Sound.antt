@@ -4,9 +4,11 @@ use Rattle.gp_values.specs.Graph.{IsGraph, node_count}
 use Rattle.gp_graph.specs.inside.View.{graph_from}
 use Rattle.gp_graph.specs.inside.Rings.{AllRings}
 use Rattle.gp_graph.specs.inside.Roots.{HasRoots}
+use Rattle.gp_graph.specs.inside.Pairs.{IsIndex}
 use Rattle.gp_graph.specs.declared.slots.Ring.{Ring}
 use Rattle.gp_graph.specs.declared.slots.NodeSlot.{NodeSlot}
 use Rattle.gp_graph.specs.declared.slots.EdgeSlot.{EdgeSlot}
+use Rattle.gp_graph.specs.declared.pairs.PairIndex.{PairIndex}
 
 -- The slots show a graph, the links go round its lists, and the count is that of its nodes.
 --
@@ -24,3 +26,9 @@ pub record IsHeld (ns : List (Option NodeSlot)) (es : List (Option EdgeSlot)) (r
   pub rings : AllRings ns es
   pub roots : HasRoots r ns
   pub count : c ≡ node_count (graph_from ns es)
+
+-- Besides, the index, where there is one, has the edges by the pair of their ends: a bucket is a ring too, and turns
+-- with those of its edges' ends.
+pub record IsSound (ns : List (Option NodeSlot)) (es : List (Option EdgeSlot)) (r : Ring) (c : ℕ) (i : PairIndex) : Type 0 where
+  pub held : IsHeld ns es r c
+  pub index : IsIndex i es

@@ -24,18 +24,29 @@ whole_rule s interface condition = record {
 abbrev pub End : Type 0
 End = Token × (Token × (Token × (List Name × (Token × Ranged (Option CondTree)))))
 
-abbrev pub end_of : Sides → End → Ranged RuleDecl
-end_of s (_, (_, (_, (interface, (_, condition))))) = whole_rule s interface condition
+abbrev pub last_of : Sides → End → Ranged RuleDecl
+last_of s (_, (_, (_, (interface, (_, condition))))) = whole_rule s interface condition
 
 -- "interface" "=" "{" [Item {"," Item}] "}" ["where" Cond]
 abbrev pub ends : Grammar (Ranged CondTree) → Grammar End
 ends conditions = One interface_word followed_by One equal followed_by One open_brace followed_by interface followed_by One close_brace followed_by where_part conditions
 
+abbrev pub names_of : Token × (Token × (Token × (List Name × Token))) → List Name
+names_of (_, (_, (_, (names, _)))) = names
+
+-- "interface" "=" "{" [Item {"," Item}] "}"
+unfoldable pub interface_part : Grammar (List Name)
+interface_part = Made names_of (One interface_word followed_by One equal followed_by One open_brace followed_by interface followed_by One close_brace)
+
+abbrev pub end_of : Sides → List Name × Ranged (Option CondTree) → Ranged RuleDecl
+end_of s (interface, condition) = whole_rule s interface condition
+
+-- the same in two parts
 unfoldable pub rule_end : Sides → Grammar (Ranged CondTree) → Grammar (Ranged RuleDecl)
-rule_end s conditions = Made (end_of s) (ends conditions)
+rule_end s conditions = Made (end_of s) (interface_part followed_by where_part conditions)
 
 abbrev pub sides_of : Name → List VariableGroup → Ranged GraphDecl × (Token × (Ranged GraphDecl × End)) → Ranged RuleDecl
-sides_of n variables (left, (_, (right, end))) = end_of (record { name = n; variables = variables; left = left; right = right }) end
+sides_of n variables (left, (_, (right, end))) = last_of (record { name = n; variables = variables; left = left; right = right }) end
 
 -- Graph "=>" Graph, and what is behind them
 unfoldable pub rule_sides : Name → List VariableGroup → Grammar (Ranged Tree) → Grammar (Ranged CondTree) → Grammar (Ranged RuleDecl)

@@ -1,5 +1,5 @@
 -- What the tree of all tokens is read as.
-use Rattle.std.specs.Prelude.{◌≡◌, ℕ, ◌≤◌, List, [], ◌∷◌, length, Option, Some, None, Result, Ok, Err}
+use Rattle.std.specs.Prelude.{◌≡◌, ◌≤◌, List, [], ◌∷◌, length, Option, Some, None, Result, Ok, Err}
 use Rattle.gp_memory.specs.Free.{Free}
 use Rattle.gp_tokens.specs.declared.token.Token.{Token}
 use Rattle.gp_grammar.specs.Reading.{reader_of}

@@ -1,9 +1,9 @@
-use Rattle.std.proofs.Common.{◌≡◌, ℕ, sym, ap, subst, ◌∙◌, arith}
+use Rattle.std.proofs.Common.{◌≡◌, sym, ap, subst, ◌∙◌, arith}
 use Rattle.gp_graph.specs.inside.View.{edge_of}
 use Rattle.gp_graph.specs.inside.Rings.{HasRings, Keeps, count_of}
 use Rattle.gp_graph.specs.declared.slots.Ring.{Ring}
 use Rattle.gp_graph.proofs.Links.{slot_within}
-use Rattle.gp_graph.proofs.RingSteps.{entered, keeps, last_some, first_some, may_enter, still_there, is_there}
+use Rattle.gp_graph.proofs.RingSteps.{entered, keeps, last_some, first_some, may_enter, still_there}
 use Rattle.gp_graph.proofs.rings.enter.Goals as goal
 
 pub join-requires-clause-from : goal.join-requires-clause-from
@@ -17,8 +17,8 @@ join-requires-2-clause-to c =
     (first_some c.args.side c.args.nodes.now c.args.edges.now c.args.n c.args.e c.ends-first.result.0 c.requires.edge c.requires.rings
     (λ z. (c.ends-first.ensures.none z).0) (λ z. (c.ends-first.ensures.some z).0))
 
-pub overflow_add-ring : goal.overflow_add-ring
-overflow_add-ring c =
+pub overflow_add-count : goal.overflow_add-count
+overflow_add-count c =
     let h = may_enter c.args.side c.args.nodes.now c.args.edges.now c.args.n c.args.e c.requires.edge c.requires.rings in
     let e : c.ring_at-ring.result.count ≡ count_of c.args.side c.args.nodes.now c.args.n = ap (λ (r : Ring). r.count) c.ring_at-ring.ensures in
     omega (arith, h)

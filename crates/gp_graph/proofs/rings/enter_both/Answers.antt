@@ -1,8 +1,8 @@
 use Rattle.std.proofs.Common.{◌∙◌}
-use Rattle.gp_graph.specs.inside.View.{node_of, edge_of}
+use Rattle.gp_graph.specs.inside.View.{node_of}
 use Rattle.gp_graph.specs.declared.rings.Side.TheVariants.{Beginning, Ending}
 use Rattle.gp_graph.proofs.RingSteps.{still_there, met_same}
-use Rattle.gp_graph.proofs.Sides.{both_rings, both_but, kept_rings, kept_but}
+use Rattle.gp_graph.proofs.Sides.{both_rings, kept_rings, kept_but}
 use Rattle.gp_graph.proofs.rings.enter_both.Goals as goal
 
 pub enter-requires-clause-rings : goal.enter-requires-clause-rings

@@ -1,10 +1,9 @@
 use Rattle.std.proofs.Common.{◌≡◌, ℕ, ap, sym, subst, ◌∙◌}
-use Rattle.std.specs.Option.{option_map}
 use Rattle.gp_graph.specs.inside.Slots.{slot_in}
 use Rattle.gp_graph.specs.Chains.{Joins}
 use Rattle.gp_graph.specs.inside.View.{edge_of}
 use Rattle.gp_graph.specs.inside.Rings.{other, with_prev, changed_at, next_of, prev_of, link_in, ShowSame}
-use Rattle.gp_graph.proofs.Links.{joined, joins, joined_links, joined_seen}
+use Rattle.gp_graph.proofs.Links.{joined, joined_links, joined_seen}
 use Rattle.gp_graph.proofs.Lens.{lens_joins, edge_lens}
 use Rattle.gp_graph.proofs.rings.join.Goals as goal
 

@@ -10,8 +10,8 @@ join-requires-clause-from c = prev_some c.args.side c.args.nodes.now c.args.edge
 pub join-requires-clause-to : goal.join-requires-clause-to
 join-requires-clause-to c = next_some c.args.side c.args.nodes.now c.args.edges.now c.args.n c.args.e c.link_at-link.result c.requires.edge c.requires.rings c.link_at-link.ensures
 
-pub overflow_sub-ring : goal.overflow_sub-ring
-overflow_sub-ring c = may_leave c.args.side c.args.nodes.now c.args.edges.now c.args.n c.args.e c.ring_at-ring.result c.requires.edge c.requires.rings c.ring_at-ring.ensures
+pub overflow_sub-count : goal.overflow_sub-count
+overflow_sub-count c = may_leave c.args.side c.args.nodes.now c.args.edges.now c.args.n c.args.e c.ring_at-ring.result c.requires.edge c.requires.rings c.ring_at-ring.ensures
 
 pub set_ring-requires : goal.set_ring-requires
 set_ring-requires c = slot_within c.args.nodes.now c.args.n c.requires.node

@@ -1,4 +1,3 @@
-use Rattle.std.proofs.Common.{◌≡◌, ℕ, sym, subst, ◌∙◌, arith}
 use Rattle.gp_graph.proofs.RootSteps.{roots_left, prev_root_some, next_root_some, may_leave_roots}
 use Rattle.gp_graph.proofs.roots.leave_roots.Goals as goal
 

@@ -7,11 +7,11 @@ decreases-read_simple l = 10 * l.room
 abbrev pub decreases-read_block : goal.decreases-read_block
 decreases-read_block l = 10 * l.room + 2
 
-abbrev pub decreases-read_then : goal.decreases-read_then
-decreases-read_then l = 10 * l.room + 3
-
 abbrev pub decreases-read_part : goal.decreases-read_part
-decreases-read_part l = 10 * l.room + 4
+decreases-read_part l = 10 * l.room + 3
+
+abbrev pub decreases-read_branches : goal.decreases-read_branches
+decreases-read_branches l = 10 * l.room + 4
 
 abbrev pub decreases-read_command : goal.decreases-read_command
 decreases-read_command l = 10 * l.room + 5

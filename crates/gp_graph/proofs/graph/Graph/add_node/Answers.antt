@@ -1,6 +1,5 @@
-use Rattle.std.proofs.Common.{◌≡◌, ◌≤◌, ◌+◌, ℕ, List, [], ◌∷◌, ◌++◌, length, sym, ap, subst, ◌∙◌, arith}
+use Rattle.std.proofs.Common.{◌≡◌, ◌≤◌, ◌+◌, List, [], ◌∷◌, ◌++◌, length, sym, ap, subst, ◌∙◌, arith}
 use Rattle.std.specs.Prelude.{Some}
-use Rattle.std.specs.Vec.{with_items}
 use Rattle.std.proofs.lemmas.List.{with_items_is}
 use Rattle.gp_values.specs.Graph.{with_node, node_count}
 use Rattle.gp_values.proofs.Graphs.{IsGraph-with_node}
@@ -18,31 +17,34 @@ pub admit-roots-requires : goal.admit-roots-requires
 admit-roots-requires c =
     let n : c.len-number.result ≡ length c.self.inside.nodes.items = omega (arith, c.len-number.ensures) in
     subst (λ xs. HasRootsBut c.self.inside.roots xs c.len-number.result) (sym (c.deref_mut.ensures.value ∙ c.in_ok-append.ensures.ok))
-    (subst (HasRootsBut c.self.inside.roots (c.self.inside.nodes.items ++ Some c.new.result ∷ [])) (sym n) (roots_added c.self.inside.nodes.items c.self.inside.roots c.new.result c.self.invariant.roots))
+    (subst (HasRootsBut c.self.inside.roots (c.self.inside.nodes.items ++ Some c.new.result ∷ [])) (sym n) (roots_added c.self.inside.nodes.items c.self.inside.roots c.new.result c.self.invariant.held.roots))
 
 pub overflow_add-self : goal.overflow_add-self
 overflow_add-self c =
-    let few : node_count (graph_from c.self.inside.nodes.items c.self.inside.edges.items) ≤ length c.self.inside.nodes.items = nodes_few (graph_from c.self.inside.nodes.items c.self.inside.edges.items) c.self.invariant.graph in
-    let is = c.self.invariant.count in
+    let few : node_count (graph_from c.self.inside.nodes.items c.self.inside.edges.items) ≤ length c.self.inside.nodes.items = nodes_few (graph_from c.self.inside.nodes.items c.self.inside.edges.items) c.self.invariant.held.graph in
+    let is = c.self.invariant.held.count in
     omega (arith, few, is, c.self.inside.nodes.ok, c.self.inside.nodes.small)
 
 pub invariant_of-self-2 : goal.invariant_of-self-2
-invariant_of-self-2 c =
-    let ns = c.self.inside.nodes.items in
-    let es = c.self.inside.edges.items in
-    let x = c.new.result in
-    let base = ns ++ Some x ∷ [] in
-    let now = c.deref_mut.ensures.value ∙ c.in_ok-append.ensures.ok in
-    let n = with_items_is c.append.new.slots c.admit-roots.new.nodes (c.admit-roots.auto.nodes ∙ c.deref_mut.ensures.len) in
-    subst (λ xs. IsHeld xs es c.admit-roots.result (c.self.inside.node_count + 1)) (sym n)
-    (held_nodes base c.admit-roots.new.nodes es c.admit-roots.result (c.self.inside.node_count + 1) (with_node (graph_from ns es) (node_of x))
-    (pushed_node ns es x)
-    (IsGraph-with_node (graph_from ns es) (node_of x) c.self.invariant.graph c.new.ensures.in_range)
-    (rings_node_added ns es x c.self.invariant.rings (ap (λ (s : NodeSlot). s.beginning) c.new.ensures.value) (ap (λ (s : NodeSlot). s.ending) c.new.ensures.value))
-    (subst (λ xs. KeepsNodes xs c.admit-roots.new.nodes) now c.admit-roots.ensures.keeps)
-    (c.admit-roots.auto.nodes ∙ ap (λ (xs : List _). length xs) now)
-    c.admit-roots.ensures.rings
-    (ap (λ k. k + 1) c.self.invariant.count ∙ sym (count-with_node (graph_from ns es) (node_of x) c.self.invariant.graph)))
+invariant_of-self-2 c = record {
+  held =
+      let ns = c.self.inside.nodes.items in
+      let es = c.self.inside.edges.items in
+      let x = c.new.result in
+      let base = ns ++ Some x ∷ [] in
+      let now = c.deref_mut.ensures.value ∙ c.in_ok-append.ensures.ok in
+      let n = with_items_is c.append.new.slots c.admit-roots.new.nodes (c.admit-roots.auto.nodes ∙ c.deref_mut.ensures.len) in
+      subst (λ xs. IsHeld xs es c.admit-roots.result (c.self.inside.node_count + 1)) (sym n)
+      (held_nodes base c.admit-roots.new.nodes es c.admit-roots.result (c.self.inside.node_count + 1) (with_node (graph_from ns es) (node_of x))
+      (pushed_node ns es x)
+      (IsGraph-with_node (graph_from ns es) (node_of x) c.self.invariant.held.graph c.new.ensures.in_range)
+      (rings_node_added ns es x c.self.invariant.held.rings (ap (λ (s : NodeSlot). s.beginning) c.new.ensures.value) (ap (λ (s : NodeSlot). s.ending) c.new.ensures.value))
+      (subst (λ xs. KeepsNodes xs c.admit-roots.new.nodes) now c.admit-roots.ensures.keeps)
+      (c.admit-roots.auto.nodes ∙ ap (λ (xs : List _). length xs) now)
+      c.admit-roots.ensures.rings
+      (ap (λ k. k + 1) c.self.invariant.held.count ∙ sym (count-with_node (graph_from ns es) (node_of x) c.self.invariant.held.graph)));
+  index = c.self.invariant.index;
+}
 
 pub returns-clause-ok : goal.returns-clause-ok
 returns-clause-ok c =

@@ -4,21 +4,34 @@ use Rattle.gp_graph.specs.inside.Rings.{ShowsSame, AllRings}
 use Rattle.gp_graph.specs.inside.Sound.{IsHeld}
 use Rattle.gp_graph.specs.inside.View.{graph_from}
 use Rattle.gp_graph.proofs.Calls.{edge_there, held_turned, same_seen}
+use Rattle.std.specs.Prelude.{IsSome}
+use Rattle.gp_graph.specs.inside.Slots.{slot_in}
+use Rattle.gp_graph.specs.inside.Pairs.{IsIndex}
 use Rattle.gp_graph.proofs.graph.Graph.begin_behind.Goals as goal
 
 pub begin_behind-requires-clause-there : goal.begin_behind-requires-clause-there
 begin_behind-requires-clause-there c = rw c.deref.ensures.value (edge_there c.self.inside.nodes.items c.self.inside.edges.items c.args.e (rw (← c.self.view_is) at c.requires))
 
+pub begin-requires-clause-there : goal.begin-requires-clause-there
+begin-requires-clause-there c =
+    subst (λ xs. IsSome (slot_in xs c.args.e)) (sym c.deref-2.ensures.value) (edge_there c.self.inside.nodes.items c.self.inside.edges.items c.args.e (rw (← c.self.view_is) at c.requires))
+
+pub begin-requires-clause-all : goal.begin-requires-clause-all
+begin-requires-clause-all c = subst (IsIndex c.self.inside.index) (sym c.deref-2.ensures.value) c.self.invariant.index
+
 pub invariant_of-self : goal.invariant_of-self
-invariant_of-self c =
-    let ns = c.self.inside.nodes.items in
-    let es = c.self.inside.edges.items in
-    let n = with_items_is c.self.inside.nodes c.begin_behind.new.nodes (c.begin_behind.auto.nodes ∙ c.deref_mut.ensures.len) in
-    let same : ShowsSame ns es c.begin_behind.new.nodes es = rw (c.deref_mut.ensures.value, c.deref.ensures.value) at c.begin_behind.ensures.same in
-    subst (λ xs. IsHeld xs es c.self.inside.roots c.self.inside.node_count) (sym n)
-    (held_turned ns c.begin_behind.new.nodes es c.self.inside.roots c.self.inside.node_count c.self.invariant same
-    (c.begin_behind.auto.nodes ∙ ap (λ (xs : List _). length xs) c.deref_mut.ensures.value)
-    (subst (AllRings c.begin_behind.new.nodes) c.deref.ensures.value c.begin_behind.ensures.rings))
+invariant_of-self c = record {
+  held =
+      let ns = c.self.inside.nodes.items in
+      let es = c.self.inside.edges.items in
+      let n = with_items_is c.self.inside.nodes c.begin_behind.new.nodes (c.begin_behind.auto.nodes ∙ c.deref_mut.ensures.len) in
+      let same : ShowsSame ns es c.begin_behind.new.nodes es = rw (c.deref_mut.ensures.value, c.deref.ensures.value) at c.begin_behind.ensures.same in
+      subst (λ xs. IsHeld xs es c.self.inside.roots c.self.inside.node_count) (sym n)
+      (held_turned ns c.begin_behind.new.nodes es c.self.inside.roots c.self.inside.node_count c.self.invariant.held same
+      (c.begin_behind.auto.nodes ∙ ap (λ (xs : List _). length xs) c.deref_mut.ensures.value)
+      (subst (AllRings c.begin_behind.new.nodes) c.deref.ensures.value c.begin_behind.ensures.rings));
+  index = subst (IsIndex c.begin.new.self) c.deref-2.ensures.value c.begin.ensures;
+}
 
 pub returns-clause-graph : goal.returns-clause-graph
 returns-clause-graph c =

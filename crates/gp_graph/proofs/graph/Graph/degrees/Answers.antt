@@ -6,8 +6,8 @@ pub returns : goal.returns
 returns c =
     rw (
       ← c.self.view_is,
-      ← counts_in c.self.inside.nodes.items c.self.inside.edges.items c.args.n (c.self.invariant.rings Ending),
-      ← counts_out c.self.inside.nodes.items c.self.inside.edges.items c.args.n (c.self.invariant.rings Beginning),
+      ← counts_in c.self.inside.nodes.items c.self.inside.edges.items c.args.n (c.self.invariant.held.rings Ending),
+      ← counts_out c.self.inside.nodes.items c.self.inside.edges.items c.args.n (c.self.invariant.held.rings Beginning),
       c.ring_at-ending.ensures,
       c.ring_at-beginning.ensures,
       c.deref.ensures.value,

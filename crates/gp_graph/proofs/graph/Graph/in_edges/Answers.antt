@@ -1,13 +1,26 @@
-use Rattle.gp_graph.specs.declared.rings.Side.TheVariants.{Beginning, Ending}
-use Rattle.gp_graph.proofs.Walking.{walks_in_all, counts_in_all}
+use Rattle.std.proofs.Common.{sym, ap, subst, ◌∙◌}
+use Rattle.gp_graph.specs.Walks.{Walks, EndsAt}
+use Rattle.gp_graph.specs.inside.Slots.{slot_in}
+use Rattle.gp_graph.specs.inside.Rings.{ring_in}
+use Rattle.gp_graph.specs.inside.View.{graph_from}
+use Rattle.gp_graph.specs.declared.rings.Side.TheVariants.{Ending}
+use Rattle.gp_graph.proofs.Degrees.{in_degree-walk}
+use Rattle.gp_graph.proofs.Walking.{walks_in_ring}
 use Rattle.gp_graph.proofs.graph.Graph.in_edges.Goals as goal
 
 pub returns-clause-walks : goal.returns-clause-walks
 returns-clause-walks c =
-    rw (← c.self.view_is, c.over_edges.ensures.numbers, c.ring_at-ring.ensures, c.deref.ensures.value, c.deref-2.ensures.value)
-    (walks_in_all c.self.inside.nodes.items c.self.inside.edges.items c.args.n (c.self.invariant.rings Ending))
+    let ns = c.self.inside.nodes.items in
+    let es = c.self.inside.edges.items in
+    rw (← c.self.view_is)
+    (subst (λ xs. Walks xs (EndsAt (graph_from ns es) c.args.n)) (sym c.over.ensures.numbers)
+    (walks_in_ring ns es c.deref-2.result.now c.args.n c.ring_at-ring.result c.deref-2.ensures.value (c.ring_at-ring.ensures ∙ ap (λ xs. ring_in Ending (slot_in xs c.args.n)) c.deref.ensures.value) (c.self.invariant.held.rings Ending)))
 
 pub returns-clause-counted : goal.returns-clause-counted
 returns-clause-counted c =
-    rw (← c.self.view_is, c.over_edges.ensures.numbers, c.ring_at-ring.ensures, c.deref.ensures.value, c.deref-2.ensures.value)
-    (counts_in_all c.self.inside.nodes.items c.self.inside.edges.items c.args.n (c.self.invariant.rings Ending))
+    let ns = c.self.inside.nodes.items in
+    let es = c.self.inside.edges.items in
+    rw (← c.self.view_is)
+    (in_degree-walk (graph_from ns es) c.args.n c.over.result
+    (subst (λ xs. Walks xs (EndsAt (graph_from ns es) c.args.n)) (sym c.over.ensures.numbers)
+    (walks_in_ring ns es c.deref-2.result.now c.args.n c.ring_at-ring.result c.deref-2.ensures.value (c.ring_at-ring.ensures ∙ ap (λ xs. ring_in Ending (slot_in xs c.args.n)) c.deref.ensures.value) (c.self.invariant.held.rings Ending))))

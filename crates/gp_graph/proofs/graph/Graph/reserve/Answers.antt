@@ -2,21 +2,31 @@ use Rattle.std.proofs.Common.{sym, ap, ap₂, subst, ◌∙◌, arith}
 use Rattle.gp_graph.specs.Held.{Held}
 use Rattle.gp_graph.specs.inside.Sound.{IsHeld}
 use Rattle.gp_graph.specs.inside.View.{graph_from}
+use Rattle.gp_graph.specs.inside.Pairs.{IsIndex}
 use Rattle.gp_graph.proofs.graph.Graph.reserve.Goals as goal
 
 pub invariant_of-self : goal.invariant_of-self
-invariant_of-self c =
-    subst (λ ns. IsHeld ns c.self.inside.edges.items c.self.inside.roots c.self.inside.node_count) (sym c.reserve.ensures.items) c.self.invariant
+invariant_of-self c = record {
+  held =
+      subst (λ ns. IsHeld ns c.self.inside.edges.items c.self.inside.roots c.self.inside.node_count) (sym c.reserve.ensures.items) c.self.invariant.held;
+  index = c.self.invariant.index;
+}
 
 pub invariant_of-self-in_err-reserve-2 : goal.invariant_of-self-in_err-reserve-2
-invariant_of-self-in_err-reserve-2 c =
-    subst (λ ns. IsHeld ns c.reserve-2.new.self.items c.self.inside.roots c.self.inside.node_count) (sym c.reserve.ensures.items)
-    (subst (λ es. IsHeld c.self.inside.nodes.items es c.self.inside.roots c.self.inside.node_count) (sym c.reserve-2.ensures.items) c.self.invariant)
+invariant_of-self-in_err-reserve-2 c = record {
+  held =
+      subst (λ ns. IsHeld ns c.reserve-2.new.self.items c.self.inside.roots c.self.inside.node_count) (sym c.reserve.ensures.items)
+      (subst (λ es. IsHeld c.self.inside.nodes.items es c.self.inside.roots c.self.inside.node_count) (sym c.reserve-2.ensures.items) c.self.invariant.held);
+  index = subst (IsIndex c.self.inside.index) (sym c.reserve-2.ensures.items) c.self.invariant.index;
+}
 
 pub invariant_of-self-2 : goal.invariant_of-self-2
-invariant_of-self-2 c =
-    subst (λ ns. IsHeld ns c.reserve-2.new.self.items c.self.inside.roots c.self.inside.node_count) (sym c.reserve.ensures.items)
-    (subst (λ es. IsHeld c.self.inside.nodes.items es c.self.inside.roots c.self.inside.node_count) (sym c.reserve-2.ensures.items) c.self.invariant)
+invariant_of-self-2 c = record {
+  held =
+      subst (λ ns. IsHeld ns c.reserve-2.new.self.items c.self.inside.roots c.self.inside.node_count) (sym c.reserve.ensures.items)
+      (subst (λ es. IsHeld c.self.inside.nodes.items es c.self.inside.roots c.self.inside.node_count) (sym c.reserve-2.ensures.items) c.self.invariant.held);
+  index = subst (IsIndex c.self.inside.index) (sym c.reserve-2.ensures.items) c.self.invariant.index;
+}
 
 pub returns-in_err-reserve-clause-graph : goal.returns-in_err-reserve-clause-graph
 returns-in_err-reserve-clause-graph c =
