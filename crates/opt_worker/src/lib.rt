@@ -12,6 +12,7 @@
 //! proved at each turn; definitions that only bodies need are in `specs/inside`.
 #![tactic(auto)]
 
+mod batching;
 mod commits;
 mod held;
 mod pace;

@@ -10,6 +10,7 @@ ghost use Rattle.opt_worker.specs.Replica.{IsReplica, IsLater, IsDone};
 ghost use Rattle.opt_worker.specs.inside.Reports.{IsReport};
 ghost use Rattle.opt_worker.specs.inside.Replies.{TellsEnding, WantsMemory, committed_by};
 
+use crate::batching::Batching;
 use crate::pace::Pace;
 use gp_memory::NoMemory;
 use opt_core::{Entries, Reply, Rest};
@@ -26,14 +27,16 @@ pub const SHARES_OF_A_WORKER: u32 = 4;
 #[derive(Clone, Copy)]
 struct Aim {
     from: u32,
-    batch: u32,
+    batching: Batching,
 }
 
-// A share to search. Of its matches so many may be offered in one turn, held together in memory of this allocator.
+// A share to search. Of its matches so many may be offered in this turn, held together in memory of this allocator. How
+// many in the next the answer tells.
 #[derive(Clone, Copy)]
 struct Task {
     share: u32,
     batch: u32,
+    batching: Batching,
     alloc: Global,
 }
 
@@ -80,7 +83,8 @@ fn catch_up<S: System, R: Wait>(
             follow(s, at, entries.as_slice())?;
             Ok(Some(Task {
                 share: task,
-                batch: aim.batch,
+                batch: aim.batching.size(),
+                batching: aim.batching,
                 alloc: *entries.into_vec().allocator(),
             }))
         }
@@ -170,17 +174,24 @@ fn tells_commit<F, R>(reply: &Reply<F, R>) -> bool
     }
 }
 
-// Where to look after an answer to a report on this share, or none where it tells that the goal has ended.
-fn look_after<F, R>(reply: &Reply<F, R>, share: u32, shares: u32) -> Result<Option<u32>, NoMemory>
+// Where to look after an answer to a report on this task, or none where it tells that the goal has ended.
+fn look_after<F, R>(reply: &Reply<F, R>, task: Task, shares: u32) -> Result<Option<Aim>, NoMemory>
     ensures ended { IfOk result (λ next. IfNone next (TellsEnding reply.now)) }
     ensures runs { IfOk result (λ next. IfSome next (λ _. (TellsEnding reply.now → ⊥) × (WantsMemory reply.now → ⊥))) }
     ensures refused { IfErr result (λ _. WantsMemory reply.now) }
 {
+    let batching = task.batching.after(reply);
     match reply {
         Reply::Closed(_) | Reply::Batched(_, _, Some(Rest::Closed(_))) => Ok(None),
         Reply::NoMemory | Reply::Batched(_, _, Some(Rest::NoMemory)) => Err(NoMemory),
-        Reply::Noted => Ok(Some(share_after(share, shares))),
-        _ => Ok(Some(share)),
+        Reply::Noted => Ok(Some(Aim {
+            from: share_after(task.share, shares),
+            batching,
+        })),
+        _ => Ok(Some(Aim {
+            from: task.share,
+            batching,
+        })),
     }
 }
 
@@ -193,7 +204,7 @@ fn report<S: System, P: Pace, R: Wait>(
     at: &S::State,
     task: Task,
     pace: &P,
-) -> Result<Option<u32>, NoMemory>
+) -> Result<Option<Aim>, NoMemory>
     requires gate { IsPassOf gate.now pass.old }
     requires system { s.now ≡ (start_of gate.now).system }
     requires task { task.share < (S.means s.now).shares (start_of gate.now).goal }
@@ -208,7 +219,7 @@ fn report<S: System, P: Pace, R: Wait>(
     pace.searched(rt, worker, told);
     let reply = gate.turn(rt, pass, s, found?);
     pace.turned(rt, worker, told, tells_commit(&reply));
-    look_after(&reply, task.share, s.shares(gate.goal()))
+    look_after(&reply, task, s.shares(gate.goal()))
 }
 
 // Catches up, searches and reports once. Where to look next, or none where the goal has ended.
@@ -220,7 +231,7 @@ fn round<S: System, P: Pace, R: Wait>(
     at: &mut S::State,
     aim: Aim,
     pace: &P,
-) -> Result<Option<u32>, NoMemory>
+) -> Result<Option<Aim>, NoMemory>
     requires gate { IsPassOf gate.now pass.old }
     requires system { s.now ≡ (start_of gate.now).system }
     requires at { at.old ≡ reached (S.means s.now) (start_of gate.now).base (entries_told pass.old) }
@@ -254,10 +265,13 @@ pub fn work_on<S: System, P: Pace, R: Wait>(
     ensures done { IsDone (S.means s.now) gate.now.key pass.new }
     ensures replica { IsReplica (S.means s.now) (start_of gate.now).base pass.new.knows state.new }
 {
-    let mut from = pass.number();
+    let mut aim = Aim {
+        from: pass.number(),
+        batching: Batching::new(batch),
+    };
     for _ in rt.forever() {
-        match round(rt, s, gate, pass, state, Aim { from, batch }, pace) {
-            Ok(Some(next)) => from = next,
+        match round(rt, s, gate, pass, state, aim, pace) {
+            Ok(Some(next)) => aim = next,
             Ok(None) => return,
             Err(NoMemory) => {
                 gate.turn(rt, pass, s, Ask::Stop);

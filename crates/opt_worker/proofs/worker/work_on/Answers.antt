@@ -1,4 +1,4 @@
-use Rattle.std.proofs.Common.{rules, ◌≡◌, ℕ, Option, Some, IfSome, IfNone, subst}
+use Rattle.std.proofs.Common.{rules, ◌≡◌, Option, Some, IfSome, IfNone, subst}
 use Rattle.opt_core.specs.Core.{reached}
 use Rattle.opt_core.specs.declared.event.Ending.{Ending}
 use Rattle.opt_gate.specs.declared.ask.Ask.TheVariants as ask
@@ -20,7 +20,7 @@ loop-preserved g c =
     let m = g.S.System.means c.args.s.now in
     let base = (start_of c.args.gate.now).base in (
       later_trans c.args.pass.now c.loop.pass c.round.new.pass c.loop.invariant.0 c.round.ensures.later,
-      subst (λ (o : Option ℕ). IfSome o (λ _. c.round.new.at ≡ reached m base (entries_told c.round.new.pass))) c.in-Ok-Some.field-0-is c.in-Ok-Some.ensures.at,
+      subst (λ (o : Option _). IfSome o (λ _. c.round.new.at ≡ reached m base (entries_told c.round.new.pass))) c.in-Ok-Some.field-0-is c.in-Ok-Some.ensures.at,
     )
 
 pub returns-in-Ok-None-clause-later : goal.returns-in-Ok-None-clause-later
@@ -28,7 +28,7 @@ returns-in-Ok-None-clause-later g c = later_trans c.args.pass.now c.loop.pass c.
 
 pub returns-in-Ok-None-clause-done : goal.returns-in-Ok-None-clause-done
 returns-in-Ok-None-clause-done g c =
-    subst (λ (o : Option ℕ). IfNone o (IsDone (g.S.System.means c.args.s.now) c.args.gate.now.key c.round.new.pass)) c.in-Ok-None.field-0-is c.in-Ok-None.ensures.done
+    subst (λ (o : Option _). IfNone o (IsDone (g.S.System.means c.args.s.now) c.args.gate.now.key c.round.new.pass)) c.in-Ok-None.field-0-is c.in-Ok-None.ensures.done
 
 pub returns-in-Ok-None-clause-replica : goal.returns-in-Ok-None-clause-replica
 returns-in-Ok-None-clause-replica g c = c.round.ensures.replica
