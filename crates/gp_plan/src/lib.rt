@@ -15,7 +15,7 @@
 //! second comes the node that was changed last, where the hint tells one of the share. Contracts see the numbers that
 //! are still to come as a list (`specs/Round`), and say that it has each number of the share. `Plan::hint_after` tells the
 //! hint after a step; no contract says anything of it, since each hint is as good as another for what is found.
-//! `Steps` counts the probes of a search.
+//! `Steps` counts the probes of a search, and `plans_ask_between` tells whether an index of edges by their ends serves one.
 #![tactic(auto)]
 
 mod changes;
@@ -30,7 +30,7 @@ pub mod sharing;
 mod steps;
 
 pub use hint::Hint;
-pub use operation::{Operation, Plan};
+pub use operation::{Operation, Plan, plans_ask_between};
 pub use planned::{Planned, RuleSet};
 pub use planning::{plan, plans_of};
 pub use round::{Round, numbers_of_share};
