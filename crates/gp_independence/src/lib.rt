@@ -4,12 +4,16 @@
 //! `independent` tells it of two matches that apply, without a step. `specs/Independent` says what it means. The laws, in
 //! `laws`, hold of every two such matches, and of more: each still applies after the other's step, both orders lead to one
 //! graph but for the numbers of what is new, and pairwise independent matches are a derivation in every order.
+//!
+//! `conditions_ask_between` tells whether an index of edges by their ends serves the conditions of rules.
 #![tactic(auto)]
 
+mod between;
 mod independence;
 pub mod laws;
 mod looks;
 mod preserved;
 mod shared;
 
+pub use between::conditions_ask_between;
 pub use independence::independent;

@@ -5,3 +5,4 @@ pub mod Counts
 pub mod Beginnings
 pub mod Rounds
 pub mod Pairs
+pub mod Making

@@ -9,7 +9,7 @@ use Rattle.gp_run.specs.declared.engine.Turned.TheVariants as turned
 use Rattle.gp_run.specs.Engine.{View, MakesCall, HasCalled, HasTurned, HasRepeated}
 use Rattle.gp_run.proofs.Leads.{adds-append}
 use Rattle.gp_run.proofs.Turns.{Turns, turns_none, turns_more, turns_less}
-use Rattle.gp_system.specs.inside.Going.{GoesOn}
+use Rattle.gp_system.specs.inside.AfterTurn.{GoesOn}
 
 module _ (c : ℕ) (v w x : View) (t : Turns c v w) where
   -- the rest of the loop, seen from its beginning

@@ -35,8 +35,6 @@ use Rattle.gp_run.specs.declared.engine.Turned.TheVariants as turned
 use Rattle.gp_run.proofs.Leads.{adds-nothing}
 use Rattle.gp_search.specs.declared.sought.Sought.{Sought}
 use Rattle.gp_search.specs.declared.sought.Sought.TheVariants as answers
-use Rattle.gp_plan.specs.declared.operation.Operation.{Operation}
-use Rattle.gp_plan.specs.Plan.{plan_of}
 use Rattle.gp_system.specs.Sought.{HasSought, IsOfSet}
 use Rattle.gp_system.specs.inside.Viewed.{Shown, view_of, Grows, HasSoughtCall, AppliesForCall}
 
@@ -202,18 +200,12 @@ sought_here p q s j l set rules c g x e f h i k w =
       sought = subst (λ (z : Graph). HasSought (map rule_of_tree p.rules) set 1 0 z x) k (subst (λ (rs : List RuleParts). HasSought (map rule_of_tree rs) set 1 0 g x) (h ∙ ap (λ (z : ProgramParts). z.rules) f) w);
     })
 
--- ---- plans
+-- ---- rules
 
 taken_trees : (rules : List RuleParts) (n : ℕ) (r : RuleParts) → n < length rules → r ≡ slice_index_or rules n r → map rule_of_tree (take (n + 1) rules) ≡ map rule_of_tree (take n rules) ++ rule_of_tree r ∷ []
 taken_trees rules n r l e =
     let taken : take (n + 1) rules ≡ take n rules ++ r ∷ [] = rw add-one (take-suc rules n r l ∙ ap (λ z. take n rules ++ z ∷ []) (sym e)) in
     ap (map rule_of_tree) taken ∙ map-append rule_of_tree (take n rules) (r ∷ [])
-
-pub one_plan_more : (rules : List RuleParts) (n : ℕ) (r : RuleParts) (plans more : List (List Operation)) (p : List Operation) → n < length rules → r ≡ slice_index_or rules n r → plans ≡ map plan_of (map rule_of_tree (take n rules))
-    → p ≡ plan_of (rule_of_tree r) → more ≡ plans ++ p ∷ [] → more ≡ map plan_of (map rule_of_tree (take (n + 1) rules))
-one_plan_more rules n r plans more p l e a f h =
-    h ∙ ap (λ (ps : List (List Operation)). ps ++ p ∷ []) a ∙ ap (λ (o : List Operation). map plan_of (map rule_of_tree (take n rules)) ++ o ∷ []) f
-    ∙ sym (ap (map plan_of) (taken_trees rules n r l e) ∙ map-append plan_of (map rule_of_tree (take n rules)) (rule_of_tree r ∷ []))
 
 pub one_rule_more : (rules : List RuleParts) (n : ℕ) (r : RuleParts) → n < length rules → r ≡ slice_index_or rules n r → All IsWellFormed (map rule_of_tree (take n rules)) → IsWellFormed (rule_of_tree r) → All IsWellFormed (map rule_of_tree (take (n + 1) rules))
 one_rule_more rules n r l e w v = subst (All IsWellFormed) (sym (taken_trees rules n r l e)) (All-push IsWellFormed (map rule_of_tree (take n rules)) (rule_of_tree r) w v)

@@ -6,4 +6,4 @@ pub mod Laws
 pub mod Noted
 pub mod Pursued
 pub mod Finishing
-pub mod Going
+pub mod AfterTurn

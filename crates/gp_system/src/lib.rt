@@ -28,4 +28,4 @@ pub use gp::Gp;
 pub use outcome::Outcome;
 pub use running::execute;
 pub use seeking::seek_set;
-pub use session::{Session, plans_of};
+pub use session::Session;

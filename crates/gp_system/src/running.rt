@@ -9,10 +9,11 @@ ghost use Rattle.gp_system.specs.inside.Finishing.{outcome_of};
 use crate::crew::Crew;
 use crate::crew_session::CrewSession;
 use crate::outcome::Outcome;
-use crate::session::{Session, plans_of};
+use crate::session::Session;
 use gp_graph::Graph;
+use gp_independence::conditions_ask_between;
 use gp_journal::Journal;
-use gp_plan::Plan;
+use gp_plan::{Plan, plans_ask_between, plans_of};
 use gp_run::{Chooser, Finish, run};
 use gp_syntax::Program;
 use opt_worker::Pacing;
@@ -31,6 +32,16 @@ fn outcome(finish: Finish, journal: Journal) -> Outcome
         Finish::Fault(rule, kind) => Outcome::Fault(journal, rule, kind),
         Finish::NoMemory => Outcome::NoMemory,
     }
+}
+
+// The host, with an index of its edges where the program asks for those between two nodes.
+fn indexed(program: &Program, plans: &[Plan], mut host: Graph) -> Graph
+    ensures { result.graph ≡ host.graph }
+{
+    if plans_ask_between(plans) || conditions_ask_between(program.parts().rules.as_slice()) {
+        host.index_edges();
+    }
+    host
 }
 
 // A run by one worker, which waits for nobody.
@@ -66,6 +77,7 @@ pub fn execute<C: Chooser, R: Threads + Wait + Sync>(
     let Ok(plans) = plans_of(alloc, program.parts().rules.as_slice()) else {
         return Outcome::NoMemory;
     };
+    let host = indexed(program, &plans, host);
     if crew.workers < 2 {
         return execute_alone(alloc, program, &plans, host, crew.bound, chooser);
     }

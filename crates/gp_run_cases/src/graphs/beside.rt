@@ -37,14 +37,26 @@ impl Drop for Beside {
     }
 }
 
-/// How many calls agree with the lists: a seed, and how many calls are made.
+/// How many calls agree with the lists: a seed, how many calls are made, and from which of them on the edges are indexed,
+/// where they are.
 pub(crate) fn answer(alloc: Global, fields: &[Vec<u8>], out: &mut Answer) {
     let mut beside = Beside {
         graph: Graph::new(alloc),
         nodes: Vec::new(alloc),
         edges: Vec::new(alloc),
     };
-    match agreeing(alloc, &mut beside, number(fields, 0), number(fields, 1)) {
+    let indexed = if fields.len() > 2 {
+        Some(number(fields, 2))
+    } else {
+        None
+    };
+    match agreeing(
+        alloc,
+        &mut beside,
+        number(fields, 0),
+        number(fields, 1),
+        indexed,
+    ) {
         Ok(calls) => {
             out.number(calls);
             out.word(b"calls agree");
@@ -54,14 +66,22 @@ pub(crate) fn answer(alloc: Global, fields: &[Vec<u8>], out: &mut Answer) {
     }
 }
 
-// Makes so many calls as long as they agree. How many agreed.
-fn agreeing(alloc: Global, beside: &mut Beside, seed: u64, calls: u64) -> Result<u64, NoMemory> {
+// Makes so many calls as long as they agree, and indexes the edges before this one. How many agreed.
+fn agreeing(
+    alloc: Global,
+    beside: &mut Beside,
+    seed: u64,
+    calls: u64,
+    indexed: Option<u64>,
+) -> Result<u64, NoMemory> {
     let mut state = seed;
     for call in 0..calls {
         state = drawn(state);
+        if indexed == Some(call) {
+            beside.graph.index_edges();
+        }
         beside.call(alloc, state)?;
-        let n = recent(beside.nodes.len(), state);
-        if !beside.walks_agree(alloc, n)? || call % 500 == 0 && !beside.agrees() {
+        if !beside.agrees_after(alloc, call, state)? {
             return Ok(call);
         }
     }
@@ -183,6 +203,21 @@ impl Beside {
         }
     }
 
+    // Whether the walks at a node, and between it and another, agree after a call; after each 500th all agrees, and a copy
+    // takes the place of the graph.
+    fn agrees_after(&mut self, alloc: Global, call: u64, state: u64) -> Result<bool, NoMemory> {
+        let n = recent(self.nodes.len(), state);
+        let m = recent(self.nodes.len(), drawn(state));
+        if !self.walks_agree(alloc, n)? || !self.between_agrees(alloc, n, m)? {
+            return Ok(false);
+        }
+        if call % 500 == 0 {
+            self.graph = self.graph.copy(alloc)?;
+            return Ok(self.agrees());
+        }
+        Ok(true)
+    }
+
     // Whether the graph has what the lists have.
     fn agrees(&self) -> bool {
         let (nodes, edges) = self.graph.next_numbers();
@@ -255,6 +290,16 @@ impl Beside {
                 && self.are_edges(&arriving, None, Some(n))
                 && self.are_edges(&loops, Some(n), Some(n)),
         )
+    }
+
+    // Whether the walks between two nodes give what the lists have there.
+    fn between_agrees(&self, alloc: Global, n: u64, m: u64) -> Result<bool, NoMemory> {
+        if !(has_node(&self.graph, n) && has_node(&self.graph, m)) {
+            return Ok(true);
+        }
+        let there = sorted(alloc, self.graph.edges_between(n, m))?;
+        let back = sorted(alloc, self.graph.edges_between(m, n))?;
+        Ok(self.are_edges(&there, Some(n), Some(m)) && self.are_edges(&back, Some(m), Some(n)))
     }
 
     // Whether these are, in their order, the numbers of the edges with this source and this target, where they are asked for.

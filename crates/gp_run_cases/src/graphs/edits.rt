@@ -181,6 +181,10 @@ fn make_other(alloc: Global, graph: &mut Graph, words: &[Vec<u8>]) -> Result<(),
         lower(graph);
         return Ok(());
     }
+    if word == b"index".as_slice() {
+        graph.index_edges();
+        return Ok(());
+    }
     if word == b"hints".as_slice() {
         set_hints(graph, words);
         return Ok(());

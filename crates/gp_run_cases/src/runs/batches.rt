@@ -4,10 +4,11 @@ ghost use Rattle.std.specs.Prelude.{◌<◌};
 
 use gp_hostfile::read_host;
 use gp_journal::Trail;
+use gp_plan::plans_of;
 use gp_reader::read_program;
 use gp_rows::{Answer, Wrong, field, number};
 use gp_syntax::{Found, Item};
-use gp_system::{CallGoal, Gp, plans_of};
+use gp_system::{CallGoal, Gp};
 use gp_trace::write_item;
 use opt_system::{Mode, Sought, System};
 use std::alloc::Global;

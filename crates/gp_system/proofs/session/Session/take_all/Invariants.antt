@@ -1,5 +1,5 @@
 use Rattle.gp_system.specs.inside.Viewed.{view_of, Grows}
-use Rattle.gp_system.specs.inside.Going.{GoesOn}
+use Rattle.gp_system.specs.inside.AfterTurn.{GoesOn}
 use Rattle.gp_system.proofs.session.Session.take_all.Given as goal
 
 abbrev pub invariant-turns : goal.invariant-turns
