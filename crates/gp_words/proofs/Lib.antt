@@ -1,3 +1,4 @@
 pub mod Commands
 pub mod Numerals
 pub mod Plain
+pub mod Levels

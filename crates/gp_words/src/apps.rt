@@ -56,6 +56,14 @@ const STEP: [(Form, &'static str); 5] = [
     (Form::Option, "seed"),
 ];
 
+const COMMANDS: [(&'static str, &'static [(Form, &'static str)]); 5] = [
+    ("run", &RUN),
+    ("demo", &DEMO),
+    ("check", &CHECK),
+    ("fmt", &FMT),
+    ("step", &STEP),
+];
+
 fn argument<'a>(alloc: Global, form: Form, id: &'a str) -> Arg<'a>
     ensures rule { rule_of result ≡ rule_at form id.entry.now }
     ensures own { result.global ≡ false }
@@ -107,9 +115,9 @@ fn above<'a>(
 pub(crate) fn top_command<'a>(alloc: Global) -> Result<Command<'a>, AllocError>
     ensures { IfOk result (λ c. app_of c ≡ spec.gp2) }
 {
-    let above_run = above(alloc, plain_top(alloc), "run", &RUN)?;
-    let above_demo = above(alloc, above_run, "demo", &DEMO)?;
-    let above_check = above(alloc, above_demo, "check", &CHECK)?;
-    let above_fmt = above(alloc, above_check, "fmt", &FMT)?;
-    above(alloc, above_fmt, "step", &STEP)
+    let mut top = plain_top(alloc);
+    for (name, words) in &COMMANDS {
+        top = above(alloc, top, name, words)?;
+    }
+    Ok(top)
 }

@@ -1,12 +1,12 @@
-use Rattle.std.proofs.Common.{refl, ap₂, ◌∙◌}
-use Rattle.std.proofs.lemmas.Result.{IfOk-weaker}
-use Rattle.clap.specs.Words.{with_subcommand}
+use Rattle.std.proofs.Common.{refl}
+use Rattle.gp_words.proofs.Levels.{begins, goes_on, ends}
 use Rattle.gp_words.proofs.apps.top_command.Goals as goal
 
+pub loop-name-init : goal.loop-name-init
+loop-name-init c = begins _ _ c.plain_top-top.ensures refl refl
+
+pub loop-name-preserved : goal.loop-name-preserved
+loop-name-preserved c = goes_on _ _ c.loop-name.invariant c.loop-name-test.true c.in_ok-top.ensures
+
 pub returns : goal.returns
-returns c =
-    let above_run = c.in_ok-above_run.ensures refl ∙ ap₂ with_subcommand c.plain_top.ensures refl in
-    let above_demo = c.in_ok-above_demo.ensures refl ∙ ap₂ with_subcommand above_run refl in
-    let above_check = c.in_ok-above_check.ensures refl ∙ ap₂ with_subcommand above_demo refl in
-    let above_fmt = c.in_ok-above_fmt.ensures refl ∙ ap₂ with_subcommand above_check refl in
-    IfOk-weaker c.above-5.result _ _ (λ r h. h refl ∙ ap₂ with_subcommand above_fmt refl) c.above-5.ensures
+returns c = ends c.loop-name.invariant c.loop-name-test.false
