@@ -3,7 +3,7 @@
 ghost use Rattle.std.specs.Prelude.{◌≡◌, false, map, IfOk};
 ghost use Rattle.clap.specs.Words.{app_of, rule_of, new_app};
 ghost use Rattle.gp_words.specs.CommandLine as spec;
-ghost use Rattle.gp_words.specs.inside.Words.{AddsLevel, rule_at, with_words};
+ghost use Rattle.gp_words.specs.inside.Words.{rule_at, with_words};
 
 use clap::{Arg, ArgAction, Command};
 use std::alloc::{AllocError, Global};
@@ -100,24 +100,13 @@ fn plain_top<'a>(alloc: Global) -> Command<'a>
         .subcommand_required(true)
 }
 
-// With one command more below it.
-fn above<'a>(
-    alloc: Global,
-    top: Command<'a>,
-    name: &'a str,
-    words: &[(Form, &'a str)],
-) -> Result<Command<'a>, AllocError>
-    ensures { IfOk result (λ c. AddsLevel (app_of top.entry) (with_words (new_app name.entry.now) (map (λ w. (w.0, w.1.now)) words.now)) (app_of c)) }
-{
-    top.subcommand(command_with(alloc, name, words)?)
-}
-
 pub(crate) fn top_command<'a>(alloc: Global) -> Result<Command<'a>, AllocError>
     ensures { IfOk result (λ c. app_of c ≡ spec.gp2) }
 {
     let mut top = plain_top(alloc);
     for (name, words) in &COMMANDS {
-        top = above(alloc, top, name, words)?;
+        let level = command_with(alloc, name, words)?;
+        top = top.subcommand(level)?;
     }
     Ok(top)
 }
