@@ -1,25 +1,21 @@
 //! Answers to rows: texts whose writing cannot fail. Where memory is refused, or a row cannot be answered, that is kept
 //! in place of the answer.
 
-use crate::wrong::{Wrong, debugged, shown};
+use crate::wrong::Wrong;
 use itoa::Buffer;
 use std::alloc::Global;
 use std::fmt::{Debug, Display};
+use std::io::Write;
 
 /// An answer, most often of words with a space between each two of them.
 pub struct Answer {
-    alloc: Global,
     text: Vec<u8>,
     wrong: Option<Wrong>,
 }
 
 impl Drop for Answer {
     fn drop(self) {
-        let Answer {
-            alloc: _,
-            text,
-            wrong: _,
-        } = self;
+        let Answer { text, wrong: _ } = self;
         drop(text);
     }
 }
@@ -28,7 +24,6 @@ impl Answer {
     /// Nothing.
     pub fn new(alloc: Global) -> Answer {
         Answer {
-            alloc,
             text: Vec::new(alloc),
             wrong: None,
         }
@@ -68,17 +63,17 @@ impl Answer {
 
     /// Writes a value as a word, as `{}` prints it.
     pub fn show<T: Display>(&mut self, value: &T) {
-        match shown(self.alloc, value) {
-            Ok(text) => self.word(&text),
-            Err(wrong) => self.wrong(wrong),
+        self.word(b"");
+        if write!(self.text, "{value}").is_err() {
+            self.wrong(Wrong::new("no memory"));
         }
     }
 
     /// Writes a value as a word, as `{:?}` prints it.
     pub fn debug<T: Debug>(&mut self, value: &T) {
-        match debugged(self.alloc, value) {
-            Ok(text) => self.word(&text),
-            Err(wrong) => self.wrong(wrong),
+        self.word(b"");
+        if write!(self.text, "{value:?}").is_err() {
+            self.wrong(Wrong::new("no memory"));
         }
     }
 
@@ -115,11 +110,7 @@ impl Answer {
 
     /// The answer.
     pub fn into_text(self) -> Result<Vec<u8>, Wrong> {
-        let Answer {
-            alloc: _,
-            text,
-            wrong,
-        } = self;
+        let Answer { text, wrong } = self;
         match wrong {
             Some(wrong) => {
                 drop(text);

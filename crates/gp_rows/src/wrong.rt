@@ -1,7 +1,6 @@
 //! What ends a row, or the program, before there is an answer.
 
-use std::alloc::Global;
-use std::fmt::{Debug, Display, InlineText};
+use std::fmt::{Debug, InlineText};
 
 // How many bytes of a message are kept.
 const MOST: usize = 200;
@@ -32,14 +31,4 @@ impl<E: Debug + Drop> From<E> for Wrong {
             text: InlineText::of(format_args!("{error:?}")),
         }
     }
-}
-
-/// A value as `{}` prints it.
-pub(crate) fn shown<T: Display>(alloc: Global, value: &T) -> Result<Vec<u8>, Wrong> {
-    Ok(format!(in alloc; "{value}")?.into_bytes())
-}
-
-/// A value as `{:?}` prints it.
-pub(crate) fn debugged<T: Debug>(alloc: Global, value: &T) -> Result<Vec<u8>, Wrong> {
-    Ok(format!(in alloc; "{value:?}")?.into_bytes())
 }

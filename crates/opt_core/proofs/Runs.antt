@@ -1,6 +1,5 @@
 -- What any list of events does to a legal core.
 use Rattle.std.proofs.Common.{◌≡◌, ℕ, zero, suc, ◌^◌, ◌<◌, ◌≤◌, inl, inr, List, [], ◌∷◌, ◌++◌, false, Option, Some, None, length, refl, sym, ◌∙◌, ap, subst, arith, append-nil, append_assoc}
-use Rattle.std.proofs.lemmas.List.{length-replicate}
 use Rattle.opt_system.specs.declared.answers.Mode.TheVariants.{Once}
 use Rattle.opt_system.specs.Meaning.{Meaning, applies, undone_by, IsLawful}
 use Rattle.opt_core.specs.declared.event.Ending.{Ending}
@@ -12,7 +11,7 @@ use Rattle.opt_core.specs.declared.event.Event.TheVariants as event
 use Rattle.opt_core.specs.Core.{Core, Legal, reached, AllApply, IsEnding}
 use Rattle.opt_core.specs.Steps.{MayCome, AnswersWith, IsFresh}
 use Rattle.opt_core.specs.Runs.{Answered, Each, commits, commits_of, matches_of, SameStart, Run, IsSound, at_end, IsLateStep, EveryRunIsSound, EveryRunFromStart, BaseIsBack, LateOffersAreSteps, ToldBatchesAreNotStale}
-use Rattle.opt_core.proofs.Legal.{none_open, used_none, reached_snoc}
+use Rattle.opt_core.proofs.Legal.{begun, reached_snoc}
 use Rattle.opt_core.proofs.Batches.{committed_closed, not_stale}
 use Rattle.opt_core.proofs.Events.{EventDoes, event_does}
 
@@ -87,16 +86,7 @@ module _ {System State Found Goal Reason : Type 0} (m : Meaning State Found Goal
 
   -- a core that was just started is legal
   fresh : IsLawful m → (c : Core System State Found Goal Reason) (s : System) (base : State) (goal : Goal) (left : ℕ) → m.shares goal < 2 ^ 32 → left < 2 ^ 64 → IsFresh m c s base goal left → Legal m c
-  fresh lawful c s base goal left few bounded is = subst (λ (y : Core System State Found Goal Reason). Legal m y) (sym is) (record {
-    each_applies = tt;
-    at_all = refl;
-    one_at_most = λ once. inl refl;
-    items = (0, omega arith, used_none m (m.mode goal));
-    places = length-replicate (m.shares goal) false;
-    narrow = rw length-replicate few;
-    bounded = bounded;
-    ended = none_open m goal base [] (m.shares goal) left left (lawful.some_share goal);
-  })
+  fresh lawful c s base goal left few bounded is = subst (λ (y : Core System State Found Goal Reason). Legal m y) (sym is) (begun m lawful goal base left few bounded)
 
   late : (o : Option (Ending Reason)) (c d : Core System State Found Goal Reason) (told place : ℕ) (f : Found) → Legal m c → told ≤ length c.entries
       → AnswersWith m o c (event.Offer told f) (reply.Committed place) d → IsLateStep m c told place f d
