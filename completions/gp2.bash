@@ -1,4 +1,4 @@
-# Completion of gp2 for bash.
+# Completion of gp2 for bash. In a clone `. completions/gp2.bash` gives it to ./gp2 too.
 _gp2() {
   local word=${COMP_WORDS[COMP_CWORD]} before=${COMP_WORDS[COMP_CWORD - 1]} files=0 i pattern
   COMPREPLY=()

@@ -47,6 +47,9 @@ function add_edge(start, first, second, third, behind, is_marked) {
 # A graph whose `[` stands at `at`; the place behind its `]` is returned.
 function read_graph(at) {
   node_count = 0; edge_count = 0
+  if (tokens == 0) die("no graph: there is nothing in it")
+  if (token[at] == "fail" && tokens == 1) die("no graph: the program answered `fail`")
+  if (token[at] == "gp2" && token[at + 2] == "trace") die("no graph: a journal stands before it")
   if (token[at] != "[") die("no graph: `[` is missing")
   for (at++; at <= tokens && token[at] != "]"; ) {
     if (token[at] == "(") at = read_item(at)

@@ -151,6 +151,7 @@ function printed_lines(   i, text) {
 
 function read_printed(   line, words, text) {
   while ((getline line) > 0) {
+    if (!version && line !~ /^gp2-trace [12]$/) die("no trace: it begins with `" line "`; `gp2 run --journal` prints one")
     if (line == "end") return
     words = split(line, word, " ")
     split("", image); split("", took_edge)
@@ -168,7 +169,7 @@ function read_printed(   line, words, text) {
       version = substr(line, 11) + 0
     } else if (line !~ /^(turn|back 0)$/) die("no trace: " line)
   }
-  die("no trace: its `end` is missing")
+  die(version ? "no trace: its `end` is missing" : "no trace: there is nothing in it")
 }
 
 function check_result(   line, key) {
