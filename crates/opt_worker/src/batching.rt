@@ -2,12 +2,9 @@
 
 use opt_core::Reply;
 
-// A worker offers no more matches than this alone before it tries a batch again.
-const LONGEST_PAUSE: u32 = 64;
-
 /// How many matches a worker may offer in one turn. Each batch costs a search of its share for more matches, which is for
 /// nothing where hardly any two are independent. So after a batch of which no two were committed the worker offers matches
-/// alone for a while, which doubles each time and is one match again after a batch of which two were. It is a hint: no
+/// alone for a while, which doubles each time and is one match again after a batch of which two were, so that searches for nothing are few. It is a hint: no
 /// result depends on it.
 #[derive(Clone, Copy)]
 pub(crate) struct Batching {
@@ -40,7 +37,7 @@ impl Batching {
             Reply::Batched(_, count, _) if *count > 1 => Batching::new(self.most),
             Reply::Batched(_, _, _) => Batching {
                 most: self.most,
-                pause: self.pause.saturating_mul(2).min(LONGEST_PAUSE),
+                pause: self.pause.saturating_mul(2),
                 alone: self.pause,
             },
             Reply::Committed(_) => Batching {

@@ -23,6 +23,14 @@ use std::sync::Wait;
 /// another searches too. It is a hint: no result depends on it.
 pub const SHARES_OF_A_WORKER: u32 = 4;
 
+// Where a worker is at work: the system that it searches, the gate of the goal, and who hears of its searches and turns.
+#[derive(Drop)]
+struct Site<'a, S: System, P: Pace> {
+    system: &'a S,
+    gate: &'a Gate<S>,
+    pace: &'a P,
+}
+
 // Where a worker looks from, and how many matches it may offer in one turn.
 #[derive(Clone, Copy)]
 struct Aim {
@@ -61,26 +69,28 @@ pub fn follow<S: System>(s: &S, at: &mut S::State, entries: &[S::Found]) -> Resu
 }
 
 // Asks for entries and a share, and makes the steps of the entries. The share, or none where the goal has ended.
-fn catch_up<S: System, R: Wait>(
+fn catch_up<S: System, P: Pace, R: Wait>(
     rt: &R,
-    s: &S,
-    gate: &Gate<S>,
+    site: &Site<'_, S, P>,
     pass: &mut Pass<S>,
     at: &mut S::State,
     aim: Aim,
 ) -> Result<Option<Task>, NoMemory>
-    requires gate { IsPassOf gate.now pass.old }
-    requires system { s.now ≡ (start_of gate.now).system }
-    requires at { at.old ≡ reached (S.means s.now) (start_of gate.now).base (entries_told pass.old) }
+    requires gate { IsPassOf site.now.gate.now pass.old }
+    requires system { site.now.system.now ≡ (start_of site.now.gate.now).system }
+    requires at { at.old ≡ reached (S.means site.now.system.now) (start_of site.now.gate.now).base (entries_told pass.old) }
     ensures later { IsLater pass.old pass.new }
-    ensures replica { IsReplica (S.means s.now) (start_of gate.now).base pass.new.knows at.new }
-    ensures share { IfOk result (λ found. IfSome found (λ task. task.share < (S.means s.now).shares (start_of gate.now).goal)) }
-    ensures at { IfOk result (λ found. IfSome found (λ _. at.new ≡ reached (S.means s.now) (start_of gate.now).base (entries_told pass.new))) }
-    ensures done { IfOk result (λ found. IfNone found (IsDone (S.means s.now) gate.now.key pass.new)) }
+    ensures replica { IsReplica (S.means site.now.system.now) (start_of site.now.gate.now).base pass.new.knows at.new }
+    ensures share { IfOk result (λ found. IfSome found (λ task. task.share < (S.means site.now.system.now).shares (start_of site.now.gate.now).goal)) }
+    ensures at { IfOk result (λ found. IfSome found (λ _. at.new ≡ reached (S.means site.now.system.now) (start_of site.now.gate.now).base (entries_told pass.new))) }
+    ensures done { IfOk result (λ found. IfNone found (IsDone (S.means site.now.system.now) site.now.gate.now.key pass.new)) }
 {
-    match gate.turn(rt, pass, s, Ask::Look { from: aim.from }) {
+    match site
+        .gate
+        .turn(rt, pass, site.system, Ask::Look { from: aim.from })
+    {
         Reply::News { entries, task } => {
-            follow(s, at, entries.as_slice())?;
+            follow(site.system, at, entries.as_slice())?;
             Ok(Some(Task {
                 share: task,
                 batch: aim.batching.size(),
@@ -198,50 +208,46 @@ fn look_after<F, R>(reply: &Reply<F, R>, task: Task, shares: u32) -> Result<Opti
 // Searches the share and reports what was found. Where to look next, or none where the goal has ended.
 fn report<S: System, P: Pace, R: Wait>(
     rt: &R,
-    s: &S,
-    gate: &Gate<S>,
+    site: &Site<'_, S, P>,
     pass: &mut Pass<S>,
     at: &S::State,
     task: Task,
-    pace: &P,
 ) -> Result<Option<Aim>, NoMemory>
-    requires gate { IsPassOf gate.now pass.old }
-    requires system { s.now ≡ (start_of gate.now).system }
-    requires task { task.share < (S.means s.now).shares (start_of gate.now).goal }
-    requires at { at.now ≡ reached (S.means s.now) (start_of gate.now).base (entries_told pass.old) }
+    requires gate { IsPassOf site.now.gate.now pass.old }
+    requires system { site.now.system.now ≡ (start_of site.now.gate.now).system }
+    requires task { task.share < (S.means site.now.system.now).shares (start_of site.now.gate.now).goal }
+    requires at { at.now ≡ reached (S.means site.now.system.now) (start_of site.now.gate.now).base (entries_told pass.old) }
     ensures later { IsLater pass.old pass.new }
     ensures told { entries_told pass.new ≡ entries_told pass.old }
-    ensures done { IfOk result (λ next. IfNone next (IsDone (S.means s.now) gate.now.key pass.new)) }
+    ensures done { IfOk result (λ next. IfNone next (IsDone (S.means site.now.system.now) site.now.gate.now.key pass.new)) }
 {
     let worker = pass.number();
     let told = pass.told();
-    let found = search(s, gate, pass, at, task);
-    pace.searched(rt, worker, told);
-    let reply = gate.turn(rt, pass, s, found?);
-    pace.turned(rt, worker, told, tells_commit(&reply));
-    look_after(&reply, task, s.shares(gate.goal()))
+    let found = search(site.system, site.gate, pass, at, task);
+    site.pace.searched(rt, worker, told);
+    let reply = site.gate.turn(rt, pass, site.system, found?);
+    site.pace.turned(rt, worker, told, tells_commit(&reply));
+    look_after(&reply, task, site.system.shares(site.gate.goal()))
 }
 
 // Catches up, searches and reports once. Where to look next, or none where the goal has ended.
 fn round<S: System, P: Pace, R: Wait>(
     rt: &R,
-    s: &S,
-    gate: &Gate<S>,
+    site: &Site<'_, S, P>,
     pass: &mut Pass<S>,
     at: &mut S::State,
     aim: Aim,
-    pace: &P,
 ) -> Result<Option<Aim>, NoMemory>
-    requires gate { IsPassOf gate.now pass.old }
-    requires system { s.now ≡ (start_of gate.now).system }
-    requires at { at.old ≡ reached (S.means s.now) (start_of gate.now).base (entries_told pass.old) }
+    requires gate { IsPassOf site.now.gate.now pass.old }
+    requires system { site.now.system.now ≡ (start_of site.now.gate.now).system }
+    requires at { at.old ≡ reached (S.means site.now.system.now) (start_of site.now.gate.now).base (entries_told pass.old) }
     ensures later { IsLater pass.old pass.new }
-    ensures replica { IsReplica (S.means s.now) (start_of gate.now).base pass.new.knows at.new }
-    ensures at { IfOk result (λ next. IfSome next (λ _. at.new ≡ reached (S.means s.now) (start_of gate.now).base (entries_told pass.new))) }
-    ensures done { IfOk result (λ next. IfNone next (IsDone (S.means s.now) gate.now.key pass.new)) }
+    ensures replica { IsReplica (S.means site.now.system.now) (start_of site.now.gate.now).base pass.new.knows at.new }
+    ensures at { IfOk result (λ next. IfSome next (λ _. at.new ≡ reached (S.means site.now.system.now) (start_of site.now.gate.now).base (entries_told pass.new))) }
+    ensures done { IfOk result (λ next. IfNone next (IsDone (S.means site.now.system.now) site.now.gate.now.key pass.new)) }
 {
-    match catch_up(rt, s, gate, pass, at, aim)? {
-        Some(task) => report(rt, s, gate, pass, at, task, pace),
+    match catch_up(rt, site, pass, at, aim)? {
+        Some(task) => report(rt, site, pass, at, task),
         None => Ok(None),
     }
 }
@@ -265,12 +271,17 @@ pub fn work_on<S: System, P: Pace, R: Wait>(
     ensures done { IsDone (S.means s.now) gate.now.key pass.new }
     ensures replica { IsReplica (S.means s.now) (start_of gate.now).base pass.new.knows state.new }
 {
+    let site = Site {
+        system: s,
+        gate,
+        pace,
+    };
     let mut aim = Aim {
         from: pass.number(),
         batching: Batching::new(batch),
     };
     for _ in rt.forever() {
-        match round(rt, s, gate, pass, state, aim, pace) {
+        match round(rt, &site, pass, state, aim) {
             Ok(Some(next)) => aim = next,
             Ok(None) => return,
             Err(NoMemory) => {

@@ -7,39 +7,39 @@ use Rattle.opt_worker.proofs.worker.catch_up.Goals as goal
 
 pub follow-requires : goal.follow-requires
 follow-requires g c =
-    let start = start_of c.args.gate.now in
-    let m = g.S.System.means c.args.s.now in
+    let start = start_of c.args.site.now.gate.now in
+    let m = g.S.System.means c.args.site.now.system.now in
     let told = grown (entries_told c.args.pass.now) (entries_told c.turn.new.pass) c.in-News.entries c.as_slice.result.now c.turn.result c.in-News.task c.turn.ensures.told c.in-News.is c.as_slice.ensures in
     (start.goal, may_go m start.goal start.base c.args.pass.now c.turn.new.pass c.args.at.now c.as_slice.result.now c.turn.ensures.applies told c.requires.at)
 
 pub returns-in_err-follow-in-News-clause-replica : goal.returns-in_err-follow-in-News-clause-replica
 returns-in_err-follow-in-News-clause-replica g c =
-    let start = start_of c.args.gate.now in
-    let m = g.S.System.means c.args.s.now in
+    let start = start_of c.args.site.now.gate.now in
+    let m = g.S.System.means c.args.site.now.system.now in
     let told = grown (entries_told c.args.pass.now) (entries_told c.turn.new.pass) c.in-News.entries c.as_slice.result.now c.turn.result c.in-News.task c.turn.ensures.told c.in-News.is c.as_slice.ensures in
     let some = c.follow.ensures.some in
-    moved m start.goal start.base c.args.pass.now c.turn.new.pass c.args.at.now c.follow.new.at c.as_slice.result.now some.0 (g.met.S.System.lawful c.args.s.now) c.turn.ensures.applies told c.requires.at some.1 some.2
+    moved m start.goal start.base c.args.pass.now c.turn.new.pass c.args.at.now c.follow.new.at c.as_slice.result.now some.0 (g.met.S.System.lawful c.args.site.now.system.now) c.turn.ensures.applies told c.requires.at some.1 some.2
 
 pub returns-in_ok-follow-in-News-clause-replica : goal.returns-in_ok-follow-in-News-clause-replica
 returns-in_ok-follow-in-News-clause-replica g c =
-    let start = start_of c.args.gate.now in
-    let m = g.S.System.means c.args.s.now in
+    let start = start_of c.args.site.now.gate.now in
+    let m = g.S.System.means c.args.site.now.system.now in
     let told = grown (entries_told c.args.pass.now) (entries_told c.turn.new.pass) c.in-News.entries c.as_slice.result.now c.turn.result c.in-News.task c.turn.ensures.told c.in-News.is c.as_slice.ensures in
-    told_replica m start.goal start.base c.follow.new.at c.turn.new.pass (g.met.S.System.lawful c.args.s.now) c.turn.ensures.applies
+    told_replica m start.goal start.base c.follow.new.at c.turn.new.pass (g.met.S.System.lawful c.args.site.now.system.now) c.turn.ensures.applies
     (went m start.goal start.base c.args.pass.now c.turn.new.pass c.args.at.now c.follow.new.at c.as_slice.result.now told c.requires.at c.in_ok-follow-in-News.ensures.all)
 
 pub returns-in_ok-follow-in-News-clause-at : goal.returns-in_ok-follow-in-News-clause-at
 returns-in_ok-follow-in-News-clause-at g c =
-    let start = start_of c.args.gate.now in
-    let m = g.S.System.means c.args.s.now in
+    let start = start_of c.args.site.now.gate.now in
+    let m = g.S.System.means c.args.site.now.system.now in
     let told = grown (entries_told c.args.pass.now) (entries_told c.turn.new.pass) c.in-News.entries c.as_slice.result.now c.turn.result c.in-News.task c.turn.ensures.told c.in-News.is c.as_slice.ensures in
     went m start.goal start.base c.args.pass.now c.turn.new.pass c.args.at.now c.follow.new.at c.as_slice.result.now told c.requires.at c.in_ok-follow-in-News.ensures.all
 
 pub returns-in-Closed-clause-replica : goal.returns-in-Closed-clause-replica
 returns-in-Closed-clause-replica g c =
-    let start = start_of c.args.gate.now in
-    let m = g.S.System.means c.args.s.now in
-    stayed m start.goal start.base c.args.pass.now c.turn.new.pass c.args.at.now (news_of c.turn.result) (g.met.S.System.lawful c.args.s.now) c.turn.ensures.applies c.turn.ensures.told c.requires.at
+    let start = start_of c.args.site.now.gate.now in
+    let m = g.S.System.means c.args.site.now.system.now in
+    stayed m start.goal start.base c.args.pass.now c.turn.new.pass c.args.at.now (news_of c.turn.result) (g.met.S.System.lawful c.args.site.now.system.now) c.turn.ensures.applies c.turn.ensures.told c.requires.at
 
 pub returns-in-Closed-clause-done : goal.returns-in-Closed-clause-done
 returns-in-Closed-clause-done g c =
@@ -49,11 +49,11 @@ returns-in-Closed-clause-done g c =
 
 pub returns-in_default : goal.returns-in_default
 returns-in_default g c =
-    let start = start_of c.args.gate.now in
-    let m = g.S.System.means c.args.s.now in
+    let start = start_of c.args.site.now.gate.now in
+    let m = g.S.System.means c.args.site.now.system.now in
     record {
       later = search rules;
-      replica = stayed m start.goal start.base c.args.pass.now c.turn.new.pass c.args.at.now (news_of c.turn.result) (g.met.S.System.lawful c.args.s.now) c.turn.ensures.applies c.turn.ensures.told c.requires.at;
+      replica = stayed m start.goal start.base c.args.pass.now c.turn.new.pass c.args.at.now (news_of c.turn.result) (g.met.S.System.lawful c.args.site.now.system.now) c.turn.ensures.applies c.turn.ensures.told c.requires.at;
       share = tt;
       at = tt;
       done = tt;

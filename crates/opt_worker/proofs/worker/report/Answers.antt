@@ -15,15 +15,15 @@ returns-clause-later g c = turned c.args.pass.now c.turn-reply.new.pass c.in_ok-
 
 pub returns-clause-told : goal.returns-clause-told
 returns-clause-told g c =
-    told_same (g.S.System.means c.args.s.now) (start_of c.args.gate.now) c.args.pass.now c.turn-reply.new.pass c.in_ok-found.field-0 c.turn-reply.result c.in_ok-found.ensures.report c.turn-reply.ensures.one_event c.turn-reply.ensures.told
+    told_same (g.S.System.means c.args.site.now.system.now) (start_of c.args.site.now.gate.now) c.args.pass.now c.turn-reply.new.pass c.in_ok-found.field-0 c.turn-reply.result c.in_ok-found.ensures.report c.turn-reply.ensures.one_event c.turn-reply.ensures.told
 
 pub returns-clause-done : goal.returns-clause-done
 returns-clause-done g c =
-    let m = g.S.System.means c.args.s.now in
+    let m = g.S.System.means c.args.site.now.system.now in
     let turn = c.turn-reply.ensures in
-    let done = IsDone m c.args.gate.now.key c.turn-reply.new.pass in
+    let done = IsDone m c.args.site.now.gate.now.key c.turn-reply.new.pass in
     IfOk-weaker c.look_after.result (λ next. IfNone next (TellsEnding c.turn-reply.result)) (λ next. IfNone next done)
     (λ next h. none_weaker next (λ tells.
-    let e = ended m (start_of c.args.gate.now) c.args.pass.now c.turn-reply.new.pass c.in_ok-found.field-0 c.turn-reply.result turn.one_event turn.closed tells in
+    let e = ended m (start_of c.args.site.now.gate.now) c.args.pass.now c.turn-reply.new.pass c.in_ok-found.field-0 c.turn-reply.result turn.one_event turn.closed tells in
     record { ended = (e.0, e.1, turn.ending e.0 e.1); own = turn.own; whole = turn.whole }) h)
     c.look_after.ensures.ended
