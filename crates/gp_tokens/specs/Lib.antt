@@ -9,3 +9,4 @@ pub mod Cut
 pub mod Lines
 pub mod FaultText
 pub mod Laws
+pub mod inside
