@@ -4,7 +4,12 @@ use Rattle.std.proofs.lemmas.List.{append-nil, map-append}
 use Rattle.std.specs.Option.{option_or}
 use Rattle.gp_expressions.specs.declared.ranged.Ranged.{Ranged}
 use Rattle.gp_expressions.specs.Ranges.{first_past, joined, all_joined, chained}
-use Rattle.gp_expressions.specs.inside.Chains.{linked, tree_of}
+use Rattle.gp_expressions.specs.Expressions.{Tree, sum_tree, product_tree}
+use Rattle.gp_expressions.specs.inside.Chains.{linked, operands_of, tree_of}
+use Rattle.gp_syntax.specs.declared.expression.Signed.{Signed}
+use Rattle.gp_syntax.specs.declared.expression.SumSign.{SumSign}
+use Rattle.gp_syntax.specs.declared.expression.ProductSign.{ProductSign}
+use Rattle.gp_syntax.specs.declared.expression.Expr.TheVariants as e
 
 pub none_last : {A : Type 0} (p : Option A) → option_or p None ≡ p
 none_last None = refl
@@ -45,3 +50,14 @@ unfolding first_past
 chain_is none make [] = refl
 chain_is none make (r ∷ []) = rw (none_last r.past) refl
 chain_is none make (r ∷ s ∷ rs) = refl
+
+-- operands with their signs, by what a chain of them is made of
+pub sum_tree_is : (ys : List (Signed SumSign Tree)) → sum_tree ys ≡ tree_of e.Empty e.Sum (operands_of ys)
+sum_tree_is [] = refl
+sum_tree_is (y ∷ []) = refl
+sum_tree_is (y ∷ z ∷ zs) = refl
+
+pub product_tree_is : (ys : List (Signed ProductSign Tree)) → product_tree ys ≡ tree_of e.Empty e.Product (operands_of ys)
+product_tree_is [] = refl
+product_tree_is (y ∷ []) = refl
+product_tree_is (y ∷ z ∷ zs) = refl

@@ -1,4 +1,3 @@
 pub mod Chains
-pub mod Joints
 pub mod Leaves
 pub mod Rows

@@ -8,35 +8,31 @@ use gp_grammar::ReadError;
 use gp_syntax::{Boxed, Items};
 use std::alloc::Global;
 
-/// What a chain is made of.
+/// What a chain is made of: its first tree, and the further ones.
 #[derive(Drop)]
-pub(crate) enum Links<T> {
+pub(crate) enum Links<T, R> {
     Nothing,
     One(T),
-    More(Boxed<T>, Items<T>),
-}
-
-fn links_of<T: Drop>(alloc: Global, mut trees: Items<T>) -> Result<Links<T>, ReadError>
-    ensures { MatchResult result (λ x. x ≡ spec.links_of trees) (λ e. e ≡ ReadError.NoMemory) }
-{
-    if trees.is_empty() {
-        return Ok(Links::Nothing);
-    }
-    let first = trees.remove(0);
-    if trees.is_empty() {
-        return Ok(Links::One(first));
-    }
-    Ok(Links::More(Boxed::new(alloc, first)?, trees))
+    More(Boxed<T>, Items<R>),
 }
 
 /// What a chain of these trees is made of.
 pub(crate) fn linked<T: Drop>(
     alloc: Global,
     parts: Vec<Ranged<T>>,
-) -> Result<Ranged<Links<T>>, ReadError>
+) -> Result<Ranged<Links<T, T>>, ReadError>
     ensures { MatchResult result (λ x. x ≡ spec.linked parts.items) (λ e. e ≡ ReadError.NoMemory) }
 {
-    let Ranged { tree, past } = gather(alloc, parts)?;
-    let tree = links_of(alloc, tree)?;
+    let Ranged { mut tree, past } = gather(alloc, parts)?;
+    if tree.is_empty() {
+        let tree = Links::Nothing;
+        return Ok(Ranged { tree, past });
+    }
+    let first = tree.remove(0);
+    if tree.is_empty() {
+        let tree = Links::One(first);
+        return Ok(Ranged { tree, past });
+    }
+    let tree = Links::More(Boxed::new(alloc, first)?, tree);
     Ok(Ranged { tree, past })
 }

@@ -6,8 +6,6 @@ ghost use Rattle.gp_grammar.specs.Reading.{reader_of};
 ghost use Rattle.gp_syntax.specs.declared.expression.Cond.TheVariants as c;
 ghost use Rattle.gp_expressions.specs.Ranges.{with, chained};
 ghost use Rattle.gp_expressions.specs.Expressions.{list};
-ghost use Rattle.gp_expressions.specs.inside.Chains.{tree_of};
-ghost use Rattle.gp_expressions.specs.inside.Joints.{joined};
 ghost use Rattle.gp_expressions.specs.Conditions as spec;
 
 use crate::chain::{Links, linked};
@@ -15,7 +13,7 @@ use crate::expression::{read_list, read_name};
 use crate::ranged::{Ranged, whole};
 use crate::rows::{Row, read_rows};
 use gp_grammar::{ReadError, Tokens, Want};
-use gp_syntax::{Boxed, Comparison, Cond, Expr, Items, Name, VariableType};
+use gp_syntax::{Boxed, Comparison, Cond, Expr, Name, VariableType};
 use gp_tokens::{Keyword, Kind, Token};
 use std::alloc::Global;
 
@@ -247,22 +245,6 @@ fn condition_ahead(tokens: &[Token<'_>]) -> bool
     }
 }
 
-// Whether conditions are joined by `and` or by `or`.
-#[derive(Clone, Copy)]
-enum Joint {
-    And,
-    Or,
-}
-
-fn joined(joint: Joint, first: Boxed<CondTree>, rest: Items<CondTree>) -> CondTree
-    ensures { result ≡ joined joint first rest }
-{
-    match joint {
-        Joint::And => Cond::And(first, rest),
-        Joint::Or => Cond::Or(first, rest),
-    }
-}
-
 // What stands for a chain of none, which there is not.
 fn no_condition(alloc: Global) -> Result<CondTree, ReadError>
     ensures { MatchResult result (λ x. x ≡ spec.no_condition) (λ e. e ≡ ReadError.NoMemory) }
@@ -271,33 +253,30 @@ fn no_condition(alloc: Global) -> Result<CondTree, ReadError>
     Ok(Cond::HasEdge(source, Name::from_slice(alloc, &[])?))
 }
 
-fn chain_tree(alloc: Global, joint: Joint, links: Links<CondTree>) -> Result<CondTree, ReadError>
-    ensures { MatchResult result (λ x. x ≡ tree_of spec.no_condition (joined joint) links) (λ e. e ≡ ReadError.NoMemory) }
-{
-    match links {
-        Links::Nothing => no_condition(alloc),
-        Links::One(tree) => Ok(tree),
-        Links::More(first, rest) => Ok(joined(joint, first, rest)),
-    }
-}
-
 #[tactic(auto, using(crate::proofs::Gathers::chain_is))]
-fn chain(
-    alloc: Global,
-    joint: Joint,
-    parts: Vec<Ranged<CondTree>>,
-) -> Result<Ranged<CondTree>, ReadError>
-    ensures { MatchResult result (λ x. x ≡ chained spec.no_condition (joined joint) parts.items) (λ e. e ≡ ReadError.NoMemory) }
-{
-    let Ranged { tree, past } = linked(alloc, parts)?;
-    let tree = chain_tree(alloc, joint, tree)?;
-    Ok(Ranged { tree, past })
-}
-
 fn conjunction(alloc: Global, parts: Vec<Ranged<CondTree>>) -> Result<Ranged<CondTree>, ReadError>
     ensures { MatchResult result (λ x. x ≡ chained spec.no_condition c.And parts.items) (λ e. e ≡ ReadError.NoMemory) }
 {
-    chain(alloc, Joint::And, parts)
+    let Ranged { tree, past } = linked(alloc, parts)?;
+    let tree = match tree {
+        Links::Nothing => no_condition(alloc)?,
+        Links::One(tree) => tree,
+        Links::More(first, rest) => Cond::And(first, rest),
+    };
+    Ok(Ranged { tree, past })
+}
+
+#[tactic(auto, using(crate::proofs::Gathers::chain_is))]
+fn disjunction(alloc: Global, parts: Vec<Ranged<CondTree>>) -> Result<Ranged<CondTree>, ReadError>
+    ensures { MatchResult result (λ x. x ≡ chained spec.no_condition c.Or parts.items) (λ e. e ≡ ReadError.NoMemory) }
+{
+    let Ranged { tree, past } = linked(alloc, parts)?;
+    let tree = match tree {
+        Links::Nothing => no_condition(alloc)?,
+        Links::One(tree) => tree,
+        Links::More(first, rest) => Cond::Or(first, rest),
+    };
+    Ok(Ranged { tree, past })
 }
 
 fn denied(alloc: Global, part: Ranged<CondTree>) -> Result<Ranged<CondTree>, ReadError>
@@ -380,5 +359,5 @@ pub fn read_condition(
         make: conjunction,
     };
     let rows = read_rows(tokens, OR, row)?;
-    chain(tokens.alloc(), Joint::Or, rows)
+    disjunction(tokens.alloc(), rows)
 }

@@ -1,6 +1,6 @@
 //! Reads expressions, one function for each line of the grammar.
 
-ghost use Rattle.std.specs.Prelude.{◌≡◌, IfOk, MatchResult};
+ghost use Rattle.std.specs.Prelude.{◌≡◌, MatchResult};
 ghost use Rattle.gp_grammar.specs.Cursor.{Reads};
 ghost use Rattle.gp_grammar.specs.Reading.{reader_of, made, number_at};
 ghost use Rattle.gp_grammar.specs.Numerals.{integer_of};
@@ -9,7 +9,7 @@ ghost use Rattle.gp_syntax.specs.declared.expression.SumSign.TheVariants as sums
 ghost use Rattle.gp_syntax.specs.declared.expression.ProductSign.TheVariants as products;
 ghost use Rattle.gp_expressions.specs.Expressions as spec;
 ghost use Rattle.gp_expressions.specs.Ranges.{with, all_joined, chained};
-ghost use Rattle.gp_expressions.specs.inside.Chains.{tree_of};
+ghost use Rattle.gp_expressions.specs.inside.Chains.{operands_of};
 ghost use Rattle.gp_expressions.specs.inside.Leaves.{functions};
 ghost use Rattle.gp_expressions.specs.inside.Rows.{signed_row};
 
@@ -17,7 +17,6 @@ use crate::chain::{Links, linked};
 use crate::ranged::{Ranged, join, whole};
 use crate::rows::{Row, read_rows};
 use gp_grammar::{Numeral, ReadError, Tokens, Want};
-use gp_memory::NoMemory;
 use gp_syntax::{Boxed, Expr, Items, Name, ProductSign, Signed, SumSign};
 use gp_tokens::{Keyword, Kind};
 use std::alloc::Global;
@@ -99,70 +98,58 @@ fn differences(
     signed(alloc, SumSign::Plus, SumSign::Minus, parts)
 }
 
-fn sum_tree(
-    alloc: Global,
-    mut operands: Items<Signed<SumSign, Expr<Name>>>,
-) -> Result<Expr<Name>, NoMemory>
-    ensures { IfOk result (λ x. x ≡ spec.sum_tree operands) }
-{
-    if operands.is_empty() {
-        return Ok(Expr::Empty);
-    }
-    let first = operands.remove(0).operand;
-    if operands.is_empty() {
-        return Ok(first);
-    }
-    Ok(Expr::Sum(Boxed::new(alloc, first)?, operands))
-}
-
-fn product_tree(
-    alloc: Global,
-    mut operands: Items<Signed<ProductSign, Expr<Name>>>,
-) -> Result<Expr<Name>, NoMemory>
-    ensures { IfOk result (λ x. x ≡ spec.product_tree operands) }
-{
-    if operands.is_empty() {
-        return Ok(Expr::Empty);
-    }
-    let first = operands.remove(0).operand;
-    if operands.is_empty() {
-        return Ok(first);
-    }
-    Ok(Expr::Product(Boxed::new(alloc, first)?, operands))
-}
-
+// What a chain of operands is made of, of which the first is without its sign.
 #[tactic(auto, using(crate::proofs::Gathers::all_joined_is))]
+fn operands_of<S: Copy>(
+    alloc: Global,
+    rows: Vec<Ranged<Items<Signed<S, Expr<Name>>>>>,
+) -> Result<Ranged<Links<Expr<Name>, Signed<S, Expr<Name>>>>, ReadError>
+    ensures { MatchResult result (λ x. x ≡ with operands_of (all_joined rows.items)) (λ e. e ≡ ReadError.NoMemory) }
+{
+    let Ranged { mut tree, past } = join(whole(Items::new(alloc)), rows)?;
+    if tree.is_empty() {
+        let tree = Links::Nothing;
+        return Ok(Ranged { tree, past });
+    }
+    let first = tree.remove(0).operand;
+    if tree.is_empty() {
+        let tree = Links::One(first);
+        return Ok(Ranged { tree, past });
+    }
+    let tree = Links::More(Boxed::new(alloc, first)?, tree);
+    Ok(Ranged { tree, past })
+}
+
+#[tactic(auto, using(crate::proofs::Gathers::product_tree_is))]
 fn product_of(
     alloc: Global,
     rows: Vec<Ranged<Items<Signed<ProductSign, Expr<Name>>>>>,
 ) -> Result<Ranged<Expr<Name>>, ReadError>
     ensures { MatchResult result (λ x. x ≡ with spec.product_tree (all_joined rows.items)) (λ e. e ≡ ReadError.NoMemory) }
 {
-    let Ranged { tree, past } = join(whole(Items::new(alloc)), rows)?;
-    let tree = product_tree(alloc, tree)?;
+    let Ranged { tree, past } = operands_of(alloc, rows)?;
+    let tree = match tree {
+        Links::Nothing => Expr::Empty,
+        Links::One(tree) => tree,
+        Links::More(first, rest) => Expr::Product(first, rest),
+    };
     Ok(Ranged { tree, past })
 }
 
-#[tactic(auto, using(crate::proofs::Gathers::all_joined_is))]
+#[tactic(auto, using(crate::proofs::Gathers::sum_tree_is))]
 fn sum_of(
     alloc: Global,
     rows: Vec<Ranged<Items<Signed<SumSign, Expr<Name>>>>>,
 ) -> Result<Ranged<Expr<Name>>, ReadError>
     ensures { MatchResult result (λ x. x ≡ with spec.sum_tree (all_joined rows.items)) (λ e. e ≡ ReadError.NoMemory) }
 {
-    let Ranged { tree, past } = join(whole(Items::new(alloc)), rows)?;
-    let tree = sum_tree(alloc, tree)?;
-    Ok(Ranged { tree, past })
-}
-
-fn dot_tree(links: Links<Expr<Name>>) -> Expr<Name>
-    ensures { result ≡ tree_of e.Empty e.Dot links }
-{
-    match links {
+    let Ranged { tree, past } = operands_of(alloc, rows)?;
+    let tree = match tree {
         Links::Nothing => Expr::Empty,
         Links::One(tree) => tree,
-        Links::More(first, rest) => Expr::Dot(first, rest),
-    }
+        Links::More(first, rest) => Expr::Sum(first, rest),
+    };
+    Ok(Ranged { tree, past })
 }
 
 #[tactic(auto, using(crate::proofs::Gathers::chain_is))]
@@ -170,20 +157,12 @@ fn dotted(alloc: Global, parts: Vec<Ranged<Expr<Name>>>) -> Result<Ranged<Expr<N
     ensures { MatchResult result (λ x. x ≡ chained e.Empty e.Dot parts.items) (λ e. e ≡ ReadError.NoMemory) }
 {
     let Ranged { tree, past } = linked(alloc, parts)?;
-    Ok(Ranged {
-        tree: dot_tree(tree),
-        past,
-    })
-}
-
-fn join_tree(links: Links<Expr<Name>>) -> Expr<Name>
-    ensures { result ≡ tree_of e.Empty e.Join links }
-{
-    match links {
+    let tree = match tree {
         Links::Nothing => Expr::Empty,
         Links::One(tree) => tree,
-        Links::More(first, rest) => Expr::Join(first, rest),
-    }
+        Links::More(first, rest) => Expr::Dot(first, rest),
+    };
+    Ok(Ranged { tree, past })
 }
 
 #[tactic(auto, using(crate::proofs::Gathers::chain_is))]
@@ -194,10 +173,12 @@ fn colon_joined(
     ensures { MatchResult result (λ x. x ≡ chained e.Empty e.Join parts.items) (λ e. e ≡ ReadError.NoMemory) }
 {
     let Ranged { tree, past } = linked(alloc, parts)?;
-    Ok(Ranged {
-        tree: join_tree(tree),
-        past,
-    })
+    let tree = match tree {
+        Links::Nothing => Expr::Empty,
+        Links::One(tree) => tree,
+        Links::More(first, rest) => Expr::Join(first, rest),
+    };
+    Ok(Ranged { tree, past })
 }
 
 fn negated(alloc: Global, part: Ranged<Expr<Name>>) -> Result<Ranged<Expr<Name>>, ReadError>
