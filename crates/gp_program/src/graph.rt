@@ -84,10 +84,7 @@ fn read_node(tokens: &mut Tokens<'_, '_>, lists: u64) -> Result<Ranged<NodeDecl>
         return Err(tokens.refusal());
     }
     let (label, mark) = read_label(tokens, lists)?;
-    if !passes_place(tokens) || !tokens.eat(CLOSE) {
-        return Err(tokens.refusal());
-    }
-    Ok(Ranged {
+    let node = Ranged {
         tree: NodeDecl {
             name,
             root,
@@ -95,7 +92,11 @@ fn read_node(tokens: &mut Tokens<'_, '_>, lists: u64) -> Result<Ranged<NodeDecl>
             mark,
         },
         past: label.past,
-    })
+    };
+    if !passes_place(tokens) || !tokens.eat(CLOSE) {
+        return Err(tokens.refusal());
+    }
+    Ok(node)
 }
 
 // Item "," Item "," Label ")", behind the name of an edge
@@ -117,10 +118,7 @@ fn read_ends(
         return Err(tokens.refusal());
     }
     let (label, mark) = read_label(tokens, lists)?;
-    if !tokens.eat(CLOSE) {
-        return Err(tokens.refusal());
-    }
-    Ok(Ranged {
+    let edge = Ranged {
         tree: EdgeDecl {
             name,
             bidirectional,
@@ -130,7 +128,11 @@ fn read_ends(
             mark,
         },
         past: label.past,
-    })
+    };
+    if !tokens.eat(CLOSE) {
+        return Err(tokens.refusal());
+    }
+    Ok(edge)
 }
 
 // Edge = "(" Item ["(" "B" ")"] "," Item "," Item "," Label ")"
@@ -171,16 +173,17 @@ fn read_body(tokens: &mut Tokens<'_, '_>, lists: u64) -> Result<Ranged<GraphDecl
         return Err(tokens.refusal());
     }
     let edges = read_edges(tokens, lists)?;
-    if !tokens.eat(CLOSE_BRACKET) {
-        return Err(tokens.refusal());
-    }
-    Ok(Ranged {
+    let graph = Ranged {
         tree: GraphDecl {
             nodes: nodes.tree,
             edges: edges.tree,
         },
         past: nodes.past.or(edges.past),
-    })
+    };
+    if !tokens.eat(CLOSE_BRACKET) {
+        return Err(tokens.refusal());
+    }
+    Ok(graph)
 }
 
 // Whether a bar comes next, and another one before the next closing bracket.
