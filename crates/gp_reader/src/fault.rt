@@ -6,10 +6,11 @@ use gp_scope::ScopeFault;
 use gp_syntax::Name;
 use gp_tokens::LexFault;
 use std::alloc::AllocError;
+use std::fmt::{Debug, Display, Formatter, Result, Write};
 use thiserror::Error;
 
 /// Why a text is no program: its first fault, in the order of these variants. Lines are counted from 1.
-#[derive(Debug, Drop, Error)]
+#[derive(Drop, Error)]
 pub enum ProgramFault {
     /// The text has no tokens, and this is why.
     #[error("{0}")]
@@ -32,6 +33,13 @@ pub enum ProgramFault {
     /// Memory was refused.
     #[error("NoMemory")]
     NoMemory,
+}
+
+// As it is shown to users.
+impl Debug for ProgramFault {
+    fn fmt<W: Write>(&self, f: &mut Formatter<W>) -> Result {
+        Display::fmt(self, f)
+    }
 }
 
 impl From<NoMemory> for ProgramFault {
