@@ -8,3 +8,4 @@ pub mod Numerals
 pub mod Reading
 pub mod Cursor
 pub mod Ahead
+pub mod inside
