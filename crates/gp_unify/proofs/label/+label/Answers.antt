@@ -7,7 +7,7 @@ use Rattle.gp_syntax.proofs.Trees.{label_of-Number, label_of-NegatedNumber, labe
 use Rattle.gp_unify.specs.Extension.{AreKnown, known_of}
 use Rattle.gp_unify.specs.Unify.{rest, read}
 use Rattle.gp_unify.specs.inside.Reading.{Refuses, size, sizes}
-use Rattle.gp_unify.proofs.Trails.{grown_on}
+use Rattle.gp_unify.proofs.Trails.{grown_on, grown_same}
 use Rattle.gp_unify.proofs.Chains.{begins_read, value_read, one_dotted, chain_read, size-Join, size-Dot, size_at, known_dots, known_joins, read_joins_is, part_read, part_refused, first_refused, parts_read, refused}
 use Rattle.gp_unify.proofs.label.+label.Goals as goal
 
@@ -129,3 +129,29 @@ pub read-returns-else-is_empty-clause-reads :
 read-returns-else-is_empty-clause-reads t c =
     let ts = type_in c.args.assignment.now.types in
     rw (chain_read ts c.args.spare c.args.atoms.now (known_of c.args.assignment.now) c.args.label.now c.in-Dot.first c.in-Dot.rest c.in-Dot.is (λ n. let h = c.if-is_empty.ensures.1 n in cc), ← c.get-else-is_empty.ensures, ← c.as_slice.ensures) c.read_chain.ensures.reads
+
+-- ---- what grew in a label
+
+pub read-returns-in-Number-clause-grown : goal.read-returns-in-Number-clause-grown
+read-returns-in-Number-clause-grown t c = grown_same _ _ _ _ refl refl
+
+pub read-returns-in-NegatedNumber-clause-grown : goal.read-returns-in-NegatedNumber-clause-grown
+read-returns-in-NegatedNumber-clause-grown t c = grown_same _ _ _ _ refl refl
+
+pub read-returns-in-Text-clause-grown : goal.read-returns-in-Text-clause-grown
+read-returns-in-Text-clause-grown t c = grown_same _ _ _ _ refl refl
+
+pub read-returns-in-Empty-clause-grown : goal.read-returns-in-Empty-clause-grown
+read-returns-in-Empty-clause-grown t c = grown_same _ _ _ _ refl refl
+
+pub read-returns-in-Variable-clause-grown : goal.read-returns-in-Variable-clause-grown
+read-returns-in-Variable-clause-grown t c = c.read_variable.ensures.grown
+
+pub read-returns-in-Join-clause-grown : goal.read-returns-in-Join-clause-grown
+read-returns-in-Join-clause-grown t c = c.read_joins.ensures.grown
+
+pub read-returns-then-is_empty-clause-grown : goal.read-returns-then-is_empty-clause-grown
+read-returns-then-is_empty-clause-grown t c = c.read.ensures.grown
+
+pub read-returns-else-is_empty-clause-grown : goal.read-returns-else-is_empty-clause-grown
+read-returns-else-is_empty-clause-grown t c = c.read_chain.ensures.grown
