@@ -1,4 +1,4 @@
-use Rattle.std.proofs.Common.{rules, ◌≡◌, length, ◌+◌, ◌≤◌, [], List, Some, refl, sym, ap, subst, ◌∙◌}
+use Rattle.std.proofs.Common.{rules, ◌≡◌, length, ◌+◌, ◌≤◌, [], List, Some, refl, sym, ap, subst, ◌∙◌, fold}
 use Rattle.gp_syntax.specs.declared.kinds.VariableType.{VariableType}
 use Rattle.gp_syntax.specs.Simple.{StandsIn}
 use Rattle.gp_syntax.specs.Tree.{label_of}
@@ -6,7 +6,7 @@ use Rattle.gp_syntax.specs.Typing.{type_in}
 use Rattle.gp_syntax.proofs.Trees.{label_of-Number, label_of-NegatedNumber, label_of-Empty, label_of-Text, label_of-Variable, label_of-Dot, label_of-Join}
 use Rattle.gp_unify.specs.Extension.{AreKnown, known_of}
 use Rattle.gp_unify.specs.Unify.{rest, read}
-use Rattle.gp_unify.specs.inside.Reading.{Refuses, size, sizes}
+use Rattle.gp_unify.specs.inside.Reading.{Refuses, size, sizes, join_step}
 use Rattle.gp_unify.proofs.Trails.{grown_on, grown_same}
 use Rattle.gp_unify.proofs.Chains.{begins_read, value_read, one_dotted, chain_read, size-Join, size-Dot, size_at, known_dots, known_joins, read_joins_is, part_read, part_refused, first_refused, parts_read, refused}
 use Rattle.gp_unify.proofs.label.+label.Goals as goal
@@ -155,3 +155,14 @@ read-returns-then-is_empty-clause-grown t c = c.read.ensures.grown
 
 pub read-returns-else-is_empty-clause-grown : goal.read-returns-else-is_empty-clause-grown
 read-returns-else-is_empty-clause-grown t c = c.read_chain.ensures.grown
+
+-- ---- the beginning and the end of a chain
+
+pub read_joins-parts-init : goal.read_joins-parts-init
+read_joins-parts-init t c = record {
+  on = ap (λ z. fold (join_step (type_in c.args.assignment.now.types) c.args.spare) z c.args.rest.now) (sym c.in_ok-left.ensures.reads);
+  grown = c.in_ok-left.ensures.grown;
+}
+
+pub read_joins-returns-clause-grown : goal.read_joins-returns-clause-grown
+read_joins-returns-clause-grown t c = c.parts.invariant.grown
