@@ -250,9 +250,9 @@ impl PairIndex {
     pub(crate) fn copy(&self, alloc: Global) -> Result<PairIndex, NoMemory>
         ensures { IfOk result (λ x. (x.buckets.items ≡ self.now.buckets.items) × (x.pairs.items ≡ self.now.pairs.items)) }
     {
-        let mut copied = PairIndex::new(alloc);
-        copied.buckets.extend_from_slice(&self.buckets)?;
-        copied.pairs.extend_from_slice(&self.pairs)?;
-        Ok(copied)
+        Ok(PairIndex {
+            buckets: Vec::from_slice(alloc, &self.buckets)?,
+            pairs: Vec::from_slice(alloc, &self.pairs)?,
+        })
     }
 }

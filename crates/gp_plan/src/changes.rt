@@ -4,23 +4,11 @@ use gp_syntax::{Expr, LeftNode, RightNode, RuleParts, SimpleLabel};
 
 // Whether an expression is the same numeral, string, variable or `empty` as a label.
 fn is_same_part(left: &SimpleLabel, right: &Expr<u32>) -> bool {
-    match left {
-        SimpleLabel::Number(own) => match right {
-            Expr::Number(other) => own == other,
-            _ => false,
-        },
-        SimpleLabel::Text(own) => match right {
-            Expr::Text(other) => own.same(other),
-            _ => false,
-        },
-        SimpleLabel::Variable(own) => match right {
-            Expr::Variable(other) => own == other,
-            _ => false,
-        },
-        SimpleLabel::Empty => match right {
-            Expr::Empty => true,
-            _ => false,
-        },
+    match (left, right) {
+        (SimpleLabel::Number(own), Expr::Number(other)) => own == other,
+        (SimpleLabel::Text(own), Expr::Text(other)) => own.same(other),
+        (SimpleLabel::Variable(own), Expr::Variable(other)) => own == other,
+        (SimpleLabel::Empty, Expr::Empty) => true,
         _ => false,
     }
 }
@@ -40,21 +28,12 @@ fn are_same_parts(left: &[SimpleLabel], right: &[Expr<u32>]) -> bool {
 
 // Whether an expression is written as a label is. What is not seen at a glance is taken for another.
 fn is_same_label(left: &SimpleLabel, right: &Expr<u32>) -> bool {
-    match left {
-        SimpleLabel::Dot(first, rest) => match right {
-            Expr::Dot(other, others) => {
-                is_same_part(first.get(), other.get())
-                    && are_same_parts(rest.as_slice(), others.as_slice())
-            }
-            _ => false,
-        },
-        SimpleLabel::Join(first, rest) => match right {
-            Expr::Join(other, others) => {
-                is_same_part(first.get(), other.get())
-                    && are_same_parts(rest.as_slice(), others.as_slice())
-            }
-            _ => false,
-        },
+    match (left, right) {
+        (SimpleLabel::Dot(first, rest), Expr::Dot(other, others))
+        | (SimpleLabel::Join(first, rest), Expr::Join(other, others)) => {
+            is_same_part(first.get(), other.get())
+                && are_same_parts(rest.as_slice(), others.as_slice())
+        }
         _ => is_same_part(left, right),
     }
 }
@@ -66,11 +45,9 @@ fn is_changed(left: &LeftNode, right: &RightNode) -> bool {
 // The left place of a right node that is written otherwise than there.
 fn changed_place(parts: &RuleParts, right: &RightNode) -> Option<u32> {
     let place = right.origin?;
-    let left = parts.left_nodes.as_slice().get(place as usize)?;
-    if is_changed(left, right) {
-        Some(place)
-    } else {
-        None
+    match parts.left_nodes.as_slice().get(place as usize) {
+        Some(left) if is_changed(left, right) => Some(place),
+        _ => None,
     }
 }
 

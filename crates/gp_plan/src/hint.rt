@@ -2,14 +2,14 @@
 
 /// Where a search begins: with the candidates from the number `start` on, of which the second that it tries is the node
 /// `changed`, where one is told. It decides the order of the candidates alone: each number is as good as another.
-#[derive(Clone, Copy, Debug)]
+#[derive(Clone, Copy)]
 pub struct Hint {
     pub start: u64,
     pub changed: Option<u64>,
 }
 
 /// The places of left nodes whose images tell where the search after a step begins.
-#[derive(Clone, Copy, Debug)]
+#[derive(Clone, Copy)]
 pub(crate) struct Watched {
     /// The node at which the plan begins, where it is any node of the host.
     pub(crate) first: Option<u32>,

@@ -21,3 +21,4 @@ pub mod CheckedLabels
 pub mod CheckedNames
 pub mod CheckedRules
 pub mod Crossing
+pub mod Keeping

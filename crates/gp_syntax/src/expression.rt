@@ -10,14 +10,14 @@ use gp_values::Chars;
 use sqlite_items::{Boxed, Items};
 
 /// The signs of a sum.
-#[derive(Clone, Copy, PartialEq, Eq)]
+#[derive(Clone, Copy)]
 pub enum SumSign {
     Plus,
     Minus,
 }
 
 /// The signs of a product.
-#[derive(Clone, Copy, PartialEq, Eq)]
+#[derive(Clone, Copy)]
 pub enum ProductSign {
     Times,
     Over,

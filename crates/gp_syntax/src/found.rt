@@ -13,7 +13,7 @@ pub const INLINE_NODES: usize = 4;
 pub const INLINE_EDGES: usize = 4;
 
 /// The image of a left edge: its number, and whether it was matched reversed.
-#[derive(Clone, Copy, Default, PartialEq, Eq)]
+#[derive(Clone, Copy, Default)]
 pub struct EdgeImage {
     pub number: u64,
     pub reversed: bool,

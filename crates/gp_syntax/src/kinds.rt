@@ -38,7 +38,7 @@ pub enum NumberKind {
 }
 
 /// The comparisons of conditions: the first two compare lists, the others integers.
-#[derive(Clone, Copy, PartialEq, Eq)]
+#[derive(Clone, Copy)]
 pub enum Comparison {
     Equal,
     NotEqual,

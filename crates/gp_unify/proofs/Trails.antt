@@ -101,6 +101,13 @@ module _ (a : PartialAssignment) where
   pub back_trail : (b : PartialAssignment) (s t : List ℕ) → Grown a b s t → take (length s) t ≡ s
   back_trail b s t g = ap (λ z. take (length s) z) g.trail ∙ take-append-le (length s) s g.added (omega arith) ∙ take_all (length s) s (omega arith)
 
+  -- the same, where so many were counted before
+  pub taken_back : (b c : PartialAssignment) (s t u : List ℕ) (count : ℕ) → count ≡ length s → Grown a b s t → c ≡ cleared (drop count t) b → u ≡ take count t → (c ≡ a) × (u ≡ s)
+  taken_back b c s t u count n g e f = (
+    e ∙ ap (λ k. cleared (drop k t) b) n ∙ back_to b s t g,
+    f ∙ ap (λ k. take k t) n ∙ back_trail b s t g,
+  )
+
 -- ---- taking back, one by one
 
 pub record Takes (count : ℕ) (from : List ℕ) (a : PartialAssignment) (trail : List ℕ) (b : PartialAssignment) : Type 0 where

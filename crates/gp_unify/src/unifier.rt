@@ -17,7 +17,7 @@ use gp_values::List;
 use std::alloc::Global;
 
 /// The label has the value by an extension of the assignment, it has it by none, or memory was refused.
-#[derive(Clone, Copy, PartialEq, Eq)]
+#[derive(Clone, Copy)]
 pub enum Unified {
     Yes,
     No,

@@ -5,7 +5,9 @@ use Rattle.std.specs.Option.{option_map_or}
 use Rattle.std.specs.Ordering.{nat_cmp}
 use Rattle.std.specs.Cmp.{nat_cmp_total, unsigned_tied}
 use Rattle.std.specs.FinMap.{FinMap, get, insert, remove, gets, get-empty, same_map, nat_cmp-IsAntisymmetric}
+use Rattle.std.proofs.lemmas.Bool.{cases_eq}
 use Rattle.std.proofs.lemmas.Grind.{common_steps}
+use Rattle.std.proofs.lemmas.Option.{none-some}
 use Rattle.gp_values.specs.declared.atom.Atom.{Atom}
 use Rattle.gp_values.specs.declared.marks.EdgeMark.{EdgeMark}
 use Rattle.gp_values.specs.Atoms.{AreAtoms}
@@ -30,13 +32,25 @@ get-insert_cases m k q v = grind (gets, arith, common_steps, unsigned_tied q k)
 
 -- where there is an entry before, there is one after, and nothing else is new
 pub IsSome-insert : {X : Type 0} (m : FinMap nat_cmp X) (k q : ℕ) (v : X) → IsSome (get m q) → IsSome (get (insert m k v) q)
-IsSome-insert m k q v h = grind (gets, arith, common_steps, unsigned_tied q k)
+IsSome-insert m k q v h =
+    elim (get-insert_cases m k q v) [
+      | inl p ↦ subst IsSome (sym p.1) refl
+      | inr p ↦ subst IsSome (sym p.1) h
+    ]
 
 pub IsSome-inserted : {X : Type 0} (m : FinMap nat_cmp X) (k q : ℕ) (v : X) → IsSome (get (insert m k v) q) → (q ≡ k) ⊎ IsSome (get m q)
-IsSome-inserted m k q v h = grind (gets, arith, common_steps, unsigned_tied q k)
+IsSome-inserted m k q v h =
+    elim (get-insert_cases m k q v) [
+      | inl p ↦ inl p.0
+      | inr p ↦ inr (subst IsSome p.1 h)
+    ]
 
 pub get-removed : {X : Type 0} (m : FinMap nat_cmp X) (k q : ℕ) (v : X) → get (remove m k) q ≡ Some v → get m q ≡ Some v
-get-removed m k q v h = grind (gets, arith, common_steps, unsigned_tied q k)
+get-removed m k q v h =
+    elim (cases_eq q k) [
+      | inl e ↦ absurd (none-some v (sym (get-remove_here m k) ∙ subst (λ j. get (remove m k) j ≡ Some v) e h))
+      | inr d ↦ sym (get-remove_apart m k q d) ∙ h
+    ]
 
 pub IsSome-removed : {X : Type 0} (m : FinMap nat_cmp X) (k q : ℕ) → IsSome (get (remove m k) q) → IsSome (get m q)
 IsSome-removed m k q h = grind (gets, arith, common_steps, unsigned_tied q k)

@@ -3,3 +3,4 @@ pub mod Edits
 pub mod Order
 pub mod Labels
 pub mod Keys
+pub mod Copies

@@ -1,7 +1,7 @@
-//! The marks of nodes and edges. They are ordered as they are listed.
+//! The marks of nodes and edges. Those of edges are ordered as they are listed.
 
 /// The mark of a node of a host graph (Bak 2015, "Marks").
-#[derive(Clone, Copy, PartialEq, Eq, PartialOrd, Ord)]
+#[derive(Clone, Copy, PartialEq, Eq)]
 pub enum NodeMark {
     None,
     Red,

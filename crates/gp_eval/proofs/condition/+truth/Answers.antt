@@ -1,4 +1,4 @@
-use Rattle.std.proofs.Common.{rules, ◌≡◌, ℕ, ◌+◌, ◌≤◌, Bool, true, false, not, if◌then◌else◌, length, drop, refl, sym, ap, subst, ◌∙◌}
+use Rattle.std.proofs.Common.{rules, ◌≡◌, ℕ, ◌+◌, ◌≤◌, Bool, true, false, not, if◌then◌else◌, length, drop, fold, refl, sym, ap, subst, ◌∙◌}
 use Rattle.gp_values.specs.declared.marks.EdgeMark.{EdgeMark}
 use Rattle.gp_syntax.specs.Tree.{expression_of, condition_of, pattern_of}
 use Rattle.gp_syntax.specs.Truth.{truth_of, compared, has_edge_with}
@@ -6,10 +6,10 @@ use Rattle.gp_syntax.specs.Value.{Value, ◌>>=◌, value_of, is_of, image_at}
 use Rattle.gp_syntax.specs.WellFormed.{IsConditionWithin}
 use Rattle.gp_syntax.proofs.Trees.{condition_of-HasType, condition_of-HasEdge, condition_of-HasEdgeWith, condition_of-Compared, condition_of-Not, condition_of-And, condition_of-Or}
 use Rattle.gp_eval.specs.Answer.{setting}
-use Rattle.gp_eval.specs.inside.Chains.{Lacks}
+use Rattle.gp_eval.specs.inside.Chains.{Lacks, and_step, or_step}
 use Rattle.gp_eval.specs.inside.Size.{condition_size, condition_sizes}
 use Rattle.gp_eval.proofs.Chains.{err_given, bind_lacks}
-use Rattle.gp_eval.proofs.Conditions.{Tree, ands_are, ors_are, within_ands, within_ors, condition_size-Not, condition_size-And, condition_size-Or, condition_size_at, part_lacks, first_part_lacks, decided, second_lacks, one_tested, two_tested}
+use Rattle.gp_eval.proofs.Conditions.{Tree, ands_are, ors_are, within_ands, within_ors, condition_size-Not, condition_size-And, condition_size-Or, condition_size_at, part_on, part_lacks, parts_end, first_part_lacks, decided, second_lacks, one_tested, two_tested}
 use Rattle.gp_eval.proofs.condition.+truth.Goals as goal
 
 pub all_true-returns-in_err-holds : goal.all_true-returns-in_err-holds
@@ -195,3 +195,39 @@ pub truth-returns-in_ok-truth-in-Not : goal.truth-returns-in_ok-truth-in-Not
 truth-returns-in_ok-truth-in-Not t c =
     let s = setting c.args.assignment.now c.args.nodes.now c.args.graph.now.graph in
     rw (c.in-Not.is, condition_of-Not {R = ℕ} (pattern_of {M = EdgeMark}) c.in-Not.part, ← c.get.ensures) (one_tested not _ c.in_ok-truth-in-Not.field-0 _ c.in_ok-truth-in-Not.ensures refl)
+
+-- ---- chains, part by part
+
+pub all_true-parts-init : goal.all_true-parts-init
+all_true-parts-init t c =
+    let s = setting c.args.assignment.now c.args.nodes.now c.args.graph.now.graph in
+    ap (λ z. fold (and_step s) z c.args.rest.now) (sym c.in_ok-holds.ensures)
+
+pub all_true-parts-preserved : goal.all_true-parts-preserved
+all_true-parts-preserved t c =
+    let s = setting c.args.assignment.now c.args.nodes.now c.args.graph.now.graph in
+    let x = c.part-item.result in
+    let f = λ (b : Bool) (x : Tree). if b then truth_of (condition_of pattern_of x) s else Value false in
+    part_on f c.parts.holds c.in_ok-holds-2.holds c.parts.part-index x c.args.rest.now _ c.parts-test.true c.part-item.is (subst (λ b. f b x ≡ Value c.in_ok-holds-2.holds) (sym c.if-not-holds.false) c.in_ok-holds-2.ensures) c.parts.invariant
+
+pub all_true-returns : goal.all_true-returns
+all_true-returns t c =
+    let s = setting c.args.assignment.now c.args.nodes.now c.args.graph.now.graph in
+    parts_end (λ (b : Bool) (x : Tree). if b then truth_of (condition_of pattern_of x) s else Value false) (Value c.parts.holds) _ c.parts.part-index c.args.rest.now c.parts-test.false c.parts.invariant
+
+pub some_true-parts-init : goal.some_true-parts-init
+some_true-parts-init t c =
+    let s = setting c.args.assignment.now c.args.nodes.now c.args.graph.now.graph in
+    ap (λ z. fold (or_step s) z c.args.rest.now) (sym c.in_ok-holds.ensures)
+
+pub some_true-parts-preserved : goal.some_true-parts-preserved
+some_true-parts-preserved t c =
+    let s = setting c.args.assignment.now c.args.nodes.now c.args.graph.now.graph in
+    let x = c.part-item.result in
+    let f = λ (b : Bool) (x : Tree). if b then Value true else truth_of (condition_of pattern_of x) s in
+    part_on f c.parts.holds c.in_ok-holds-2.holds c.parts.part-index x c.args.rest.now _ c.parts-test.true c.part-item.is (subst (λ b. f b x ≡ Value c.in_ok-holds-2.holds) (sym c.if-holds.false) c.in_ok-holds-2.ensures) c.parts.invariant
+
+pub some_true-returns : goal.some_true-returns
+some_true-returns t c =
+    let s = setting c.args.assignment.now c.args.nodes.now c.args.graph.now.graph in
+    parts_end (λ (b : Bool) (x : Tree). if b then Value true else truth_of (condition_of pattern_of x) s) (Value c.parts.holds) _ c.parts.part-index c.args.rest.now c.parts-test.false c.parts.invariant

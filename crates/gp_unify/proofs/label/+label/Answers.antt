@@ -1,4 +1,4 @@
-use Rattle.std.proofs.Common.{rules, ◌≡◌, length, ◌+◌, ◌≤◌, [], List, Some, refl, sym, ap, subst, ◌∙◌}
+use Rattle.std.proofs.Common.{rules, ◌≡◌, length, ◌+◌, ◌≤◌, [], List, Some, refl, sym, ap, subst, ◌∙◌, fold}
 use Rattle.gp_syntax.specs.declared.kinds.VariableType.{VariableType}
 use Rattle.gp_syntax.specs.Simple.{StandsIn}
 use Rattle.gp_syntax.specs.Tree.{label_of}
@@ -6,8 +6,8 @@ use Rattle.gp_syntax.specs.Typing.{type_in}
 use Rattle.gp_syntax.proofs.Trees.{label_of-Number, label_of-NegatedNumber, label_of-Empty, label_of-Text, label_of-Variable, label_of-Dot, label_of-Join}
 use Rattle.gp_unify.specs.Extension.{AreKnown, known_of}
 use Rattle.gp_unify.specs.Unify.{rest, read}
-use Rattle.gp_unify.specs.inside.Reading.{Refuses, size, sizes}
-use Rattle.gp_unify.proofs.Trails.{grown_on}
+use Rattle.gp_unify.specs.inside.Reading.{Refuses, size, sizes, join_step}
+use Rattle.gp_unify.proofs.Trails.{grown_on, grown_same}
 use Rattle.gp_unify.proofs.Chains.{begins_read, value_read, one_dotted, chain_read, size-Join, size-Dot, size_at, known_dots, known_joins, read_joins_is, part_read, part_refused, first_refused, parts_read, refused}
 use Rattle.gp_unify.proofs.label.+label.Goals as goal
 
@@ -129,3 +129,40 @@ pub read-returns-else-is_empty-clause-reads :
 read-returns-else-is_empty-clause-reads t c =
     let ts = type_in c.args.assignment.now.types in
     rw (chain_read ts c.args.spare c.args.atoms.now (known_of c.args.assignment.now) c.args.label.now c.in-Dot.first c.in-Dot.rest c.in-Dot.is (λ n. let h = c.if-is_empty.ensures.1 n in cc), ← c.get-else-is_empty.ensures, ← c.as_slice.ensures) c.read_chain.ensures.reads
+
+-- ---- what grew in a label
+
+pub read-returns-in-Number-clause-grown : goal.read-returns-in-Number-clause-grown
+read-returns-in-Number-clause-grown t c = grown_same _ _ _ _ refl refl
+
+pub read-returns-in-NegatedNumber-clause-grown : goal.read-returns-in-NegatedNumber-clause-grown
+read-returns-in-NegatedNumber-clause-grown t c = grown_same _ _ _ _ refl refl
+
+pub read-returns-in-Text-clause-grown : goal.read-returns-in-Text-clause-grown
+read-returns-in-Text-clause-grown t c = grown_same _ _ _ _ refl refl
+
+pub read-returns-in-Empty-clause-grown : goal.read-returns-in-Empty-clause-grown
+read-returns-in-Empty-clause-grown t c = grown_same _ _ _ _ refl refl
+
+pub read-returns-in-Variable-clause-grown : goal.read-returns-in-Variable-clause-grown
+read-returns-in-Variable-clause-grown t c = c.read_variable.ensures.grown
+
+pub read-returns-in-Join-clause-grown : goal.read-returns-in-Join-clause-grown
+read-returns-in-Join-clause-grown t c = c.read_joins.ensures.grown
+
+pub read-returns-then-is_empty-clause-grown : goal.read-returns-then-is_empty-clause-grown
+read-returns-then-is_empty-clause-grown t c = c.read.ensures.grown
+
+pub read-returns-else-is_empty-clause-grown : goal.read-returns-else-is_empty-clause-grown
+read-returns-else-is_empty-clause-grown t c = c.read_chain.ensures.grown
+
+-- ---- the beginning and the end of a chain
+
+pub read_joins-parts-init : goal.read_joins-parts-init
+read_joins-parts-init t c = record {
+  on = ap (λ z. fold (join_step (type_in c.args.assignment.now.types) c.args.spare) z c.args.rest.now) (sym c.in_ok-left.ensures.reads);
+  grown = c.in_ok-left.ensures.grown;
+}
+
+pub read_joins-returns-clause-grown : goal.read_joins-returns-clause-grown
+read_joins-returns-clause-grown t c = c.parts.invariant.grown

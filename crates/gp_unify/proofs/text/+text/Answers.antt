@@ -1,4 +1,4 @@
-use Rattle.std.proofs.Common.{rules, ◌≡◌, length, ◌+◌, ◌≤◌, [], List, Some, None, refl, sym, ap, subst, ◌∙◌}
+use Rattle.std.proofs.Common.{rules, ◌≡◌, length, ◌+◌, ◌≤◌, [], List, Some, None, refl, sym, ap, subst, ◌∙◌, fold}
 use Rattle.gp_syntax.specs.declared.kinds.VariableType.{VariableType}
 use Rattle.gp_syntax.specs.Simple.{StandsIn}
 use Rattle.gp_syntax.specs.Tree.{label_of}
@@ -6,8 +6,8 @@ use Rattle.gp_syntax.specs.Typing.{type_in}
 use Rattle.gp_syntax.proofs.Trees.{label_of-Text, label_of-Variable, label_of-Dot}
 use Rattle.gp_unify.specs.Extension.{AreKnown, known_of}
 use Rattle.gp_unify.specs.Unify.{rest, read_text}
-use Rattle.gp_unify.specs.inside.Reading.{Refuses, size, sizes}
-use Rattle.gp_unify.proofs.Trails.{grown_on}
+use Rattle.gp_unify.specs.inside.Reading.{Refuses, text_step, size, sizes}
+use Rattle.gp_unify.proofs.Trails.{grown_on, grown_same}
 use Rattle.gp_unify.proofs.Chains.{kept_to, kept_not, one_joined, more_joined, no_text, size-Dot, size-Join, size_at, known_dots, read_dots_is, part_read, part_refused, first_refused, parts_read, refused}
 use Rattle.gp_unify.proofs.text.+text.Goals as goal
 
@@ -117,3 +117,50 @@ pub read_text-returns-in-Number-clause-reads : goal.read_text-returns-in-Number-
 read_text-returns-in-Number-clause-reads t c =
     let ts = type_in c.args.assignment.now.types in
     no_text (λ e. read_text ts c.args.spare e c.args.codes.now (known_of c.args.assignment.now)) None (λ z. refl) (λ z. refl) refl c.args.part.now c.in-Number.is
+
+-- ---- what grew in a part, and that what is left is a text
+
+pub read_text-returns-in-Some-clause-grown : goal.read_text-returns-in-Some-clause-grown
+read_text-returns-in-Some-clause-grown t c = grown_same _ _ _ _ refl refl
+
+pub read_text-returns-in-None-clause-grown : goal.read_text-returns-in-None-clause-grown
+read_text-returns-in-None-clause-grown t c = grown_same _ _ _ _ refl refl
+
+pub read_text-returns-in-Number-clause-grown : goal.read_text-returns-in-Number-clause-grown
+read_text-returns-in-Number-clause-grown t c = grown_same _ _ _ _ refl refl
+
+pub read_text-returns-else-is_empty-clause-grown : goal.read_text-returns-else-is_empty-clause-grown
+read_text-returns-else-is_empty-clause-grown t c = grown_same _ _ _ _ refl refl
+
+pub read_text-returns-in-Variable-clause-grown : goal.read_text-returns-in-Variable-clause-grown
+read_text-returns-in-Variable-clause-grown t c = c.read_variable.ensures.grown
+
+pub read_text-returns-in-Variable-clause-text : goal.read_text-returns-in-Variable-clause-text
+read_text-returns-in-Variable-clause-text t c = c.read_variable.ensures.text
+
+pub read_text-returns-in-Dot-clause-grown : goal.read_text-returns-in-Dot-clause-grown
+read_text-returns-in-Dot-clause-grown t c = c.read_dots.ensures.grown
+
+pub read_text-returns-in-Dot-clause-text : goal.read_text-returns-in-Dot-clause-text
+read_text-returns-in-Dot-clause-text t c = c.read_dots.ensures.text
+
+pub read_text-returns-then-is_empty-clause-grown : goal.read_text-returns-then-is_empty-clause-grown
+read_text-returns-then-is_empty-clause-grown t c = c.read_text.ensures.grown
+
+pub read_text-returns-then-is_empty-clause-text : goal.read_text-returns-then-is_empty-clause-text
+read_text-returns-then-is_empty-clause-text t c = c.read_text.ensures.text
+
+-- ---- the beginning and the end of a chain
+
+pub read_dots-parts-init : goal.read_dots-parts-init
+read_dots-parts-init t c = record {
+  on = ap (λ z. fold (text_step (type_in c.args.assignment.now.types) c.args.spare) z c.args.rest.now) (sym c.in_ok-left.ensures.reads);
+  grown = c.in_ok-left.ensures.grown;
+  text = c.in_ok-left.ensures.text;
+}
+
+pub read_dots-returns-clause-grown : goal.read_dots-returns-clause-grown
+read_dots-returns-clause-grown t c = c.parts.invariant.grown
+
+pub read_dots-returns-clause-text : goal.read_dots-returns-clause-text
+read_dots-returns-clause-text t c = c.parts.invariant.text

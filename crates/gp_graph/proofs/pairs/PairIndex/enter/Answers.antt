@@ -1,7 +1,8 @@
-use Rattle.std.proofs.Common.{◌≡◌, ◌<◌, ◌≤◌, ◌+◌, length, sym, ap, subst, ◌∙◌, arith}
+use Rattle.std.proofs.Common.{◌≡◌, ◌<◌, ◌≤◌, ◌+◌, length, sym, ap, subst, ◌∙◌, arith, length-set}
 use Rattle.std.specs.Prelude.{vec_len}
 use Rattle.gp_graph.specs.inside.Pairs.{ring_at, prev_pair, FallsIn}
 use Rattle.gp_graph.specs.declared.pairs.Pair.{Pair}
+use Rattle.gp_graph.proofs.Links.{slot_within}
 use Rattle.gp_graph.proofs.Buckets.{some_buckets, falls, ring_is, Others, noted, last_within, first_within, may_enter, entered, ends_entered}
 use Rattle.gp_graph.proofs.pairs.PairIndex.enter.Goals as goal
 
@@ -16,8 +17,6 @@ join-requires-clause-from c =
     let n : c.len.result ≡ length bs = omega (arith, c.len.ensures) in
     let b = c.bucket-place.result in
     let within : b < length bs = omega (arith, n, c.bucket-place.ensures.within) in
-    let fall : FallsIn (length bs) es b c.args.e =
-    subst (λ m. FallsIn m es b c.args.e) n (subst (λ k. FallsIn c.len.result es k c.args.e) (sym c.bucket-place.ensures.is) (falls c.len.result es c.args.e c.ends_of-source.result.0 c.ends_of-source.result.1 c.ends_of-source.ensures.source c.ends_of-source.ensures.target)) in
     let ring = c.index-ring.result.now in
     let is : ring ≡ ring_at bs b = ring_is bs b ring ring within c.index-ring.ensures in
     let ps0 = c.note.new.pairs.items in
@@ -36,8 +35,6 @@ join-requires-2-clause-to c =
     let n : c.len.result ≡ length bs = omega (arith, c.len.ensures) in
     let b = c.bucket-place.result in
     let within : b < length bs = omega (arith, n, c.bucket-place.ensures.within) in
-    let fall : FallsIn (length bs) es b c.args.e =
-    subst (λ m. FallsIn m es b c.args.e) n (subst (λ k. FallsIn c.len.result es k c.args.e) (sym c.bucket-place.ensures.is) (falls c.len.result es c.args.e c.ends_of-source.result.0 c.ends_of-source.result.1 c.ends_of-source.ensures.source c.ends_of-source.ensures.target)) in
     let ring = c.index-ring.result.now in
     let is : ring ≡ ring_at bs b = ring_is bs b ring ring within c.index-ring.ensures in
     let ps0 = c.note.new.pairs.items in
@@ -56,8 +53,6 @@ overflow_add-count c =
     let n : c.len.result ≡ length bs = omega (arith, c.len.ensures) in
     let b = c.bucket-place.result in
     let within : b < length bs = omega (arith, n, c.bucket-place.ensures.within) in
-    let fall : FallsIn (length bs) es b c.args.e =
-    subst (λ m. FallsIn m es b c.args.e) n (subst (λ k. FallsIn c.len.result es k c.args.e) (sym c.bucket-place.ensures.is) (falls c.len.result es c.args.e c.ends_of-source.result.0 c.ends_of-source.result.1 c.ends_of-source.ensures.source c.ends_of-source.ensures.target)) in
     let ring = c.index-ring.result.now in
     let is : ring ≡ ring_at bs b = ring_is bs b ring ring within c.index-ring.ensures in
     let ps0 = c.note.new.pairs.items in
@@ -94,3 +89,27 @@ returns-clause-all c many_ =
             others.1.ends c.note.ensures.ends c.note.ensures.others c.join.ensures.same c.join-2.ensures.same;
       },
     )
+
+pub note-requires : goal.note-requires
+note-requires c =
+    let many = some_buckets (vec_len c.args.self.now.buckets) (sym c.is_empty.ensures ∙ c.if-is_empty.false) in
+    let some : 0 < length c.args.self.now.buckets.items = omega (arith, many) in
+    omega (arith, slot_within c.args.edges.now c.args.e c.requires.there, (c.requires.others some).0)
+
+pub join-requires-clause-to : goal.join-requires-clause-to
+join-requires-clause-to c =
+    let many = some_buckets (vec_len c.args.self.now.buckets) (sym c.is_empty.ensures ∙ c.if-is_empty.false) in
+    let some : 0 < length c.args.self.now.buckets.items = omega (arith, many) in
+    omega (arith, slot_within c.args.edges.now c.args.e c.requires.there, (c.requires.others some).0, c.note.ensures.size)
+
+pub join-requires-2-clause-from : goal.join-requires-2-clause-from
+join-requires-2-clause-from c =
+    let many = some_buckets (vec_len c.args.self.now.buckets) (sym c.is_empty.ensures ∙ c.if-is_empty.false) in
+    let some : 0 < length c.args.self.now.buckets.items = omega (arith, many) in
+    omega (arith, slot_within c.args.edges.now c.args.e c.requires.there, (c.requires.others some).0, c.note.ensures.size, c.join.ensures.size)
+
+pub returns-clause-buckets : goal.returns-clause-buckets
+returns-clause-buckets c = length-set _ _ _
+
+pub returns-clause-pairs : goal.returns-clause-pairs
+returns-clause-pairs c = c.join-2.ensures.size ∙ c.join.ensures.size ∙ c.note.ensures.size
