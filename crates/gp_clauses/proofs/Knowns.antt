@@ -1,6 +1,7 @@
 -- Unknown names in expressions and conditions, part by part.
 use Rattle.std.proofs.Common.{◌≡◌, List, [], ◌∷◌, ◌++◌, Option, Some, None, refl, sym, ap, ◌∙◌}
-use Rattle.std.specs.Option.{option_or}
+use Rattle.std.specs.Option.{option_or, option_copied}
+use Rattle.std.specs.Borrow.{Bor}
 use Rattle.gp_values.specs.Names.{Name, first_unknown}
 use Rattle.gp_syntax.specs.declared.expression.Expr.{Expr}
 use Rattle.gp_syntax.specs.declared.expression.Cond.{Cond}
@@ -27,6 +28,10 @@ or_none (Some x) = refl
 pub or_assoc : {A : Type 0} (a b c : Option A) → option_or (option_or a b) c ≡ option_or a (option_or b c)
 or_assoc None b c = refl
 or_assoc (Some x) b c = refl
+
+pub told_or : {A : Type 0} (r a b : Option (Bor A)) (p q : Option A) → r ≡ option_or a b → option_copied a ≡ p → option_copied b ≡ q → option_copied r ≡ option_or p q
+told_or r None b p q h f g = ap option_copied h ∙ g ∙ ap (λ x. option_or x q) f
+told_or r (Some x) b p q h f g = ap option_copied h ∙ ap (λ x. option_or x q) f
 
 references_applied : (k : Known) (op : Operation) (d e : Expression Name) → references k (applied op d e) ≡ references k d ++ references k e
 references_applied (known.Nodes s) operations.Plus d e = refl
