@@ -10,6 +10,7 @@ ghost use Rattle.gp_clauses.specs.ConditionShapes.{named_condition};
 ghost use Rattle.gp_clauses.specs.inside.Known.{unknown_in, unknown_in_condition};
 
 use crate::condition_shape::{ConditionShape, condition_shape_of};
+use crate::marks::node_named;
 use crate::shape::{Shape, shape_of};
 use gp_syntax::{Cond, Expr, GraphDecl, Name};
 use gp_values::NameTable;
@@ -25,12 +26,7 @@ pub enum Known<'k> {
 pub fn has_node(side: &GraphDecl, name: &Name) -> bool
     ensures { result ≡ has_name (node_names (side_of side.now)) name.now }
 {
-    for node in side.nodes.as_slice() {
-        if name.same(&node.name) {
-            return true;
-        }
-    }
-    false
+    node_named(side.nodes.as_slice(), name).is_some()
 }
 
 impl<'k> Known<'k> {
