@@ -1,6 +1,7 @@
 -- The first name that stood before, list by list.
-use Rattle.std.proofs.Common.{◌≡◌, ℕ, ◌+◌, Bool, true, false, if◌then◌else◌, List, [], ◌∷◌, ◌++◌, map, flat_map, drop, Option, Some, None, slice_get, refl, sym, ap, ◌∙◌, append_assoc}
-use Rattle.std.specs.Option.{option_or}
+use Rattle.std.proofs.Common.{◌≡◌, ℕ, ◌+◌, Bool, true, false, not, if◌then◌else◌, List, [], ◌∷◌, ◌++◌, map, flat_map, drop, Option, Some, None, slice_get, Result, Ok, Err, IfOk, refl, sym, ap, subst, ◌∙◌, append_assoc}
+use Rattle.std.specs.Option.{option_or, option_copied}
+use Rattle.std.specs.Borrow.{Bor}
 use Rattle.gp_values.specs.Names.{Name, has_name, first_doubled, first_doubled_behind}
 use Rattle.gp_syntax.specs.declared.tree.VariableGroup.{VariableGroup}
 use Rattle.gp_syntax.specs.declared.tree.RuleDecl.{RuleDecl}
@@ -9,7 +10,9 @@ use Rattle.gp_syntax.specs.declared.tree.EdgeDecl.{EdgeDecl}
 use Rattle.gp_syntax.specs.Declaration.{DeclaredNode, DeclaredEdge, DeclaredVariable, Declaration, node_names, edge_names}
 use Rattle.gp_syntax.specs.Fault.{variable_names, twice_declared}
 use Rattle.gp_syntax.specs.Tree.{node_of, edge_of, variables_of, declaration_of}
-use Rattle.gp_clauses.specs.inside.Names.{group_names}
+use Rattle.gp_memory.specs.declared.refusal.NoMemory.{NoMemory}
+use Rattle.gp_clauses.specs.inside.Names.{ToldBehind, group_names}
+use Rattle.gp_clauses.proofs.Knowns.{or_none, or_assoc}
 use Rattle.gp_clauses.proofs.Walks.{drop_item}
 
 pub none_before : (seen xs ys : List Name) → first_doubled_behind seen xs ≡ None → first_doubled_behind seen (xs ++ ys) ≡ first_doubled_behind (seen ++ xs) ys
@@ -33,6 +36,14 @@ some_before seen (x ∷ xs) ys n h = go (has_name seen x) h (some_before (seen +
         (if b then Some x else first_doubled_behind (seen ++ x ∷ []) (xs ++ ys)) ≡ Some n
     go true h rest = h
     go false h rest = rest h
+
+-- a name that was put in, since it is new
+pub new_name : (seen new : List Name) (n : Name) (added : Bool) → added ≡ not (has_name seen n) → added ≡ true → new ≡ (if has_name seen n then seen else seen ++ n ∷ []) → (first_doubled_behind seen (n ∷ []) ≡ None) × (new ≡ seen ++ n ∷ [])
+new_name seen new n added is h after = go (has_name seen n) (sym h ∙ is) after
+  where
+    go : (b : Bool) → true ≡ not b → new ≡ (if b then seen else seen ++ n ∷ []) → ((if b then Some n else None) ≡ None) × (new ≡ seen ++ n ∷ [])
+    go true e after = absurd cc
+    go false e after = (refl, after)
 
 -- an item whose name did not stand before
 pub seen_on : {A : Type 0} (f : A → Name) (xs : List A) (k : ℕ) (x : A) (seen new : List Name) → slice_get xs k ≡ Some x → first_doubled_behind seen (f x ∷ []) ≡ None → new ≡ seen ++ f x ∷ [] →
@@ -83,14 +94,16 @@ names_of_edges : (es : List EdgeDecl) → map (λ (e : EdgeDecl). e.name) es ≡
 names_of_edges [] = refl
 names_of_edges (e ∷ es) = ap (λ l. e.name ∷ l) (names_of_edges es)
 
-told_in_turn : {A : Type 0} (a b c d e f : Option A) → option_or (option_or (option_or (option_or (option_or a b) c) d) e) f ≡ option_or a (option_or b (option_or c (option_or d (option_or e (option_or f None)))))
-told_in_turn (Some x) b c d e f = refl
-told_in_turn None (Some x) c d e f = refl
-told_in_turn None None (Some x) d e f = refl
-told_in_turn None None None (Some x) e f = refl
-told_in_turn None None None None (Some x) f = refl
-told_in_turn None None None None None (Some x) = refl
-told_in_turn None None None None None None = refl
+abbrev Told : Type 0
+Told = Result (Option (Bor Name)) NoMemory
+
+behind : (b r : Told) (before more : Option Name) → IfOk b (λ n. option_copied n ≡ before) → IfOk r (λ n. ToldBehind b more (option_copied n)) → IfOk r (λ n. option_copied n ≡ option_or before more)
+behind b (Err e) before more is next = tt
+behind (Ok n) (Ok m) before more is next = next ∙ ap (λ x. option_or x more) is
+behind (Err e) (Ok m) before more is next = absurd next
+
+in_turn : {A : Type 0} (a b c d e f : Option A) → option_or (option_or (option_or (option_or (option_or a b) c) d) e) f ≡ option_or a (option_or b (option_or c (option_or d (option_or e (option_or f None)))))
+in_turn a b c d e f = or_assoc (option_or (option_or (option_or a b) c) d) e f ∙ or_assoc (option_or (option_or a b) c) d (option_or e f) ∙ or_assoc (option_or a b) c (option_or d (option_or e f)) ∙ or_assoc a b (option_or c (option_or d (option_or e f))) ∙ ap (λ x. option_or a (option_or b (option_or c (option_or d (option_or e x))))) (sym (or_none f))
 
 -- kind by kind
 module _ (r : RuleDecl) where
@@ -103,8 +116,9 @@ module _ (r : RuleDecl) where
   abbrev edges_doubled : List EdgeDecl → Option Name
   edges_doubled es = first_doubled (map (λ (e : EdgeDecl). e.name) es)
 
-  pub doubled_in_turn : (o p q s t : Option Name) → o ≡ first_doubled (variable_names d) → p ≡ option_or o (nodes_doubled r.left.nodes) → q ≡ option_or p (edges_doubled r.left.edges) → s ≡ option_or q (nodes_doubled r.right.nodes) → t ≡ option_or s (edges_doubled r.right.edges) →
-      option_or t (first_doubled (map (λ n. n) r.interface)) ≡ twice_declared d
-  doubled_in_turn o p q s t is-o is-p is-q is-s is-t =
-      rw (is-t, is-s, is-q, is-p, is-o, names_of_nodes r.left.nodes, names_of_edges r.left.edges, names_of_nodes r.right.nodes, names_of_edges r.right.edges, same_names r.interface)
-      (told_in_turn (first_doubled (variable_names d)) (first_doubled (node_names d.left)) (first_doubled (edge_names d.left)) (first_doubled (node_names d.right)) (first_doubled (edge_names d.right)) (first_doubled d.interface))
+  pub doubled_in_turn : (o p q s t u : Told) → IfOk o (λ n. option_copied n ≡ first_doubled (variable_names d)) → IfOk p (λ n. ToldBehind o (nodes_doubled r.left.nodes) (option_copied n)) → IfOk q (λ n. ToldBehind p (edges_doubled r.left.edges) (option_copied n)) →
+      IfOk s (λ n. ToldBehind q (nodes_doubled r.right.nodes) (option_copied n)) → IfOk t (λ n. ToldBehind s (edges_doubled r.right.edges) (option_copied n)) → IfOk u (λ n. ToldBehind t (first_doubled (map (λ n. n) r.interface)) (option_copied n)) → IfOk u (λ n. option_copied n ≡ twice_declared d)
+  doubled_in_turn o p q s t u is-o is-p is-q is-s is-t is-u =
+      subst (λ x. IfOk u (λ n. option_copied n ≡ x))
+      (rw (names_of_nodes r.left.nodes, names_of_edges r.left.edges, names_of_nodes r.right.nodes, names_of_edges r.right.edges, same_names r.interface) (in_turn (first_doubled (variable_names d)) (first_doubled (node_names d.left)) (first_doubled (edge_names d.left)) (first_doubled (node_names d.right)) (first_doubled (edge_names d.right)) (first_doubled d.interface)))
+      (behind t u _ _ (behind s t _ _ (behind q s _ _ (behind p q _ _ (behind o p _ _ is-o is-p) is-q) is-s) is-t) is-u)

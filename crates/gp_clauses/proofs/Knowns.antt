@@ -1,14 +1,17 @@
 -- Unknown names in expressions and conditions, part by part.
-use Rattle.std.proofs.Common.{◌≡◌, List, [], ◌∷◌, ◌++◌, Option, Some, None, refl, sym, ap, ◌∙◌}
-use Rattle.std.specs.Option.{option_or}
-use Rattle.gp_values.specs.Names.{Name, first_unknown}
+use Rattle.std.proofs.Common.{◌≡◌, Bool, true, false, ◌||◌, if◌then◌else◌, List, [], ◌∷◌, ◌++◌, map, Option, Some, None, refl, sym, ap, ◌∙◌}
+use Rattle.std.specs.Prelude.{is_some, option_map}
+use Rattle.std.specs.Option.{option_or, option_copied}
+use Rattle.std.specs.Borrow.{Bor}
+use Rattle.gp_values.specs.Names.{Name, same_name, has_name, first_unknown}
 use Rattle.gp_syntax.specs.declared.expression.Expr.{Expr}
 use Rattle.gp_syntax.specs.declared.expression.Cond.{Cond}
 use Rattle.gp_syntax.specs.declared.kinds.Comparison.{Comparison}
+use Rattle.gp_syntax.specs.declared.tree.NodeDecl.{NodeDecl}
 use Rattle.gp_syntax.specs.Expression.{Expression, Compared}
-use Rattle.gp_syntax.specs.Declaration.{variables_in, nodes_in}
-use Rattle.gp_syntax.specs.Fault.{first_told}
-use Rattle.gp_syntax.specs.Tree.{expression_of}
+use Rattle.gp_syntax.specs.Declaration.{DeclaredNode, variables_in, nodes_in}
+use Rattle.gp_syntax.specs.Fault.{first_told, node_named}
+use Rattle.gp_syntax.specs.Tree.{expression_of, node_of}
 use Rattle.gp_syntax.proofs.Told.{unknown_append}
 use Rattle.gp_clauses.specs.declared.shape.Operation.{Operation}
 use Rattle.gp_clauses.specs.declared.shape.Operation.TheVariants as operations
@@ -27,6 +30,25 @@ or_none (Some x) = refl
 pub or_assoc : {A : Type 0} (a b c : Option A) → option_or (option_or a b) c ≡ option_or a (option_or b c)
 or_assoc None b c = refl
 or_assoc (Some x) b c = refl
+
+pub told_or : {A : Type 0} (r a b : Option (Bor A)) (p q : Option A) → r ≡ option_or a b → option_copied a ≡ p → option_copied b ≡ q → option_copied r ≡ option_or p q
+told_or r None b p q h f g = ap option_copied h ∙ g ∙ ap (λ x. option_or x q) f
+told_or r (Some x) b p q h f g = ap option_copied h ∙ ap (λ x. option_or x q) f
+
+-- whether there is a node of a name
+named_there : (ns : List DeclaredNode) (n : Name) → is_some (node_named ns n) ≡ has_name (map (λ (p : DeclaredNode). p.name) ns) n
+named_there [] n = refl
+named_there (p ∷ ps) n = go (same_name n p.name) (named_there ps n)
+  where
+    go : (b : Bool) → is_some (node_named ps n) ≡ has_name (map (λ (p : DeclaredNode). p.name) ps) n → is_some (if b then Some p else node_named ps n) ≡ (b || has_name (map (λ (p : DeclaredNode). p.name) ps) n)
+    go true e = refl
+    go false e = e
+
+pub node_there : (o : Option (Bor NodeDecl)) (ns : List DeclaredNode) (n : Name) → option_map node_of (option_copied o) ≡ node_named ns n → is_some o ≡ has_name (map (λ (p : DeclaredNode). p.name) ns) n
+node_there None ns n h = ap is_some h ∙ named_there ns n
+node_there (Some p) ns n h = ap is_some h ∙ named_there ns n
+
+-- ---- chains
 
 references_applied : (k : Known) (op : Operation) (d e : Expression Name) → references k (applied op d e) ≡ references k d ++ references k e
 references_applied (known.Nodes s) operations.Plus d e = refl

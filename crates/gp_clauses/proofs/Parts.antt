@@ -86,3 +86,24 @@ module _ (p : Expression Name → Bool) (s : GraphDecl) where
 
   pub both_pass : list_all of_node s.nodes ≡ true → list_all of_edge s.edges ≡ true → true ≡ list_all p (labels (side_of s))
   both_pass g h = sym (all_labels p s ∙ ap (λ b. b && list_all of_edge s.edges) g ∙ h)
+
+-- ---- what is asked of the nodes and of the edges of a side
+
+module _ (p : DeclaredNode → Bool) (q : DeclaredEdge → Bool) (s : GraphDecl) where
+  abbrev at_node : NodeDecl → Bool
+  at_node n = p (node_of n)
+
+  abbrev at_edge : EdgeDecl → Bool
+  at_edge e = q (edge_of e)
+
+  in_side : (list_all p (map node_of s.nodes) && list_all q (map edge_of s.edges)) ≡ (list_all at_node s.nodes && list_all at_edge s.edges)
+  in_side = λ i. all_mapped p node_of s.nodes i && all_mapped q edge_of s.edges i
+
+  pub some_node_fails : list_all at_node s.nodes ≡ false → false ≡ (list_all p (map node_of s.nodes) && list_all q (map edge_of s.edges))
+  some_node_fails h = sym (in_side ∙ ap (λ b. b && list_all at_edge s.edges) h)
+
+  pub some_edge_fails : list_all at_node s.nodes ≡ true → list_all at_edge s.edges ≡ false → false ≡ (list_all p (map node_of s.nodes) && list_all q (map edge_of s.edges))
+  some_edge_fails g h = sym (in_side ∙ ap (λ b. b && list_all at_edge s.edges) g ∙ h)
+
+  pub none_fails : list_all at_node s.nodes ≡ true → list_all at_edge s.edges ≡ true → true ≡ (list_all p (map node_of s.nodes) && list_all q (map edge_of s.edges))
+  none_fails g h = sym (in_side ∙ ap (λ b. b && list_all at_edge s.edges) g ∙ h)

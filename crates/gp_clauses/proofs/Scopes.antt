@@ -9,7 +9,7 @@ use Rattle.gp_syntax.specs.declared.tree.GraphDecl.{GraphDecl}
 use Rattle.gp_syntax.specs.declared.tree.VariableGroup.{VariableGroup}
 use Rattle.gp_syntax.specs.Expression.{Expression}
 use Rattle.gp_syntax.specs.Declaration.{Declaration, DeclaredNode, DeclaredEdge, DeclaredVariable, variables_in, labels, left_variables}
-use Rattle.gp_syntax.specs.Fault.{first_told, unless, variable_names, twice_declared, variables_in_side, variables_in_condition, unbound}
+use Rattle.gp_syntax.specs.Fault.{first_told, unless, variable_names, twice_declared, variables_in_side, variables_in_condition, unbound, type_named, is_well_typed, is_well_typed_condition, bad_type}
 use Rattle.gp_syntax.specs.Tree.{expression_of, node_of, edge_of, side_of, variables_of}
 use Rattle.gp_syntax.proofs.Declarations.{same_name_told, has_append, once_head}
 use Rattle.gp_syntax.proofs.Told.{neither, told_append, told_map, unknown_told, unknown_flat}
@@ -17,6 +17,8 @@ use Rattle.gp_clauses.specs.declared.variables.Variables.{Variables}
 use Rattle.gp_clauses.specs.declared.scope.Scope.{Scope}
 use Rattle.gp_clauses.specs.Scope.{kept_variables, IsScope}
 use Rattle.gp_clauses.specs.inside.Tables.{with_names, no_variables, with_kept, with_group, is_kept}
+use Rattle.std.specs.List.{list_all}
+use Rattle.gp_clauses.proofs.Parts.{all_append}
 use Rattle.gp_clauses.proofs.Tables.{fold_flat, has_added, kept_only, once_all}
 
 abbrev Names : Type 0
@@ -40,12 +42,6 @@ module _ (known : Names) (s : GraphDecl) where
       ∙ (λ i. option_or
       ((told_map at_label (λ (n : DeclaredNode). n.label) (map node_of s.nodes) ∙ told_map (λ (n : DeclaredNode). at_label n.label) node_of s.nodes) i)
       ((told_map at_label (λ (e : DeclaredEdge). e.label) (map edge_of s.edges) ∙ told_map (λ (e : DeclaredEdge). at_label e.label) edge_of s.edges) i))
-
-  pub node_unknown : (n : Name) → first_told at_node s.nodes ≡ Some n → Some n ≡ first_unknown known (variables_in_side (side_of s))
-  node_unknown n h = sym (unknown_labels ∙ ap (λ o. option_or o (first_told at_edge s.edges)) h)
-
-  pub edge_unknown : (o : Option Name) → first_told at_node s.nodes ≡ None → first_told at_edge s.edges ≡ o → o ≡ first_unknown known (variables_in_side (side_of s))
-  edge_unknown o h k = sym (unknown_labels ∙ ap (λ o. option_or o (first_told at_edge s.edges)) h ∙ k)
 
 -- ---- names of left variables
 
@@ -156,10 +152,7 @@ left_are d gs v kept table h same once is used =
     ∙ kept_only kept (variables_in_side d.left) (λ n. is n ∙ ap (λ t. has_name t n) used ∙ has_added (variables_in_side d.left) n) no_variables d.variables
     ∙ once_all no_variables (left_variables d) (kept_once (variables_in_side d.left) d.variables [] [] (λ m q. q) (once_declared d once))
 
--- ---- two tests together
+-- ---- types
 
-pub and_then : (l t L T r : Bool) → l ≡ L → t ≡ T → l ≡ true → r ≡ t → not r ≡ not (L && T)
-and_then l t L T r a b h k = ap not (k ∙ b ∙ ap (λ x. x && T) (sym h ∙ a))
-
-pub and_else : (l L T r : Bool) → l ≡ L → l ≡ false → r ≡ false → not r ≡ not (L && T)
-and_else l L T r a h k = ap not (k ∙ ap (λ x. x && T) (sym h ∙ a))
+pub bad_types : (d : Declaration) (left right tests : Bool) → list_all (is_well_typed (type_named d)) (labels d.left) ≡ left → list_all (is_well_typed (type_named d)) (labels d.right) ≡ right → is_well_typed_condition (type_named d) d.condition ≡ tests → not ((left && right) && tests) ≡ bad_type d
+bad_types d left right tests l r t = sym (λ i. not ((all_append (is_well_typed (type_named d)) (labels d.left) (labels d.right) ∙ (λ j. l j && r j)) i && t i))

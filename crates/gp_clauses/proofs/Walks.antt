@@ -15,6 +15,10 @@ drop_suc (y ∷ xs) (suc k) x h = drop_suc xs k x h
 pub drop_item : {A : Type 0} (xs : List A) (k : ℕ) (x : A) → slice_get xs k ≡ Some x → drop k xs ≡ x ∷ drop (k + 1) xs
 drop_item xs k x h = drop_suc xs k x h ∙ rw add-one refl
 
+-- an item that what is asked of the list passes over
+pub passed : {A Y : Type 0} (f : List A → Y) (xs : List A) (k : ℕ) (x : A) (whole : Y) → slice_get xs k ≡ Some x → f (x ∷ drop (k + 1) xs) ≡ f (drop (k + 1) xs) → f (drop k xs) ≡ whole → f (drop (k + 1) xs) ≡ whole
+passed f xs k x whole h over same = sym over ∙ sym (ap f (drop_item xs k x h)) ∙ same
+
 -- one item more, in a fold
 pub fold_on : {A B : Type 0} (f : B → A → B) (xs : List A) (k : ℕ) (x : A) (a : B) → slice_get xs k ≡ Some x → fold f (f a x) (drop (k + 1) xs) ≡ fold f a (drop k xs)
 fold_on f xs k x a h = sym (ap (fold f a) (drop_item xs k x h))

@@ -1,4 +1,5 @@
 pub mod Known
 pub mod Labels
+pub mod Marks
 pub mod Names
 pub mod Tables

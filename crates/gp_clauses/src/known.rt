@@ -10,6 +10,7 @@ ghost use Rattle.gp_clauses.specs.ConditionShapes.{named_condition};
 ghost use Rattle.gp_clauses.specs.inside.Known.{unknown_in, unknown_in_condition};
 
 use crate::condition_shape::{ConditionShape, condition_shape_of};
+use crate::marks::node_named;
 use crate::shape::{Shape, shape_of};
 use gp_syntax::{Cond, Expr, GraphDecl, Name};
 use gp_values::NameTable;
@@ -25,12 +26,7 @@ pub enum Known<'k> {
 pub fn has_node(side: &GraphDecl, name: &Name) -> bool
     ensures { result ≡ has_name (node_names (side_of side.now)) name.now }
 {
-    for node in side.nodes.as_slice() {
-        if name.same(&node.name) {
-            return true;
-        }
-    }
-    false
+    node_named(side.nodes.as_slice(), name).is_some()
 }
 
 impl<'k> Known<'k> {
@@ -95,34 +91,7 @@ pub fn unknown_in<'a>(known: Known<'_>, e: &'a Expr<Name>) -> Option<&'a Name>
 fn unknown_end<'a>(known: Known<'_>, source: &'a Name, target: &'a Name) -> Option<&'a Name>
     ensures { option_copied result ≡ option_or (unknown_in known.entry (In_degree source.now)) (unknown_in known.entry (In_degree target.now)) }
 {
-    match known.unknown_node(source) {
-        Some(name) => Some(name),
-        None => known.unknown_node(target),
-    }
-}
-
-// The first name in two expressions.
-fn unknown_in_two<'a>(known: Known<'_>, d: &'a Expr<Name>, e: &'a Expr<Name>) -> Option<&'a Name>
-    ensures { option_copied result ≡ option_or (unknown_in known.entry (expression_of d.now)) (unknown_in known.entry (expression_of e.now)) }
-{
-    match unknown_in(known, d) {
-        Some(name) => Some(name),
-        None => unknown_in(known, e),
-    }
-}
-
-fn unknown_in_edge<'a>(
-    known: Known<'_>,
-    source: &'a Name,
-    target: &'a Name,
-    label: &'a Expr<Name>,
-) -> Option<&'a Name>
-    ensures { option_copied result ≡ option_or (option_or (unknown_in known.entry (In_degree source.now)) (unknown_in known.entry (In_degree target.now))) (unknown_in known.entry (expression_of label.now)) }
-{
-    match unknown_end(known, source, target) {
-        Some(name) => Some(name),
-        None => unknown_in(known, label),
-    }
+    known.unknown_node(source).or(known.unknown_node(target))
 }
 
 /// The first name in a condition that is asked for and not known.
@@ -136,9 +105,9 @@ pub fn unknown_in_condition<'a>(
         ConditionShape::HasType(_, e) => unknown_in(known, e),
         ConditionShape::HasEdge(source, target) => unknown_end(known, source, target),
         ConditionShape::HasEdgeWith(source, target, label, _) => {
-            unknown_in_edge(known, source, target, label)
+            unknown_end(known, source, target).or(unknown_in(known, label))
         }
-        ConditionShape::Compared(_, d, e) => unknown_in_two(known, d, e),
+        ConditionShape::Compared(_, d, e) => unknown_in(known, d).or(unknown_in(known, e)),
         ConditionShape::Not(part) => unknown_in_condition(known, part),
         ConditionShape::Chain(_, first, rest) => {
             if let Some(name) = unknown_in_condition(known, first) {

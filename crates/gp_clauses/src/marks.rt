@@ -9,6 +9,7 @@ ghost use Rattle.gp_syntax.specs.Declaration.{DeclaredNode, DeclaredEdge, edge_n
 ghost use Rattle.gp_syntax.specs.Fault.{is_any, is_node_mark, is_edge_mark, node_named, keeps_node_mark, keeps_edge_mark, marks_in_condition, has_marks, joins_the_same, keeps_direction, bad_mark, bad_bidi};
 ghost use Rattle.gp_syntax.specs.Tree.{node_of, edge_of, side_of, declaration_of, condition_or_true};
 ghost use Rattle.gp_clauses.specs.ConditionShapes.{named_condition};
+ghost use Rattle.gp_clauses.specs.inside.Marks.{keeps_marks};
 
 use crate::condition_shape::{ConditionShape, condition_shape_of};
 use gp_syntax::{Cond, EdgeDecl, GraphDecl, Name, NodeDecl, RuleDecl};
@@ -124,32 +125,20 @@ pub fn is_among(names: &[Name], name: &Name) -> bool
     false
 }
 
-fn nodes_have_marks(nodes: &[NodeDecl]) -> bool
-    ensures { result ≡ list_all (λ (n : DeclaredNode). is_node_mark n.mark) (map node_of nodes.now) }
+fn has_marks(side: &GraphDecl) -> bool
+    ensures { result ≡ has_marks (side_of side.now) }
 {
-    for node in nodes {
+    'nodes: for node in side.nodes.as_slice() {
         if !is_node_mark(&node.mark) {
             return false;
         }
     }
-    true
-}
-
-fn edges_have_marks(edges: &[EdgeDecl]) -> bool
-    ensures { result ≡ list_all (λ (e : DeclaredEdge). is_edge_mark e.mark) (map edge_of edges.now) }
-{
-    for edge in edges {
+    'edges: for edge in side.edges.as_slice() {
         if !is_edge_mark(&edge.mark) {
             return false;
         }
     }
     true
-}
-
-fn has_marks(side: &GraphDecl) -> bool
-    ensures { result ≡ has_marks (side_of side.now) }
-{
-    nodes_have_marks(side.nodes.as_slice()) && edges_have_marks(side.edges.as_slice())
 }
 
 /// Whether each mark in a condition is one of edges.
@@ -171,15 +160,6 @@ fn condition_has_marks(c: &Cond<Name, Option<Name>>) -> bool
             true
         }
         _ => true,
-    }
-}
-
-fn tests_have_marks(condition: &Option<Cond<Name, Option<Name>>>) -> bool
-    ensures { result ≡ list_all is_edge_mark (marks_in_condition (condition_or_true (λ m. m) condition.now)) }
-{
-    match condition {
-        Some(c) => condition_has_marks(c),
-        None => true,
     }
 }
 
@@ -210,21 +190,15 @@ fn keeps_edge_mark(rule: &RuleDecl, edge: &EdgeDecl) -> bool
     }
 }
 
-fn keeps_node_marks(rule: &RuleDecl, nodes: &[NodeDecl]) -> bool
-    ensures { result ≡ list_all (keeps_node_mark (declaration_of rule.now)) (map node_of nodes.now) }
+fn keeps_marks(rule: &RuleDecl) -> bool
+    ensures { result ≡ keeps_marks (declaration_of rule.now) }
 {
-    for node in nodes {
+    'nodes: for node in rule.right.nodes.as_slice() {
         if !keeps_node_mark(rule, node) {
             return false;
         }
     }
-    true
-}
-
-fn keeps_edge_marks(rule: &RuleDecl, edges: &[EdgeDecl]) -> bool
-    ensures { result ≡ list_all (keeps_edge_mark (declaration_of rule.now)) (map edge_of edges.now) }
-{
-    for edge in edges {
+    'edges: for edge in rule.right.edges.as_slice() {
         if !keeps_edge_mark(rule, edge) {
             return false;
         }
@@ -236,11 +210,13 @@ fn keeps_edge_marks(rule: &RuleDecl, edges: &[EdgeDecl]) -> bool
 pub fn bad_mark(rule: &RuleDecl) -> bool
     ensures { result ≡ bad_mark (declaration_of rule.now) }
 {
-    !(has_marks(&rule.left)
-        && has_marks(&rule.right)
-        && tests_have_marks(&rule.condition)
-        && keeps_node_marks(rule, rule.right.nodes.as_slice())
-        && keeps_edge_marks(rule, rule.right.edges.as_slice()))
+    if !(has_marks(&rule.left) && has_marks(&rule.right) && keeps_marks(rule)) {
+        return true;
+    }
+    match &rule.condition {
+        Some(c) => !condition_has_marks(c),
+        None => false,
+    }
 }
 
 /// Whether two edges join the same two names, in either order.

@@ -5,9 +5,10 @@ ghost use Rattle.std.specs.Option.{option_copied, option_or};
 ghost use Rattle.gp_values.specs.Names.{has_name, first_doubled, first_doubled_behind, first_unknown};
 ghost use Rattle.gp_syntax.specs.Declaration.{DeclaredVariable, node_names, edge_names};
 ghost use Rattle.gp_syntax.specs.Fault.{first_told, unless, is_large, too_large, variable_names, twice_declared, unknown_degree, unknown_at_node, unknown_at_edge, unknown_in_side, unknown_node, bad_interface};
-ghost use Rattle.gp_syntax.specs.Tree.{node_of, edge_of, side_of, variables_of, declaration_of, condition_or_true};
-ghost use Rattle.gp_clauses.specs.inside.Names.{Doubled, group_names};
-ghost use Rattle.gp_clauses.specs.inside.Known.{unknown_in_condition};
+ghost use Rattle.gp_syntax.specs.Tree.{node_of, edge_of, side_of, variables_of, declaration_of, condition_or_true, expression_of};
+ghost use Rattle.gp_syntax.specs.declared.tree.NodeDecl.{NodeDecl};
+ghost use Rattle.gp_clauses.specs.inside.Names.{Doubled, ToldBehind, group_names};
+ghost use Rattle.gp_clauses.specs.inside.Known.{unknown_in, unknown_in_condition};
 
 use crate::known::{Known, has_node, unknown_in, unknown_in_condition};
 use gp_memory::NoMemory;
@@ -62,21 +63,7 @@ impl Named for EdgeDecl {
     }
 }
 
-// Puts a name behind those that were seen, or gives it where it was seen.
-fn see<'a>(
-    alloc: Global,
-    seen: &mut NameTable,
-    name: &'a Name,
-) -> Result<Option<&'a Name>, NoMemory>
-    ensures { IfOk result (λ o. Doubled (option_copied o) seen.old seen.new (name.now ∷ [])) }
-{
-    if seen.add(alloc, name.as_bytes())? {
-        Ok(None)
-    } else {
-        Ok(Some(name))
-    }
-}
-
+// Puts names behind those that were seen, up to the first that was seen, and gives that one.
 fn see_all<'a, T: Named>(
     alloc: Global,
     seen: &mut NameTable,
@@ -85,8 +72,9 @@ fn see_all<'a, T: Named>(
     ensures { IfOk result (λ o. Doubled (option_copied o) seen.old seen.new (map T.name_of items.now)) }
 {
     for item in items {
-        if let Some(doubled) = see(alloc, seen, item.name())? {
-            return Ok(Some(doubled));
+        let name = item.name();
+        if !seen.add(alloc, name.as_bytes())? {
+            return Ok(Some(name));
         }
     }
     Ok(None)
@@ -100,8 +88,8 @@ fn see_group<'a>(
 ) -> Result<Option<&'a Name>, NoMemory>
     ensures { IfOk result (λ o. Doubled (option_copied o) seen.old seen.new (group_names group.now)) }
 {
-    if let Some(doubled) = see(alloc, seen, &group.first)? {
-        return Ok(Some(doubled));
+    if !seen.add(alloc, group.first.as_bytes())? {
+        return Ok(Some(&group.first));
     }
     see_all(alloc, seen, group.rest.as_slice())
 }
@@ -121,16 +109,19 @@ fn doubled_variable(alloc: Global, rule: &RuleDecl) -> Result<Option<&Name>, NoM
 // The name that was told before, or else the first of these that stood before among them.
 fn doubled_among<'a, T: Named>(
     alloc: Global,
-    before: Option<&'a Name>,
+    before: Result<Option<&'a Name>, NoMemory>,
     items: &'a [T],
 ) -> Result<Option<&'a Name>, NoMemory>
-    ensures { IfOk result (λ o. option_copied o ≡ option_or (option_copied before.entry) (first_doubled (map T.name_of items.now))) }
+    ensures { IfOk result (λ o. ToldBehind before.entry (first_doubled (map T.name_of items.now)) (option_copied o)) }
 {
-    if before.is_some() {
-        return Ok(before);
+    match before {
+        Ok(None) => {
+            let mut seen = NameTable::new(alloc);
+            see_all(alloc, &mut seen, items)
+        }
+        Ok(Some(name)) => Ok(Some(name)),
+        Err(refused) => Err(refused),
     }
-    let mut seen = NameTable::new(alloc);
-    see_all(alloc, &mut seen, items)
 }
 
 /// The first name of a variable, of a node or an edge of its side, or in the interface, that stood before among those of
@@ -138,19 +129,20 @@ fn doubled_among<'a, T: Named>(
 pub fn twice_declared(alloc: Global, rule: &RuleDecl) -> Result<Option<&Name>, NoMemory>
     ensures { IfOk result (λ o. option_copied o ≡ twice_declared (declaration_of rule.now)) }
 {
-    let doubled = doubled_variable(alloc, rule)?;
-    let doubled = doubled_among(alloc, doubled, rule.left.nodes.as_slice())?;
-    let doubled = doubled_among(alloc, doubled, rule.left.edges.as_slice())?;
-    let doubled = doubled_among(alloc, doubled, rule.right.nodes.as_slice())?;
-    let doubled = doubled_among(alloc, doubled, rule.right.edges.as_slice())?;
+    let doubled = doubled_variable(alloc, rule);
+    let doubled = doubled_among(alloc, doubled, rule.left.nodes.as_slice());
+    let doubled = doubled_among(alloc, doubled, rule.left.edges.as_slice());
+    let doubled = doubled_among(alloc, doubled, rule.right.nodes.as_slice());
+    let doubled = doubled_among(alloc, doubled, rule.right.edges.as_slice());
     doubled_among(alloc, doubled, rule.interface.as_slice())
 }
 
-fn unknown_at_nodes<'a>(rule: &RuleDecl, nodes: &'a [NodeDecl]) -> Option<&'a Name>
-    ensures { option_copied result ≡ first_told (unknown_at_node (declaration_of rule.now)) (map node_of nodes.now) }
+/// The first name in the labels of nodes that is asked for and not known.
+pub fn unknown_at_nodes<'a>(known: Known<'_>, nodes: &'a [NodeDecl]) -> Option<&'a Name>
+    ensures { option_copied result ≡ first_told (λ (n : NodeDecl). unknown_in known.entry (expression_of n.label)) nodes.now }
 {
     for node in nodes {
-        if let Some(name) = unknown_in(Known::Nodes(&rule.left), &node.label) {
+        if let Some(name) = unknown_in(known, &node.label) {
             return Some(name);
         }
     }
@@ -183,10 +175,9 @@ fn unknown_at_edges<'a>(rule: &RuleDecl, side: &'a GraphDecl) -> Option<&'a Name
 fn unknown_in_side<'a>(rule: &RuleDecl, side: &'a GraphDecl) -> Option<&'a Name>
     ensures { option_copied result ≡ unknown_in_side (declaration_of rule.now) (side_of side.now) }
 {
-    match unknown_at_nodes(rule, side.nodes.as_slice()) {
-        Some(name) => Some(name),
-        None => unknown_at_edges(rule, side),
-    }
+    unknown_at_nodes(Known::Nodes(&rule.left), side.nodes.as_slice()).or(unknown_at_edges(
+        rule, side,
+    ))
 }
 
 /// The first name in a condition, if there is one, that is asked for and not known.

@@ -1,21 +1,20 @@
 //! The variables of a rule that its labels and its condition may name, and the clauses that ask for them.
 
-ghost use Rattle.std.specs.Prelude.{◌≡◌, ◌++◌, None, IfOk};
+ghost use Rattle.std.specs.Prelude.{◌≡◌, None, IfOk};
 ghost use Rattle.std.specs.Option.{option_copied};
-ghost use Rattle.gp_syntax.specs.Declaration.{labels};
-ghost use Rattle.std.specs.List.{list_all};
-ghost use Rattle.gp_syntax.specs.Fault.{twice_declared, variables_in_side, unbound, is_well_typed, is_well_typed_condition, bad_type, not_simple};
-ghost use Rattle.gp_syntax.specs.Tree.{side_of, declaration_of, condition_or_true};
+ghost use Rattle.gp_syntax.specs.Declaration.{variables_in};
+ghost use Rattle.gp_syntax.specs.Fault.{first_told, twice_declared, variables_in_side, unbound, bad_type, not_simple};
+ghost use Rattle.gp_syntax.specs.Tree.{expression_of, side_of, declaration_of};
+ghost use Rattle.gp_syntax.specs.declared.tree.EdgeDecl.{EdgeDecl};
 ghost use Rattle.gp_values.specs.Names.{first_unknown};
 ghost use Rattle.gp_clauses.specs.Scope.{IsScope};
-ghost use Rattle.gp_clauses.specs.inside.Tables.{type_by};
 
 use crate::known::{Known, unknown_in};
-use crate::names::unknown_in_tests;
+use crate::names::{unknown_at_nodes, unknown_in_tests};
 use crate::typed::{LabelClause, is_well_typed_condition, labels_pass};
 use crate::variables::{Variables, add_side};
 use gp_memory::NoMemory;
-use gp_syntax::{Cond, GraphDecl, Name, RuleDecl, VariableType};
+use gp_syntax::{EdgeDecl, GraphDecl, Name, RuleDecl, VariableType};
 use gp_values::NameTable;
 use sqlite_items::Items;
 use std::alloc::Global;
@@ -42,10 +41,8 @@ impl Scope {
     {
         let mut standing = NameTable::new(alloc);
         add_side(alloc, &mut standing, &rule.left)?;
-        let mut declared = Variables::new(alloc);
-        declared.add_groups(alloc, None, rule.variables.as_slice())?;
-        let mut left = Variables::new(alloc);
-        left.add_groups(alloc, Some(&standing), rule.variables.as_slice())?;
+        let declared = Variables::of_groups(alloc, None, rule.variables.as_slice())?;
+        let left = Variables::of_groups(alloc, Some(&standing), rule.variables.as_slice())?;
         Ok(Scope { declared, left })
     }
 
@@ -58,21 +55,26 @@ impl Scope {
     }
 }
 
-// The first variable in the labels of a side that is not in the table.
-fn unknown_in_labels<'a>(table: &NameTable, side: &'a GraphDecl) -> Option<&'a Name>
-    ensures { option_copied result ≡ first_unknown table.now (variables_in_side (side_of side.now)) }
+// The first variable in the labels of edges that is not in the table.
+fn unknown_at_edges<'a>(table: &NameTable, edges: &'a [EdgeDecl]) -> Option<&'a Name>
+    ensures { option_copied result ≡ first_told (λ (e : EdgeDecl). first_unknown table.now (variables_in (expression_of e.label))) edges.now }
 {
-    'nodes: for node in side.nodes.as_slice() {
-        if let Some(name) = unknown_in(Known::Variables(table), &node.label) {
-            return Some(name);
-        }
-    }
-    'edges: for edge in side.edges.as_slice() {
+    for edge in edges {
         if let Some(name) = unknown_in(Known::Variables(table), &edge.label) {
             return Some(name);
         }
     }
     None
+}
+
+// The first variable in the labels of a side that is not in the table.
+fn unknown_in_labels<'a>(table: &NameTable, side: &'a GraphDecl) -> Option<&'a Name>
+    ensures { option_copied result ≡ first_unknown table.now (variables_in_side (side_of side.now)) }
+{
+    unknown_at_nodes(Known::Variables(table), side.nodes.as_slice()).or(unknown_at_edges(
+        table,
+        side.edges.as_slice(),
+    ))
 }
 
 /// The first variable that stands in a label or the condition and is not declared, or in a right label or the condition
@@ -90,30 +92,22 @@ pub fn unbound<'a>(rule: &'a RuleDecl, scope: &Scope) -> Option<&'a Name>
     unknown_in_tests(Known::Variables(&scope.left.names), &rule.condition)
 }
 
-fn labels_are_typed(variables: &Variables, rule: &RuleDecl) -> bool
-    ensures { result ≡ list_all (is_well_typed (type_by variables.now)) (labels (side_of rule.now.left) ++ labels (side_of rule.now.right)) }
-{
-    labels_pass(LabelClause::Typed, variables, &rule.left)
-        && labels_pass(LabelClause::Typed, variables, &rule.right)
-}
-
-fn tests_are_typed(variables: &Variables, condition: &Option<Cond<Name, Option<Name>>>) -> bool
-    ensures { result ≡ is_well_typed_condition (type_by variables.now) (condition_or_true (λ m. m) condition.now) }
-{
-    match condition {
-        Some(c) => is_well_typed_condition(variables, c),
-        None => true,
-    }
-}
-
 /// Whether an operand is not of the type that its operation wants.
 pub fn bad_type(rule: &RuleDecl, scope: &Scope) -> bool
     requires { IsScope (declaration_of rule.now) scope.now }
     ensures { result ≡ bad_type (declaration_of rule.now) }
 {
-    let labels = labels_are_typed(&scope.declared, rule);
-    let tests = tests_are_typed(&scope.declared, &rule.condition);
-    !(labels && tests)
+    let variables = &scope.declared;
+    if !labels_pass(LabelClause::Typed, variables, &rule.left) {
+        return true;
+    }
+    if !labels_pass(LabelClause::Typed, variables, &rule.right) {
+        return true;
+    }
+    match &rule.condition {
+        Some(c) => !is_well_typed_condition(variables, c),
+        None => false,
+    }
 }
 
 /// Whether a left label has an operation, or more than one occurrence of list variables, or in a string of string

@@ -22,27 +22,15 @@ pub enum LabelClause {
     Simple,
 }
 
-fn is_order(comparison: Comparison) -> bool
-    ensures { result ≡ is_order comparison }
+// Whether a label keeps a clause.
+fn passes(clause: LabelClause, variables: &Variables, label: &Expr<Name>) -> bool
+    ensures { result ≡ passes clause (type_by variables.now) (expression_of label.now) }
 {
-    match comparison {
-        Comparison::Equal => false,
-        Comparison::NotEqual => false,
-        _ => true,
+    let facts = facts_in(variables, label);
+    match clause {
+        LabelClause::Typed => facts.is_typed,
+        LabelClause::Simple => facts.is_plain && facts.lists <= 1 && facts.has_one_string,
     }
-}
-
-fn is_well_typed(variables: &Variables, e: &Expr<Name>) -> bool
-    ensures { result ≡ is_well_typed (type_by variables.now) (expression_of e.now) }
-{
-    facts_in(variables, e).is_typed
-}
-
-fn is_simple(variables: &Variables, e: &Expr<Name>) -> bool
-    ensures { result ≡ is_simple (type_by variables.now) (expression_of e.now) }
-{
-    let facts = facts_in(variables, e);
-    facts.is_plain && facts.lists <= 1 && facts.has_one_string
 }
 
 // The operands of a comparison: those of an order are integers.
@@ -56,9 +44,15 @@ fn is_well_compared(
 {
     let first = facts_in(variables, d);
     let second = facts_in(variables, e);
-    let are_integers = is_subtype(first.kind, VariableType::Int)
-        && is_subtype(second.kind, VariableType::Int);
-    (!is_order(comparison) || are_integers) && first.is_typed && second.is_typed
+    let are_typed = first.is_typed && second.is_typed;
+    match comparison {
+        Comparison::Equal | Comparison::NotEqual => are_typed,
+        _ => {
+            is_subtype(first.kind, VariableType::Int)
+                && is_subtype(second.kind, VariableType::Int)
+                && are_typed
+        }
+    }
 }
 
 /// Whether the operands in a condition are of the types that their operations want.
@@ -66,9 +60,11 @@ pub fn is_well_typed_condition(variables: &Variables, c: &Cond<Name, Option<Name
     ensures { result ≡ is_well_typed_condition (type_by variables.now) (named_condition c.now) }
 {
     match condition_shape_of(c) {
-        ConditionShape::HasType(_, e) => is_well_typed(variables, e),
+        ConditionShape::HasType(_, e) => passes(LabelClause::Typed, variables, e),
         ConditionShape::HasEdge(_, _) => true,
-        ConditionShape::HasEdgeWith(_, _, label, _) => is_well_typed(variables, label),
+        ConditionShape::HasEdgeWith(_, _, label, _) => {
+            passes(LabelClause::Typed, variables, label)
+        }
         ConditionShape::Compared(comparison, d, e) => is_well_compared(variables, comparison, d, e),
         ConditionShape::Not(part) => is_well_typed_condition(variables, part),
         ConditionShape::Chain(_, first, rest) => {
@@ -82,16 +78,6 @@ pub fn is_well_typed_condition(variables: &Variables, c: &Cond<Name, Option<Name
             }
             true
         }
-    }
-}
-
-// Whether a label keeps a clause.
-fn passes(clause: LabelClause, variables: &Variables, label: &Expr<Name>) -> bool
-    ensures { result ≡ passes clause (type_by variables.now) (expression_of label.now) }
-{
-    match clause {
-        LabelClause::Typed => is_well_typed(variables, label),
-        LabelClause::Simple => is_simple(variables, label),
     }
 }
 

@@ -28,16 +28,6 @@ impl Drop for Variables {
 }
 
 impl Variables {
-    /// No variables.
-    pub fn new(alloc: Global) -> Variables
-        ensures { result ≡ no_variables }
-    {
-        Variables {
-            names: NameTable::new(alloc),
-            types: Items::new(alloc),
-        }
-    }
-
     /// The types alone.
     pub fn into_types(self) -> Items<VariableType>
         ensures { result ≡ self.types }
@@ -111,19 +101,22 @@ impl Variables {
         Ok(())
     }
 
-    /// Adds the variables of groups, those whose names are among some others, where there are others.
-    pub fn add_groups(
-        &mut self,
+    /// The variables of groups, those whose names are among some others, where there are others.
+    pub fn of_groups(
         alloc: Global,
         kept: Option<&NameTable>,
         groups: &[VariableGroup],
-    ) -> Result<(), NoMemory>
-        ensures { OnOk result (self.new ≡ fold (with_group kept.entry) self.old groups.now) }
+    ) -> Result<Variables, NoMemory>
+        ensures { IfOk result (λ v. v ≡ fold (with_group kept.entry) no_variables groups.now) }
     {
+        let mut variables = Variables {
+            names: NameTable::new(alloc),
+            types: Items::new(alloc),
+        };
         for group in groups {
-            self.add_group(alloc, kept, group)?;
+            variables.add_group(alloc, kept, group)?;
         }
-        Ok(())
+        Ok(variables)
     }
 }
 

@@ -1,6 +1,6 @@
 -- Each text has a graph or a fault: the graph is one.
-use Rattle.std.proofs.Common.{◌≡◌, ◌≢◌, ◌⊎◌, ℕ, suc, ◌<◌, List, [], ◌∷◌, map, length, Option, Some, None, Ok, Err, refl, sym, ap, subst, ◌∙◌, inl, inr, arith}
-use Rattle.std.specs.Prelude.{Result, IsSome}
+use Rattle.std.proofs.Common.{◌≡◌, ℕ, List, [], ◌∷◌, Option, Some, None, Ok, Err, refl, sym, subst, arith}
+use Rattle.std.specs.Prelude.{Result}
 use Rattle.std.proofs.lemmas.List.{length-map}
 use Rattle.gp_tokens.specs.declared.fault.LexFault.{LexFault}
 use Rattle.gp_tokens.specs.declared.token.Token.{Token}
@@ -12,7 +12,7 @@ use Rattle.gp_grammar.specs.Signs.{less}
 use Rattle.gp_grammar.specs.Ahead.{◌>>=◌}
 use Rattle.gp_grammar.specs.Reading.{reader_of}
 use Rattle.gp_grammar.proofs.Shapes.{bind_some, some_is}
-use Rattle.gp_values.specs.Graph.{Graph, IsGraph, node_at, empty_graph, with_node, with_edge}
+use Rattle.gp_values.specs.Graph.{Graph, IsGraph, empty_graph, with_node, with_edge}
 use Rattle.gp_values.specs.Names.{Name, place_of}
 use Rattle.gp_values.proofs.Graphs.{IsGraph-empty, IsGraph-with_node, IsGraph-with_edge}
 use Rattle.gp_hostfile.specs.declared.tree.NodeTree.{NodeTree}

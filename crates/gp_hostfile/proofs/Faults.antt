@@ -26,6 +26,9 @@ first_refused (faults.WrongMark n) a b h = rw h refl
 pub then_refused : (e : HostFault) (a b : Option HostFault) → a ≡ None → Refuses e b → Refuses e (option_or a b)
 then_refused e a b n h = rw n h
 
+pub none_refused : {A : Type 0} (a b : Option A) → a ≡ None → b ≡ None → option_or a b ≡ None
+none_refused a b n m = rw n m
+
 -- ---- the first that is found
 
 or_assoc : {A : Type 0} (a b c : Option A) → option_or (option_or a b) c ≡ option_or a (option_or b c)

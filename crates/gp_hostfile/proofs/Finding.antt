@@ -1,5 +1,5 @@
 -- The loops that look for the first fault, one item after the other.
-use Rattle.std.proofs.Common.{◌≡◌, ℕ, suc, ◌+◌, ◌<◌, ◌≤◌, List, ◌∷◌, length, get_or, drop, Option, None, Some, Bool, true, false, not, map, [], ◌++◌, refl, sym, ap, subst, append_assoc, append-nil, ◌∙◌, add-one, drop-cons}
+use Rattle.std.proofs.Common.{◌≡◌, ℕ, ◌+◌, ◌<◌, ◌≤◌, List, ◌∷◌, length, get_or, drop, Option, None, Some, Bool, true, false, not, map, [], ◌++◌, refl, sym, ap, subst, append_assoc, append-nil, ◌∙◌}
 use Rattle.std.specs.Prelude.{if◌then◌else◌}
 use Rattle.std.specs.Option.{option_or}
 use Rattle.gp_values.specs.Names.{Name, has_name, first_doubled_behind}

@@ -4,19 +4,17 @@ use Rattle.gp_tokens.specs.declared.token.Token.{Token}
 use Rattle.gp_tokens.specs.Kinds.{same_kind}
 use Rattle.gp_grammar.specs.Wants.{excludes, meets}
 use Rattle.gp_grammar.specs.Shape.{Is, Many, none, more, ◌then◌}
-use Rattle.gp_grammar.specs.Shape as s
 use Rattle.gp_grammar.specs.Grammar.{One, Made, ◌followed_by◌, shape_of}
 use Rattle.gp_grammar.specs.Shape.{second_of}
-use Rattle.gp_grammar.specs.Fits.{Fits, NoneOf, Avoids, Lacks, Answers, enders}
+use Rattle.gp_grammar.specs.Fits.{Fits, NoneOf, Avoids, Lacks, Answers}
 use Rattle.gp_grammar.specs.Laws.{Again, Sound}
-use Rattle.gp_grammar.specs.Signs.{bar, open_sign, close_bracket}
+use Rattle.gp_grammar.specs.Signs.{bar, close_bracket}
 use Rattle.gp_grammar.specs.Ahead.{stands_before}
 use Rattle.gp_grammar.specs.Reading.{begins, reader_of}
 use Rattle.gp_grammar.proofs.Complete.{all_again, strong}
 use Rattle.gp_grammar.proofs.Passing.{passes, want_met, stop_met}
 use Rattle.gp_grammar.proofs.Sound.{all_sound}
 use Rattle.gp_hostfile.specs.declared.tree.NodeTree.{NodeTree}
-use Rattle.gp_hostfile.specs.declared.tree.EdgeTree.{EdgeTree}
 use Rattle.gp_hostfile.specs.Grammar.{coord, position, place, root, atom, atom_list, mark, label, node, edge, nodes, edges, HostTree, body, two_bars, barred, host}
 
 pub host_sound : Sound (reader_of host) (shape_of host)

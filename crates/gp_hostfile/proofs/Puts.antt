@@ -1,5 +1,5 @@
 -- What is put on a sheet, one after the other.
-use Rattle.std.proofs.Common.{◌≡◌, false, List, [], ◌++◌, ℕ, sym, ap, subst, ◌∙◌, append_assoc, append-nil}
+use Rattle.std.proofs.Common.{◌≡◌, List, [], ◌++◌, ℕ, sym, ap, subst, ◌∙◌, append_assoc, append-nil}
 use Rattle.std.specs.Prelude.{Result, Ok, Err, IfOk}
 use Rattle.gp_hostfile.specs.declared.sheet.Sheet.{Sheet}
 use Rattle.gp_hostfile.specs.inside.Puts.{Puts, Says}

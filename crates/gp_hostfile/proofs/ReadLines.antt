@@ -5,7 +5,7 @@ use Rattle.gp_tokens.specs.Kinds.{same_kind}
 use Rattle.gp_tokens.proofs.Steps.{token}
 use Rattle.gp_grammar.specs.declared.want.Want.TheVariants as wants
 use Rattle.gp_grammar.specs.Wants.{meets}
-use Rattle.gp_grammar.specs.Shape.{Is, ◌then◌, Either, Many, second_of}
+use Rattle.gp_grammar.specs.Shape.{Is, ◌then◌, Many, second_of}
 use Rattle.gp_grammar.specs.Grammar.{shape_of}
 use Rattle.gp_grammar.specs.Signs as signs
 use Rattle.gp_grammar.specs.Signs.{root_word, open_bracket, close_bracket}
@@ -13,7 +13,7 @@ use Rattle.gp_values.specs.Atoms.{AreAtoms}
 use Rattle.gp_values.specs.Graph.{Node, Edge}
 use Rattle.gp_hostfile.specs.declared.tree.NodeTree.{NodeTree}
 use Rattle.gp_hostfile.specs.declared.tree.EdgeTree.{EdgeTree}
-use Rattle.gp_hostfile.specs.Grammar.{label, position, place, rooted, root, node_of, node, nodes, edge_of, edge, edges, HostTree, body, barred, tree_of, host, IsHostShape}
+use Rattle.gp_hostfile.specs.Grammar.{label, place, rooted, root, node_of, node, nodes, edge_of, edge, edges, HostTree, body, barred, tree_of, host, IsHostShape}
 use Rattle.gp_hostfile.specs.Host.{atoms_of, node_mark, edge_mark}
 use Rattle.gp_tokens.proofs.Numerals.{name_is_free}
 use Rattle.gp_tokens.proofs.Pieces.{Piece, blank}

@@ -33,23 +33,10 @@ pub(crate) fn check(alloc: Global, tree: &HostTree<'_>) -> Result<NameTable, Hos
 fn check_numbers(tree: &HostTree<'_>) -> Result<(), HostFault>
     ensures { Checks result (option_or (first_found (λ (n : NodeTree). label_fault n.label) tree.now.nodes.items) (first_found (λ (e : EdgeTree). label_fault e.label) tree.now.edges.items)) }
 {
-    check_node_labels(&tree.nodes)?;
-    check_edge_labels(&tree.edges)
-}
-
-fn check_node_labels(nodes: &[NodeTree<'_>]) -> Result<(), HostFault>
-    ensures { Checks result (first_found (λ (n : NodeTree). label_fault n.label) nodes.now) }
-{
-    for node in nodes {
+    for node in tree.nodes.as_slice() {
         check_label(node.label.as_slice())?;
     }
-    Ok(())
-}
-
-fn check_edge_labels(edges: &[EdgeTree<'_>]) -> Result<(), HostFault>
-    ensures { Checks result (first_found (λ (e : EdgeTree). label_fault e.label) edges.now) }
-{
-    for edge in edges {
+    for edge in tree.edges.as_slice() {
         check_label(edge.label.as_slice())?;
     }
     Ok(())
@@ -118,16 +105,9 @@ fn check_ends(alloc: Global, edges: &[EdgeTree<'_>], nodes: &NameTable) -> Resul
     ensures { Checks result (first_found (ends_fault nodes.now) edges.now) }
 {
     for edge in edges {
-        check_ends_of(alloc, edge, nodes)?;
+        end(alloc, &edge.source, nodes)?;
+        end(alloc, &edge.target, nodes)?;
     }
-    Ok(())
-}
-
-fn check_ends_of(alloc: Global, edge: &EdgeTree<'_>, nodes: &NameTable) -> Result<(), HostFault>
-    ensures { Checks result (ends_fault nodes.now edge.now) }
-{
-    end(alloc, &edge.source, nodes)?;
-    end(alloc, &edge.target, nodes)?;
     Ok(())
 }
 
@@ -144,23 +124,10 @@ pub(crate) fn end(alloc: Global, name: &Slice<'_>, nodes: &NameTable) -> Result<
 fn check_marks(alloc: Global, tree: &HostTree<'_>) -> Result<(), HostFault>
     ensures { Checks result (option_or (first_found node_mark_fault tree.now.nodes.items) (first_found edge_mark_fault tree.now.edges.items)) }
 {
-    check_node_marks(alloc, &tree.nodes)?;
-    check_edge_marks(alloc, &tree.edges)
-}
-
-fn check_node_marks(alloc: Global, nodes: &[NodeTree<'_>]) -> Result<(), HostFault>
-    ensures { Checks result (first_found node_mark_fault nodes.now) }
-{
-    for node in nodes {
+    for node in tree.nodes.as_slice() {
         node_mark(alloc, node)?;
     }
-    Ok(())
-}
-
-fn check_edge_marks(alloc: Global, edges: &[EdgeTree<'_>]) -> Result<(), HostFault>
-    ensures { Checks result (first_found edge_mark_fault edges.now) }
-{
-    for edge in edges {
+    for edge in tree.edges.as_slice() {
         edge_mark(alloc, edge)?;
     }
     Ok(())

@@ -23,12 +23,6 @@ behind_part s old new c e = ap length e ∙ length-append old (sets_in s (named 
 module _ (s : Scope) (n : ℕ) where
   -- ---- chains
 
-  pub seq_room : (c p : CommandTree) (qs : List CommandTree) → c ≡ tree.Seq p qs → n + how_many (named c) < 2 ^ 32 → n + how_many (named p) + called_in_rest qs < 2 ^ 32
-  seq_room c p qs e lt = let h = ap how_many (ap named e ∙ named-Seq p qs) ∙ sequence_called s (named p) qs in omega (arith, h, lt)
-
-  pub or_room : (c p : CommandTree) (qs : List CommandTree) → c ≡ tree.Or p qs → n + how_many (named c) < 2 ^ 32 → n + how_many (named p) + called_in_rest qs < 2 ^ 32
-  or_room c p qs e lt = let h = ap how_many (ap named e ∙ named-Or p qs) ∙ choice_called s (named p) qs in omega (arith, h, lt)
-
   pub seq_command : (c p : CommandTree) (qs : List CommandTree) (first : Command) (rest : List Command) → c ≡ tree.Seq p qs → command_of first ≡ resolved s n (named p) → map command_of rest ≡ resolved_rest s (n + how_many (named p)) qs → command_of (command.Seq first rest) ≡ resolved s n (named c)
   seq_command c p qs first rest e a b =
       command_of-Seq first rest ∙ ap (λ x. fold meant.Seq x (map command_of rest)) a ∙ ap (fold meant.Seq (resolved s n (named p))) b
@@ -47,17 +41,8 @@ module _ (s : Scope) (n : ℕ) where
 
   -- ---- branches
 
-  three_called : (k p q : NamedCommand) → length (called_sets k ++ called_sets p ++ called_sets q) ≡ how_many k + how_many p + how_many q
-  three_called k p q = let a = length-append (called_sets k ++ called_sets p) (called_sets q) in let b = length-append (called_sets k) (called_sets p) in omega (arith, a, b)
-
   three_sets : (k p q : NamedCommand) → map (map (rule_number s)) (called_sets k ++ called_sets p ++ called_sets q) ≡ sets_in s k ++ (sets_in s p ++ sets_in s q)
   three_sets k p q = both_sets s (called_sets k ++ called_sets p) (called_sets q) ∙ ap (λ l. l ++ sets_in s q) (both_sets s (called_sets k) (called_sets p)) ∙ append_assoc (sets_in s k) (sets_in s p) (sets_in s q)
-
-  pub if_called : (c k p q : CommandTree) → c ≡ tree.If k p q → how_many (named c) ≡ how_many (named k) + how_many (named p) + how_many (named q)
-  if_called c k p q e = ap how_many (ap named e ∙ named-If k p q) ∙ three_called (named k) (named p) (named q)
-
-  pub try_called : (c k p q : CommandTree) → c ≡ tree.Try k p q → how_many (named c) ≡ how_many (named k) + how_many (named p) + how_many (named q)
-  try_called c k p q e = ap how_many (ap named e ∙ named-Try k p q) ∙ three_called (named k) (named p) (named q)
 
   pub if_sets : (c k p q : CommandTree) → c ≡ tree.If k p q → sets_in s (named c) ≡ sets_in s (named k) ++ (sets_in s (named p) ++ sets_in s (named q))
   if_sets c k p q e = ap (λ x. sets_in s (named x)) e ∙ ap (sets_in s) (named-If k p q) ∙ three_sets (named k) (named p) (named q)
@@ -77,17 +62,11 @@ module _ (s : Scope) (n : ℕ) where
 
   -- ---- the rest
 
-  pub loop_called : (c p : CommandTree) → c ≡ tree.Loop p → how_many (named c) ≡ how_many (named p)
-  loop_called c p e = ap how_many (ap named e ∙ named-Loop p)
-
   pub loop_sets : (c p : CommandTree) → c ≡ tree.Loop p → sets_in s (named p) ≡ sets_in s (named c)
   loop_sets c p e = sym (ap (λ x. sets_in s (named x)) e ∙ ap (sets_in s) (named-Loop p))
 
   pub loop_command : (c p : CommandTree) (x : Command) → c ≡ tree.Loop p → command_of x ≡ resolved s n (named p) → command_of (command.Loop x) ≡ resolved s n (named c)
   loop_command c p x e a = command_of-Loop x ∙ ap meant.Loop a ∙ sym (ap (λ x. resolved s n (named x)) e ∙ ap (resolved s n) (named-Loop p))
-
-  pub call_called : (c : CommandTree) (ns : List Name) → c ≡ tree.Call ns → how_many (named c) ≡ 1
-  call_called c ns e = ap how_many (ap named e ∙ named-Call ns)
 
   pub call_sets : (c : CommandTree) (ns : List Name) → c ≡ tree.Call ns → map (rule_number s) ns ∷ [] ≡ sets_in s (named c)
   call_sets c ns e = sym (ap (λ x. sets_in s (named x)) e ∙ ap (sets_in s) (named-Call ns))

@@ -37,15 +37,6 @@ pub sets_push : (s : Scope) (xs : List CommandTree) (q : CommandTree) → sets_i
 sets_push s [] q = append-nil (sets_in s (named q))
 sets_push s (x ∷ xs) q = ap (λ l. sets_in s (named x) ++ l) (sets_push s xs q) ∙ sym (append_assoc (sets_in s (named x)) (sets_in_rest s xs) (sets_in s (named q)))
 
-pub called_push : (xs : List CommandTree) (q : CommandTree) → called_in_rest (xs ++ q ∷ []) ≡ called_in_rest xs + how_many (named q)
-called_push [] q = omega arith
-called_push (x ∷ xs) q = let h = called_push xs q in omega (arith, h)
-
-pub called_take : (n : ℕ) (xs : List CommandTree) → called_in_rest (take n xs) ≤ called_in_rest xs
-called_take zero xs = omega arith
-called_take (suc n) [] = omega arith
-called_take (suc n) (x ∷ xs) = let h = called_take n xs in omega (arith, h)
-
 -- ---- chains
 
 module _ (s : Scope) where

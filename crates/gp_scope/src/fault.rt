@@ -3,37 +3,60 @@
 use gp_memory::NoMemory as Refused;
 use gp_syntax::Name;
 use std::alloc::AllocError;
+use std::error::Error;
 use std::fmt::{Debug, Display, Formatter, Result, Write};
-use thiserror::Error;
 
 /// The first fault of scope of a program text, with the name of a rule or a procedure where it carries one.
-#[derive(Drop, Error)]
+#[derive(Drop)]
 pub enum ScopeFault {
     /// Main is not declared outside all procedures.
-    #[error("Main is not declared")]
     NoMain,
     /// Main is declared more than once.
-    #[error("Main is declared more than once")]
     TwoMains,
     /// The name is declared twice among the same declarations.
-    #[error("{0} is declared twice")]
     TwoRules(Name),
     /// The name is called, and no rule or procedure of that name is visible there.
-    #[error("{0} is called and is not visible there")]
     Unknown(Name),
     /// The procedure reaches itself through calls.
-    #[error("{0} calls itself")]
     Recursive(Name),
     /// A chain of calls that begins at the procedure has more than 64 procedures.
-    #[error("{0} begins a chain of more than 64 calls")]
     DeepCalls(Name),
     /// Main, or a condition of `if` or `try`, may break.
-    #[error("`break` stands outside a loop")]
     StrayBreak,
     /// Memory was refused.
-    #[error("memory was refused")]
     NoMemory,
 }
+
+impl ScopeFault {
+    // What is wrong, behind the name where there is one.
+    fn said(&self) -> &'static str {
+        match self {
+            ScopeFault::NoMain => "Main is not declared",
+            ScopeFault::TwoMains => "Main is declared more than once",
+            ScopeFault::TwoRules(_) => " is declared twice",
+            ScopeFault::Unknown(_) => " is called and is not visible there",
+            ScopeFault::Recursive(_) => " calls itself",
+            ScopeFault::DeepCalls(_) => " begins a chain of more than 64 calls",
+            ScopeFault::StrayBreak => "`break` stands outside a loop",
+            ScopeFault::NoMemory => "memory was refused",
+        }
+    }
+}
+
+impl Display for ScopeFault {
+    fn fmt<W: Write>(&self, f: &mut Formatter<W>) -> Result {
+        match self {
+            ScopeFault::TwoRules(name)
+            | ScopeFault::Unknown(name)
+            | ScopeFault::Recursive(name)
+            | ScopeFault::DeepCalls(name) => Display::fmt(name, f)?,
+            _ => {}
+        }
+        f.write_str(self.said())
+    }
+}
+
+impl Error for ScopeFault {}
 
 // As it is shown to users.
 impl Debug for ScopeFault {

@@ -231,7 +231,9 @@ fn push_set(
     ensures place { IfOk result (λ n. n ≡ length sets.old.items) }
     ensures sets { OnOk result (sets.new.items ≡ sets.old.items ++ map (rule_number (scope_of levels.now)) names.now ∷ []) }
 {
-    let place = u32::try_from(sets.len()).map_err(|_| NoMemory)?;
+    let Ok(place) = u32::try_from(sets.len()) else {
+        return Err(NoMemory);
+    };
     let set = rules_of(alloc, levels, names)?;
     sets.push(set)?;
     Ok(place)

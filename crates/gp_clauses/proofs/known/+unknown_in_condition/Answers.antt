@@ -6,7 +6,7 @@ use Rattle.gp_syntax.specs.Fault.{first_told}
 use Rattle.gp_clauses.specs.Size.{condition_size}
 use Rattle.gp_clauses.specs.ConditionShapes.{named_condition}
 use Rattle.gp_clauses.proofs.Walks.{untold, told_here, told_ended, item_at}
-use Rattle.gp_clauses.proofs.Knowns.{unknown_in_part, unknown_condition_chain, unknown-Compared}
+use Rattle.gp_clauses.proofs.Knowns.{unknown_in_part, unknown_condition_chain, unknown-Compared, told_or}
 use Rattle.gp_clauses.proofs.known.+unknown_in_condition.Goals as goal
 
 pub returns-in-Some : goal.returns-in-Some
@@ -15,7 +15,7 @@ returns-in-Some t c =
 
 pub returns-in-Compared : goal.returns-in-Compared
 returns-in-Compared t c =
-    rw (c.in-Compared.ensures.whole, unknown-Compared c.args.known c.in-Compared.field-0 (expression_of c.in-Compared.d.now) (expression_of c.in-Compared.e.now)) c.unknown_in_two.ensures
+    rw (c.in-Compared.ensures.whole, unknown-Compared c.args.known c.in-Compared.field-0 (expression_of c.in-Compared.d.now) (expression_of c.in-Compared.e.now)) (told_or _ _ _ _ _ c.or-in-Compared.ensures c.unknown_in-in-Compared.ensures c.unknown_in-in-Compared-2.ensures)
 
 pub returns-in-Some-unknown_in_condition : goal.returns-in-Some-unknown_in_condition
 returns-in-Some-unknown_in_condition t c =

@@ -7,8 +7,8 @@ use Rattle.gp_scope.specs.Outline.{named}
 use Rattle.gp_scope.specs.Resolved.{resolved, rule_number}
 use Rattle.gp_scope.specs.inside.Levels.{scope_of}
 use Rattle.gp_scope.specs.inside.Commands.{sets_in, sets_in_rest, resolved_rest, called_in_rest, size, sizes}
-use Rattle.gp_scope.proofs.Numbered.{how_many, rest_counted, rest_push, sets_push, called_push, called_take, size-Seq, size-Or, size-If, size-Try, size-Loop, is_smaller}
-use Rattle.gp_scope.proofs.Forms.{behind_part, seq_room, or_room, seq_command, or_command, seq_sets, or_sets, if_called, try_called, if_sets, try_sets, if_command, try_command, loop_called, loop_sets, loop_command, call_called, call_sets, call_command, procedure_command, procedure_sets, skip_command, skip_sets, fail_command, fail_sets, break_command, break_sets}
+use Rattle.gp_scope.proofs.Numbered.{how_many, rest_counted, rest_push, sets_push, size-Seq, size-Or, size-If, size-Try, size-Loop, is_smaller}
+use Rattle.gp_scope.proofs.Forms.{behind_part, seq_command, or_command, seq_sets, or_sets, if_sets, try_sets, if_command, try_command, loop_sets, loop_command, call_sets, call_command, procedure_command, procedure_sets, skip_command, skip_sets, fail_command, fail_sets, break_command, break_sets}
 use Rattle.gp_scope.proofs.number.+number.Goals as goal
 
 nothing_behind : {A : Type 0} (xs ys : List A) → ys ≡ [] → xs ≡ xs ++ ys
@@ -18,7 +18,7 @@ pub number-number_chain-requires : goal.number-number_chain-requires
 number-number_chain-requires t c =
     let e : c.args.command.now ≡ tree.Seq c.get.result.now c.as_slice-in-Seq.result.now = c.in-Seq.is ∙ ap (λ x. tree.Seq x c.in-Seq.rest) (sym c.get.ensures) ∙ ap (tree.Seq c.get.result.now) (sym c.as_slice-in-Seq.ensures) in
     let z : size c.args.command.now ≡ 1 + size c.get.result.now + sizes c.as_slice-in-Seq.result.now = ap size e ∙ size-Seq c.get.result.now c.as_slice-in-Seq.result.now in
-    (search rules, tt)
+    (omega arith, tt)
 
 pub number-returns-in_ok-chain-in-Seq-clause-command : goal.number-returns-in_ok-chain-in-Seq-clause-command
 number-returns-in_ok-chain-in-Seq-clause-command t c =
@@ -34,7 +34,7 @@ pub number-number_chain-requires-in-Or : goal.number-number_chain-requires-in-Or
 number-number_chain-requires-in-Or t c =
     let e : c.args.command.now ≡ tree.Or c.get-in-Or.result.now c.as_slice-in-Or.result.now = c.in-Or.is ∙ ap (λ x. tree.Or x c.in-Or.rest) (sym c.get-in-Or.ensures) ∙ ap (tree.Or c.get-in-Or.result.now) (sym c.as_slice-in-Or.ensures) in
     let z : size c.args.command.now ≡ 1 + size c.get-in-Or.result.now + sizes c.as_slice-in-Or.result.now = ap size e ∙ size-Or c.get-in-Or.result.now c.as_slice-in-Or.result.now in
-    (search rules, tt)
+    (omega arith, tt)
 
 pub number-returns-in_ok-chain-in-Or-clause-command : goal.number-returns-in_ok-chain-in-Or-clause-command
 number-returns-in_ok-chain-in-Or-clause-command t c =
@@ -50,7 +50,7 @@ pub number-number_branches-requires : goal.number-number_branches-requires
 number-number_branches-requires t c =
     let e : c.args.command.now ≡ tree.If c.get-in-If.result.now c.get-in-If-2.result.now c.get-in-If-3.result.now = c.in-If.is ∙ ap (λ x. tree.If x c.in-If.then c.in-If.other) (sym c.get-in-If.ensures) ∙ ap (λ x. tree.If c.get-in-If.result.now x c.in-If.other) (sym c.get-in-If-2.ensures) ∙ ap (tree.If c.get-in-If.result.now c.get-in-If-2.result.now) (sym c.get-in-If-3.ensures) in
     let z : size c.args.command.now ≡ 1 + size c.get-in-If.result.now + size c.get-in-If-2.result.now + size c.get-in-If-3.result.now = ap size e ∙ size-If c.get-in-If.result.now c.get-in-If-2.result.now c.get-in-If-3.result.now in
-    (search rules, tt)
+    (omega arith, tt)
 
 pub number-returns-in_ok-branches-in-If-clause-command : goal.number-returns-in_ok-branches-in-If-clause-command
 number-returns-in_ok-branches-in-If-clause-command t c =
@@ -67,7 +67,7 @@ pub number-number_branches-requires-in-Try : goal.number-number_branches-require
 number-number_branches-requires-in-Try t c =
     let e : c.args.command.now ≡ tree.Try c.get-in-Try.result.now c.get-in-Try-2.result.now c.get-in-Try-3.result.now = c.in-Try.is ∙ ap (λ x. tree.Try x c.in-Try.then c.in-Try.other) (sym c.get-in-Try.ensures) ∙ ap (λ x. tree.Try c.get-in-Try.result.now x c.in-Try.other) (sym c.get-in-Try-2.ensures) ∙ ap (tree.Try c.get-in-Try.result.now c.get-in-Try-2.result.now) (sym c.get-in-Try-3.ensures) in
     let z : size c.args.command.now ≡ 1 + size c.get-in-Try.result.now + size c.get-in-Try-2.result.now + size c.get-in-Try-3.result.now = ap size e ∙ size-Try c.get-in-Try.result.now c.get-in-Try-2.result.now c.get-in-Try-3.result.now in
-    (search rules, tt)
+    (omega arith, tt)
 
 pub number-returns-in_ok-branches-in-Try-clause-command : goal.number-returns-in_ok-branches-in-Try-clause-command
 number-returns-in_ok-branches-in-Try-clause-command t c =
@@ -84,7 +84,7 @@ pub number-number_boxed-requires : goal.number-number_boxed-requires
 number-number_boxed-requires t c =
     let e : c.args.command.now ≡ tree.Loop c.get-in-Loop.result.now = c.in-Loop.is ∙ ap tree.Loop (sym c.get-in-Loop.ensures) in
     let z : size c.args.command.now ≡ 1 + size c.get-in-Loop.result.now = ap size e ∙ size-Loop c.get-in-Loop.result.now in
-    (search rules, tt)
+    (omega arith, tt)
 
 pub number-returns-in_ok-number_boxed-in-Loop-clause-command : goal.number-returns-in_ok-number_boxed-in-Loop-clause-command
 number-returns-in_ok-number_boxed-in-Loop-clause-command t c =
@@ -140,15 +140,15 @@ number-returns-in-Break-clause-sets t c =
 
 pub number_branches-number_boxed-requires : goal.number_branches-number_boxed-requires
 number_branches-number_boxed-requires t c =
-    (search rules, tt)
+    (omega arith, tt)
 
 pub number_branches-number_boxed-requires-2 : goal.number_branches-number_boxed-requires-2
 number_branches-number_boxed-requires-2 t c =
-    (search rules, tt)
+    (omega arith, tt)
 
 pub number_branches-number_boxed-requires-3 : goal.number_branches-number_boxed-requires-3
 number_branches-number_boxed-requires-3 t c =
-    (search rules, tt)
+    (omega arith, tt)
 
 pub number_branches-returns-clause-second : goal.number_branches-returns-clause-second
 number_branches-returns-clause-second t c =
@@ -173,16 +173,12 @@ number_branches-returns-clause-sets t c =
 
 pub number_chain-number_rest-requires : goal.number_chain-number_rest-requires
 number_chain-number_rest-requires t c =
-    (search rules, tt)
+    (omega arith, tt)
 
 pub number_rest-number-requires : goal.number_rest-number-requires
 number_rest-number-requires t c =
-    let more : take (c.each.command-index + 1) c.args.commands.now ≡ take c.each.command-index c.args.commands.now ++ c.command-item.result ∷ [] = take_more c.args.commands.now c.each.command-index c.command-item.result c.each-test.true ∙ ap (λ x. take c.each.command-index c.args.commands.now ++ x ∷ []) (sym c.command-item.is) in
-    let count : length c.each.sets.items ≡ length c.args.sets.now.items + called_in_rest (take c.each.command-index c.args.commands.now) = ap length c.each.invariant.sets ∙ length-append c.args.sets.now.items (sets_in_rest (scope_of c.args.levels.now) (take c.each.command-index c.args.commands.now)) ∙ ap (λ n. length c.args.sets.now.items + n) (rest_counted (scope_of c.args.levels.now) (take c.each.command-index c.args.commands.now)) in
-    let a = ap called_in_rest more ∙ called_push (take c.each.command-index c.args.commands.now) c.command-item.result in
-    let b = called_take (c.each.command-index + 1) c.args.commands.now in
     let z = is_smaller c.args.commands.now c.each.command-index c.command-item.result c.each-test.true c.command-item.is in
-    (search rules, tt)
+    (omega arith, tt)
 
 pub number_rest-each-preserved : goal.number_rest-each-preserved
 number_rest-each-preserved t c =
