@@ -17,8 +17,8 @@ use Rattle.gp_syntax.specs.Run.{Program}
 use Rattle.gp_hostfile.specs.Host.{IsRefusal, IsHostFault}
 use Rattle.gp_reader.specs.Program.{IsFaultyText}
 use Rattle.gp_reply.specs.Texts as texts
-use Rattle.gp_inputs.specs.Inputs.{TellsProgram}
-use Rattle.gp_inputs.specs.Loads.{FaultOfBoth, in_program, in_host, HostsOrFaults, TellsOrFaults, TreesOrFaults, TracesOrFaults, ScriptsOrFaults}
+use Rattle.gp_reply.specs.Inputs.{TellsProgram}
+use Rattle.gp_reply.specs.Loads.{FaultOfBoth, in_program, in_host, HostsOrFaults, TellsOrFaults, TreesOrFaults, TracesOrFaults, ScriptsOrFaults}
 use Rattle.gp_reply.specs.Said.{host_refused, program_refused, trace_refused, script_refused}
 
 -- ---- what is refused

@@ -19,8 +19,8 @@ use Rattle.gp_reply.specs.declared.said.Said.{Said}
 use Rattle.gp_reply.specs.declared.said.Stop.{Stop}
 use Rattle.gp_reply.specs.declared.said.Stop.TheVariants as stops
 use Rattle.gp_reply.specs.Texts as texts
-use Rattle.gp_inputs.specs.Inputs.{HasBytes, HasLongFile, HasTrace, HasScript, CannotRead, risen, lacking, StopsAtProgram, program_is_long, program_is_bad, program_is_unread, StopsAtTree, tree_is_long, tree_is_none, tree_is_unread, StopsAtHost, host_is_long, host_is_bad, host_is_unread, StopsAtTrace, trace_is_long, trace_is_bad, trace_is_unread, StopsAtResult, result_is_long, result_is_unread, StopsAtScript, script_is_long, script_is_bad, script_is_unread, OfBoth, at_program, at_host, behind_both}
-use Rattle.gp_inputs.specs.Loads.{StopsAtFile, too_long, unread, StopsAtBoth, TellsOrFaults, TreesOrFaults, HostsOrFaults, TracesOrFaults, ScriptsOrFaults, LoadsProgram, LoadsTree, LoadsHost, LoadsTrace, LoadsScript}
+use Rattle.gp_reply.specs.Inputs.{HasBytes, HasLongFile, HasTrace, HasScript, CannotRead, risen, lacking, StopsAtProgram, program_is_long, program_is_bad, program_is_unread, StopsAtTree, tree_is_long, tree_is_none, tree_is_unread, StopsAtHost, host_is_long, host_is_bad, host_is_unread, StopsAtTrace, trace_is_long, trace_is_bad, trace_is_unread, StopsAtResult, result_is_long, result_is_unread, StopsAtScript, script_is_long, script_is_bad, script_is_unread, OfBoth, at_program, at_host, behind_both}
+use Rattle.gp_reply.specs.Loads.{StopsAtFile, too_long, unread, StopsAtBoth, TellsOrFaults, TreesOrFaults, HostsOrFaults, TracesOrFaults, ScriptsOrFaults, LoadsProgram, LoadsTree, LoadsHost, LoadsTrace, LoadsScript}
 use Rattle.gp_reply.specs.Said.{said_of}
 
 pub read_cause : (old new : KnownFiles) (name : Name) → Rose old.faults new.faults ⊎ (LacksFile old.content name × (new.faults ≡ old.faults)) → CannotRead old new name

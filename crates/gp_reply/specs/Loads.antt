@@ -27,7 +27,7 @@ use Rattle.gp_reply.specs.declared.said.Stop.TheVariants as stops
 use Rattle.gp_reply.specs.declared.said.Said.{Said}
 use Rattle.gp_reply.specs.Texts as texts
 use Rattle.gp_reply.specs.Said.{said_of}
-use Rattle.gp_inputs.specs.Inputs.{HasBytes, HasLongFile, CannotRead, TellsProgram, HasProgram, HasProgramTree, HasHost, HasTrace, HasScript, StopsAtProgram, StopsAtTree, StopsAtHost, StopsAtTrace, StopsAtScript, OfBoth}
+use Rattle.gp_reply.specs.Inputs.{HasBytes, HasLongFile, CannotRead, TellsProgram, HasProgram, HasProgramTree, HasHost, HasTrace, HasScript, StopsAtProgram, StopsAtTree, StopsAtHost, StopsAtTrace, StopsAtScript, OfBoth}
 
 -- ---- files
 

@@ -1,14 +1,14 @@
 //! The files of a command, read and understood, or the answer that says why not.
 
 ghost use Rattle.std.specs.Prelude.{◌≡◌, ◌≤◌};
-ghost use Rattle.gp_inputs.specs.Loads.{ReadsFile, LoadsProgram, LoadsTree, LoadsHost, LoadsBoth, LoadsTrace, LoadsScript};
+ghost use Rattle.gp_reply.specs.Loads.{ReadsFile, LoadsProgram, LoadsTree, LoadsHost, LoadsBoth, LoadsTrace, LoadsScript};
 ghost use Rattle.gp_reply.specs.Texts.{long_result};
 ghost use Rattle.gp_reply.specs.Said.{said_of};
 
 use crate::parsed::{host_of, program_of, script_of, trace_of, tree_of};
+use crate::said::{Said, Stop};
 use gp_graph::Graph;
 use gp_io::{Files, ReadRefusal};
-use gp_reply::{Said, Stop};
 use gp_script::Line;
 use gp_syntax::{Ast, Item, Program};
 use gp_trace::Version;

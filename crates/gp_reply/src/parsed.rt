@@ -1,12 +1,13 @@
 //! The program, the host, the trace and the script of texts, or the answer that says why not.
 
 ghost use Rattle.std.specs.Prelude.{◌≡◌};
-ghost use Rattle.gp_inputs.specs.Loads.{TellsOrFaults, TreesOrFaults, HostsOrFaults, TracesOrFaults, ScriptsOrFaults, BothOrFaults};
+ghost use Rattle.gp_reply.specs.Loads.{TellsOrFaults, TreesOrFaults, HostsOrFaults, TracesOrFaults, ScriptsOrFaults, BothOrFaults};
 
+use crate::refused::{host_refused, program_refused, script_refused, trace_refused};
+use crate::said::Stop;
 use gp_graph::Graph;
 use gp_hostfile::read_host;
 use gp_reader::{read_program, read_tree};
-use gp_reply::{Stop, host_refused, program_refused, script_refused, trace_refused};
 use gp_script::{Line, read_script};
 use gp_syntax::{Ast, Item, Program};
 use gp_trace::{Version, read_trace};

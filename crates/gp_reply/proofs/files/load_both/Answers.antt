@@ -1,9 +1,9 @@
 use Rattle.std.proofs.Common.{◌∙◌, le_trans}
 use Rattle.std.proofs.lemmas.Result.{err_from_is_err_and}
-use Rattle.gp_inputs.specs.Inputs.{StopsAtProgram, StopsAtHost, at_program, at_host}
-use Rattle.gp_inputs.specs.Loads.{StopsAtBoth}
-use Rattle.gp_inputs.proofs.Loads.{stopped_so, host_since}
-use Rattle.gp_inputs.proofs.files.load_both.Goals as goal
+use Rattle.gp_reply.specs.Inputs.{StopsAtProgram, StopsAtHost, at_program, at_host}
+use Rattle.gp_reply.specs.Loads.{StopsAtBoth}
+use Rattle.gp_reply.proofs.Loads.{stopped_so, host_since}
+use Rattle.gp_reply.proofs.files.load_both.Goals as goal
 
 pub returns-in_err-program-clause-loads : goal.returns-in_err-program-clause-loads
 returns-in_err-program-clause-loads g c =

@@ -1,6 +1,6 @@
 use Rattle.std.proofs.lemmas.Result.{err_from_is_err_and}
-use Rattle.gp_inputs.proofs.Loads.{stopped_so, program_stop, program_loads}
-use Rattle.gp_inputs.proofs.files.load_program.Goals as goal
+use Rattle.gp_reply.proofs.Loads.{stopped_so, program_stop, program_loads}
+use Rattle.gp_reply.proofs.files.load_program.Goals as goal
 
 pub returns-in_err-text-clause-loads : goal.returns-in_err-text-clause-loads
 returns-in_err-text-clause-loads g c =

@@ -1,6 +1,6 @@
-use Rattle.gp_inputs.specs.Loads.{too_long, unread}
-use Rattle.gp_inputs.proofs.Loads.{read_cause}
-use Rattle.gp_inputs.proofs.files.read_file.Goals as goal
+use Rattle.gp_reply.specs.Loads.{too_long, unread}
+use Rattle.gp_reply.proofs.Loads.{read_cause}
+use Rattle.gp_reply.proofs.files.read_file.Goals as goal
 
 pub returns-in-Err-TooLong-clause-reads : goal.returns-in-Err-TooLong-clause-reads
 returns-in-Err-TooLong-clause-reads g c =

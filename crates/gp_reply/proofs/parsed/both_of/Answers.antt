@@ -1,7 +1,7 @@
 use Rattle.std.proofs.lemmas.Result.{err_from_is_err_and}
-use Rattle.gp_inputs.proofs.Loads.{stopped_so}
-use Rattle.gp_inputs.proofs.Faults.{in_program_stop, in_host_stop}
-use Rattle.gp_inputs.proofs.parsed.both_of.Goals as goal
+use Rattle.gp_reply.proofs.Loads.{stopped_so}
+use Rattle.gp_reply.proofs.Faults.{in_program_stop, in_host_stop}
+use Rattle.gp_reply.proofs.parsed.both_of.Goals as goal
 
 pub returns-in_err-program : goal.returns-in_err-program
 returns-in_err-program c =

@@ -1,5 +1,5 @@
-use Rattle.gp_inputs.proofs.Faults.{program_faults}
-use Rattle.gp_inputs.proofs.parsed.program_of.Goals as goal
+use Rattle.gp_reply.proofs.Faults.{program_faults}
+use Rattle.gp_reply.proofs.parsed.program_of.Goals as goal
 
 pub returns-in-Err : goal.returns-in-Err
 returns-in-Err c = rw c.program_refused.ensures (program_faults _ _ c.in-Err.ensures)
