@@ -4,7 +4,6 @@ use Rattle.std.specs.Prelude.{◌⊎◌, Option, Result, Ok, Err}
 use Rattle.std.specs.declared.vec.Vec.{Vec}
 use Rattle.std.specs.declared.alloc.Global.{Global}
 use Rattle.gp_memory.specs.Free.{Free}
-use Rattle.gp_memory.specs.declared.refusal.NoMemory.{NoMemory}
 use Rattle.gp_io.specs.Outside.{Content, KnownFiles, Rose, LacksFile}
 use Rattle.gp_values.specs.Names.{Name}
 use Rattle.gp_values.specs.Graph.{Graph as AnyGraph}
@@ -15,7 +14,6 @@ use Rattle.gp_syntax.specs.Run as meant
 use Rattle.gp_trace.specs.declared.version.Version.{Version}
 use Rattle.gp_script.specs.declared.line.Line.{Line}
 use Rattle.gp_graph.specs.declared.graph.Graph.{Graph}
-use Rattle.gp_reply.specs.declared.said.Said.{Said}
 use Rattle.gp_reply.specs.declared.said.Stop.{Stop}
 use Rattle.gp_reply.specs.declared.said.Stop.TheVariants as stops
 use Rattle.gp_reply.specs.Texts as texts

@@ -4,7 +4,6 @@ use Rattle.std.specs.declared.vec.Vec.{Vec}
 use Rattle.std.specs.declared.alloc.Global.{Global}
 use Rattle.gp_io.specs.Outside.{KnownFiles}
 use Rattle.gp_memory.specs.Free.{Free}
-use Rattle.gp_memory.specs.declared.refusal.NoMemory.{NoMemory}
 use Rattle.gp_values.specs.Names.{Name}
 use Rattle.gp_graph.specs.declared.graph.Graph.{Graph}
 use Rattle.gp_syntax.specs.declared.found.Item.{Item}
@@ -24,7 +23,6 @@ use Rattle.gp_script.specs.Script.{IsScript}
 use Rattle.gp_script.specs.Script as script
 use Rattle.gp_reply.specs.declared.said.Stop.{Stop}
 use Rattle.gp_reply.specs.declared.said.Stop.TheVariants as stops
-use Rattle.gp_reply.specs.declared.said.Said.{Said}
 use Rattle.gp_reply.specs.Texts as texts
 use Rattle.gp_reply.specs.Said.{said_of}
 use Rattle.gp_reply.specs.Inputs.{HasBytes, HasLongFile, CannotRead, TellsProgram, HasProgram, HasProgramTree, HasHost, HasTrace, HasScript, StopsAtProgram, StopsAtTree, StopsAtHost, StopsAtTrace, StopsAtScript, OfBoth}
