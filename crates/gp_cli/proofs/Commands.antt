@@ -8,7 +8,7 @@ use Rattle.gp_syntax.specs.Run.{Program}
 use Rattle.gp_words.specs.CommandLine.{Command, run, demo, check, fmt, step, command_of}
 use Rattle.gp_reply.specs.Texts.{Said, usage}
 use Rattle.gp_cli.specs.Answer.{Comes, RunAnswers, Checks, CheckAnswers, FmtAnswers, Steps, StepAnswers, DemoAnswers, IsTrue, of_words, of_run, of_demo, of_check, of_fmt, of_step}
-use Rattle.gp_inputs.specs.Inputs.{OfBoth}
+use Rattle.gp_reply.specs.Inputs.{OfBoth}
 use Rattle.gp_cli.specs.Completes.{files_of}
 
 abbrev pub Answers : Command → KnownFiles → KnownFiles → Said → Type 0

@@ -14,9 +14,9 @@ use Rattle.gp_reply.specs.declared.said.Stop.{Stop}
 use Rattle.gp_reply.specs.declared.said.Stop.TheVariants as stops
 use Rattle.gp_reply.specs.Texts as texts
 use Rattle.gp_reply.specs.Said.{said_of}
-use Rattle.gp_inputs.specs.Inputs.{TellsProgram}
+use Rattle.gp_reply.specs.Inputs.{TellsProgram}
 use Rattle.gp_cli.specs.Answer.{Comes, demo_program, demo_host, demo_bound, demo_choices, DemoAnswers, demo_program_is_bad, demo_host_is_bad, demo_runs}
-use Rattle.gp_inputs.specs.Loads.{FaultOfBoth, in_program, in_host, BothOrFaults}
+use Rattle.gp_reply.specs.Loads.{FaultOfBoth, in_program, in_host, BothOrFaults}
 use Rattle.gp_cli.specs.inside.Parts.{MakesBoth, SaysOfRun}
 use Rattle.gp_cli.proofs.Loads.{IfSettled}
 

@@ -12,11 +12,11 @@ use Rattle.gp_reply.specs.declared.said.Said.{Said}
 use Rattle.gp_reply.specs.declared.said.Stop.{Stop}
 use Rattle.gp_reply.specs.declared.said.Stop.TheVariants as stops
 use Rattle.gp_reply.specs.Texts as texts
-use Rattle.gp_inputs.specs.Inputs.{risen}
+use Rattle.gp_reply.specs.Inputs.{risen}
 use Rattle.gp_cli.specs.Answer.{Checks, at_trace, at_result, is_derivation, is_none}
 use Rattle.gp_cli.specs.inside.Parts.{verdict}
 use Rattle.gp_reply.specs.Said.{said_of, IsAnswer, or_stopped}
-use Rattle.gp_inputs.proofs.Loads.{bytes_since, has_trace_since, result_since, stopped_so, trace_since}
+use Rattle.gp_reply.proofs.Loads.{bytes_since, has_trace_since, result_since, stopped_so, trace_since}
 
 -- ---- what holds of an answer, where memory is not refused
 

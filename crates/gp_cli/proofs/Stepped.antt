@@ -13,7 +13,7 @@ use Rattle.gp_words.specs.CommandLine.{StepCommand}
 use Rattle.gp_reply.specs.declared.said.Said.{Said}
 use Rattle.gp_reply.specs.declared.said.Said.TheVariants as code
 use Rattle.gp_reply.specs.Texts as texts
-use Rattle.gp_inputs.specs.Inputs.{HasScript}
+use Rattle.gp_reply.specs.Inputs.{HasScript}
 use Rattle.gp_cli.specs.Answer.{Comes, gives, fails, is_spent, is_faulty, IsEndless, Steps, walks, is_endless}
 use Rattle.gp_reply.specs.Said.{said_of, HasJournal, BeginsAt, WalksSaid}
 

@@ -7,10 +7,9 @@ ghost use Rattle.gp_cli.specs.inside.Parts.{verdict, ChecksBoth, ChecksFiles};
 
 use gp_derivation::is_derivation;
 use gp_graph::Graph;
-use gp_inputs::{load_both, load_result, load_trace};
 use gp_io::Files;
 use gp_memory::NoMemory;
-use gp_reply::{Said, Stop};
+use gp_reply::{Said, Stop, load_both, load_result, load_trace};
 use gp_syntax::Program;
 use gp_words::CheckCommand;
 use std::alloc::Global;

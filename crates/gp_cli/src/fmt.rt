@@ -8,10 +8,9 @@ ghost use Rattle.gp_reply.specs.Said.{said_of};
 ghost use Rattle.gp_cli.specs.inside.Parts.{FormatsFile};
 
 use gp_fmt::print_program;
-use gp_inputs::load_tree;
 use gp_io::Files;
 use gp_memory::NoMemory;
-use gp_reply::{Said, Stop, or_stopped};
+use gp_reply::{Said, Stop, load_tree, or_stopped};
 use gp_syntax::Ast;
 use gp_words::FmtCommand;
 use std::alloc::Global;

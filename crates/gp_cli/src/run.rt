@@ -5,7 +5,7 @@ ghost use Rattle.gp_syntax.specs.Tree.{program_of_tree};
 ghost use Rattle.gp_cli.specs.Answer.{Comes};
 ghost use Rattle.gp_values.specs.Names.{Name as AnyName};
 ghost use Rattle.gp_reply.specs.Texts.{number_fault as number_said};
-ghost use Rattle.gp_inputs.specs.Loads.{names_of};
+ghost use Rattle.gp_reply.specs.Loads.{names_of};
 ghost use Rattle.gp_reply.specs.Said.{said_of, HasJournal, BeginsAt};
 
 use crate::choices::Choices;

@@ -4,9 +4,8 @@ ghost use Rattle.gp_words.specs.Told.{step_now};
 ghost use Rattle.gp_cli.specs.inside.Parts.{StepsFiles};
 
 use crate::run::run;
-use gp_inputs::{load_both, load_script};
 use gp_io::Files;
-use gp_reply::{Said, Stop, or_stopped};
+use gp_reply::{Said, Stop, load_both, load_script, or_stopped};
 use gp_system::Crew;
 use gp_words::StepCommand;
 use opt_worker::Pacing;

@@ -1,4 +1,5 @@
 pub mod Examples
+pub mod Puts
 pub mod Drawing
 pub mod NodeLines
 pub mod Grids

@@ -11,6 +11,7 @@ mod kind;
 pub mod laws;
 mod lines;
 mod nodes;
+mod sheet;
 mod texts;
 
 pub use kind::Kind;

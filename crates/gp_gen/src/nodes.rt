@@ -1,38 +1,37 @@
 //! The nodes of hosts.
 
-ghost use Rattle.std.specs.Prelude.{◌≡◌, ◌++◌, map, flat_map, OnOk};
+ghost use Rattle.std.specs.Prelude.{map, flat_map};
 ghost use Rattle.gp_gen.specs.Host.{IsSize, numbers_below, plain_node, grid_node, host_nodes};
 ghost use Rattle.gp_gen.specs.Texts.{node_line};
+ghost use Rattle.gp_gen.specs.inside.Puts.{Puts};
 
 use crate::kind::Kind;
-use crate::lines::write_node;
-use gp_memory::NoMemory;
+use crate::lines::put_node;
+use crate::sheet::Sheet;
 
-pub(crate) fn write_nodes(kind: Kind, size: u64, text: &mut Vec<u8>) -> Result<(), NoMemory>
+pub(crate) fn put_nodes(kind: Kind, size: u64, sheet: &mut Sheet)
     requires { IsSize kind size }
-    ensures { OnOk result (text.new.items ≡ text.old.items ++ flat_map node_line (host_nodes kind size)) }
+    ensures { Puts sheet.old sheet.new (flat_map node_line (host_nodes kind size)) }
 {
     match kind {
-        Kind::Closure => write_plain_nodes(size, text),
-        Kind::Colour => write_grid_nodes(size * size, text),
-        Kind::Tree => write_node(0, size, false, text),
+        Kind::Closure => put_plain_nodes(size, sheet),
+        Kind::Colour => put_grid_nodes(size * size, sheet),
+        Kind::Tree => put_node(0, size, false, sheet),
     }
 }
 
-fn write_plain_nodes(count: u64, text: &mut Vec<u8>) -> Result<(), NoMemory>
-    ensures { OnOk result (text.new.items ≡ text.old.items ++ flat_map node_line (map plain_node (numbers_below count))) }
+fn put_plain_nodes(count: u64, sheet: &mut Sheet)
+    ensures { Puts sheet.old sheet.new (flat_map node_line (map plain_node (numbers_below count))) }
 {
     for k in 0..count {
-        write_node(k, k, false, text)?;
+        put_node(k, k, false, sheet);
     }
-    Ok(())
 }
 
-fn write_grid_nodes(count: u64, text: &mut Vec<u8>) -> Result<(), NoMemory>
-    ensures { OnOk result (text.new.items ≡ text.old.items ++ flat_map node_line (map grid_node (numbers_below count))) }
+fn put_grid_nodes(count: u64, sheet: &mut Sheet)
+    ensures { Puts sheet.old sheet.new (flat_map node_line (map grid_node (numbers_below count))) }
 {
     for k in 0..count {
-        write_node(k, k, k == 0, text)?;
+        put_node(k, k, k == 0, sheet);
     }
-    Ok(())
 }

@@ -1,13 +1,13 @@
 //! The two texts of a workload.
 
-ghost use Rattle.std.specs.Prelude.{◌≡◌, ◌++◌, IfOk};
+ghost use Rattle.std.specs.Prelude.{◌≡◌, IfOk};
 ghost use Rattle.gp_gen.specs.Host.{IsSize};
 ghost use Rattle.gp_gen.specs.Texts.{program_text, host_text};
 
-use crate::edges::write_edges;
+use crate::edges::put_edges;
 use crate::kind::Kind;
-use crate::lines::write;
-use crate::nodes::write_nodes;
+use crate::nodes::put_nodes;
+use crate::sheet::Sheet;
 use gp_memory::NoMemory;
 use std::alloc::Global;
 
@@ -57,13 +57,13 @@ fn host_text(alloc: Global, kind: Kind, size: u64, seed: u64) -> Result<Vec<u8>,
     requires { IsSize kind size }
     ensures { IfOk result (λ t. t.items ≡ host_text kind size seed) }
 {
-    let mut text = Vec::with_capacity(alloc, room(kind, size))?;
-    write(b"[\n", &mut text)?;
-    write_nodes(kind, size, &mut text)?;
-    write(b"|\n", &mut text)?;
-    write_edges(kind, size, seed, &mut text)?;
-    write(b"]\n", &mut text)?;
-    Ok(text)
+    let mut sheet = Sheet::new(Vec::with_capacity(alloc, room(kind, size))?);
+    sheet.put(b"[\n");
+    put_nodes(kind, size, &mut sheet);
+    sheet.put(b"|\n");
+    put_edges(kind, size, seed, &mut sheet);
+    sheet.put(b"]\n");
+    sheet.into_text()
 }
 
 // How many bytes a host takes, about.

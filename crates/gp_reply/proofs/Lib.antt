@@ -1,3 +1,6 @@
 pub mod Counting
 pub mod Depths
 pub mod Shown
+pub mod Faults
+pub mod Held
+pub mod Loads

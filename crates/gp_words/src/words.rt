@@ -29,8 +29,8 @@ pub fn command_of<'a>(alloc: Global, words: &'a [String]) -> Result<Option<Comma
     ensures command { IfOk result (λ o. option_map command_now o ≡ spec.command_of (map string_bytes words.entry.now)) }
     ensures size { IfOk result (λ o. IfSome o HasSize) }
 {
-    let mut command = top_command(alloc)?;
-    match command.try_get_matches_from_mut(words) {
+    let command = top_command(alloc)?;
+    match command.try_get_matches_from(words) {
         Ok(matches) => Ok(command_below(&matches)),
         Err(error) => match error.kind() {
             ErrorKind::OutOfMemory => Err(NoMemory),

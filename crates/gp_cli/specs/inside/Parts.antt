@@ -17,10 +17,10 @@ use Rattle.gp_reply.specs.declared.said.Said.{Said}
 use Rattle.gp_reply.specs.declared.said.Said.TheVariants as code
 use Rattle.gp_reply.specs.Texts as texts
 use Rattle.gp_reply.specs.Said.{said_of}
-use Rattle.gp_inputs.specs.Inputs.{TellsProgram}
+use Rattle.gp_reply.specs.Inputs.{TellsProgram}
 use Rattle.gp_cli.specs.Answer.{RunAnswers, demo_program, demo_host, DemoAnswers, Checks, CheckAnswers, FmtAnswers, StepAnswers}
 use Rattle.gp_cli.specs.Written.{TakesAll, IsCutShort}
-use Rattle.gp_inputs.specs.Loads.{names_of}
+use Rattle.gp_reply.specs.Loads.{names_of}
 
 -- ---- what commands come to
 

@@ -1,9 +1,9 @@
 use Rattle.std.proofs.lemmas.Result.{err_from_is_err_and}
 use Rattle.gp_words.specs.Told.{check_now}
 use Rattle.gp_cli.specs.Answer.{Checks, CheckAnswers}
-use Rattle.gp_inputs.specs.Inputs.{behind_both}
-use Rattle.gp_inputs.specs.Loads.{StopsAtBoth}
-use Rattle.gp_inputs.proofs.Loads.{stopped_so, both_stop}
+use Rattle.gp_reply.specs.Inputs.{behind_both}
+use Rattle.gp_reply.specs.Loads.{StopsAtBoth}
+use Rattle.gp_reply.proofs.Loads.{stopped_so, both_stop}
 use Rattle.gp_cli.proofs.Loads.{settled_so, checks_since}
 use Rattle.gp_cli.proofs.check.check.Goals as goal
 

@@ -1,9 +1,9 @@
 use Rattle.std.proofs.Common.{sym, subst}
 use Rattle.std.proofs.lemmas.Result.{err_from_is_err_and}
 use Rattle.gp_words.specs.Told.{fmt_now}
-use Rattle.gp_inputs.specs.Inputs.{StopsAtTree}
+use Rattle.gp_reply.specs.Inputs.{StopsAtTree}
 use Rattle.gp_cli.specs.Answer.{FmtAnswers, stops, formats}
-use Rattle.gp_inputs.proofs.Loads.{stopped_so}
+use Rattle.gp_reply.proofs.Loads.{stopped_so}
 use Rattle.gp_cli.proofs.Loads.{outcome_so}
 use Rattle.gp_cli.proofs.fmt.fmt.Goals as goal
 

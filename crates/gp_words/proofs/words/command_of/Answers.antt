@@ -9,7 +9,7 @@ returns-in-Ok-clause-command c =
     let words = map string_bytes c.args.words.now in
     let is_gp2 = c.in_ok-command.ensures in
     let none = c.in-Ok.ensures.kinds (ap is_simple_and_free is_gp2 ∙ simple_and_free) in
-    let found = c.in-Ok.ensures.ok.2 (ap is_simple is_gp2 ∙ simple) in
+    let found = c.in-Ok.ensures.matches (ap is_simple is_gp2 ∙ simple) in
     c.command_below.ensures.command
     ∙ taken words (subcommand_rows_of c.in-Ok.matches) (subst (λ (a : App). fault_of a words ≡ []) is_gp2 none) (found.1 ∙ ap (λ (a : App). subcommand_of a words) is_gp2)
 

@@ -1,0 +1,7 @@
+use Rattle.gp_gen.specs.Host.{grid_edge}
+use Rattle.gp_gen.specs.inside.Draws.{Draws}
+use Rattle.gp_gen.proofs.Grids.{first_column_pairs}
+use Rattle.gp_gen.proofs.edges.put_between_rows.Given as goal
+
+abbrev pub invariant-loop-column : goal.invariant-loop-column
+invariant-loop-column l = Draws grid_edge (first_column_pairs l.size l.row l.column) l.first_edge l.initial.sheet l.sheet l.initial.generator l.generator

@@ -1,6 +1,0 @@
-use Rattle.gp_gen.specs.Host.{numbers_below, ring_edge}
-use Rattle.gp_gen.specs.inside.Draws.{Draws}
-use Rattle.gp_gen.proofs.edges.write_ring.Given as goal
-
-abbrev pub invariant-loop-i : goal.invariant-loop-i
-invariant-loop-i l = Draws (ring_edge l.size) (numbers_below l.i) 0 l.initial.text.items l.text.items l.initial.generator l.generator

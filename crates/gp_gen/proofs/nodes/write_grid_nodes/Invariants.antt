@@ -1,8 +1,0 @@
-use Rattle.std.proofs.Common.{◌≡◌, ◌++◌, map}
-use Rattle.std.specs.Prelude.{flat_map}
-use Rattle.gp_gen.specs.Host.{numbers_below, grid_node}
-use Rattle.gp_gen.specs.Texts.{node_line}
-use Rattle.gp_gen.proofs.nodes.write_grid_nodes.Given as goal
-
-abbrev pub invariant-loop-k : goal.invariant-loop-k
-invariant-loop-k l = l.text.items ≡ l.initial.text.items ++ flat_map node_line (map grid_node (numbers_below l.k))
