@@ -19,7 +19,7 @@ make-requires-clause-keeps c =
     let g = c.args.graph.now.graph in
     let p = changes_held g c.in_ok-changes.changes in
     rw c.in_ok-reserve.ensures.graph
-    (keeps_held (rule_of_tree c.args.parts.now) g c.args.found.now (assigned_of c.args.assignment.now) (numbered g c.next_numbers-sound.ensures.sound) c.requires.applies.is_match c.requires.well_formed p c.in_ok-changes.ensures c.in_ok-changes.changes.kept_edges.items refl)
+    (keeps_held (rule_of_tree c.args.parts.now) g c.args.found.now (assigned_of c.args.assignment.now) (numbered g c.next_numbers-sound.ensures.sound) c.requires.applies.is_match c.requires.well_formed p c.in_ok-changes.ensures c.in_ok-changes.changes.joined.kept.items refl)
 
 pub returns-clause-ok : goal.returns-clause-ok
 returns-clause-ok c =
