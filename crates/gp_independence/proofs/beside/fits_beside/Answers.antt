@@ -2,9 +2,9 @@ use Rattle.std.proofs.Common.{Bool, true, map, sym, subst}
 use Rattle.gp_syntax.specs.Rule.{Found}
 use Rattle.gp_syntax.specs.Tree.{rule_of_tree}
 use Rattle.gp_independence.specs.Laws.{IsApplying}
-use Rattle.gp_batch.specs.inside.Gathered.{IsBeside}
-use Rattle.gp_batch.proofs.Others.{beside_more, fits_all}
-use Rattle.gp_batch.proofs.beside.fits_beside.Goals as goal
+use Rattle.gp_independence.specs.inside.Gathered.{IsBeside}
+use Rattle.gp_independence.proofs.Others.{beside_more, fits_all}
+use Rattle.gp_independence.proofs.beside.fits_beside.Goals as goal
 
 pub is_beside-requires-clause-member : goal.is_beside-requires-clause-member
 is_beside-requires-clause-member c =

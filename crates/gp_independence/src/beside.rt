@@ -3,10 +3,10 @@
 ghost use Rattle.std.specs.Prelude.{◌≡◌, All, IfOk, map, true};
 ghost use Rattle.gp_syntax.specs.Tree.{rule_of_tree};
 ghost use Rattle.gp_independence.specs.Laws.{IsApplying};
-ghost use Rattle.gp_batch.specs.inside.Gathered.{Fits, IsBeside};
+ghost use Rattle.gp_independence.specs.inside.Gathered.{Fits, IsBeside};
 
 use gp_graph::Graph;
-use gp_independence::independent;
+use crate::independence::independent;
 use gp_memory::NoMemory;
 use gp_plan::RuleSet;
 use gp_syntax::Found;

@@ -1,7 +1,7 @@
 use Rattle.std.proofs.Common.{sym, ◌∙◌}
 use Rattle.std.specs.Cmp.Lexicographic.{same_text}
-use Rattle.gp_batch.proofs.Others.{same_bare}
-use Rattle.gp_batch.proofs.beside.is_same.Goals as goal
+use Rattle.gp_independence.proofs.Others.{same_bare}
+use Rattle.gp_independence.proofs.beside.is_same.Goals as goal
 
 pub returns : goal.returns
 returns c = λ t.

@@ -14,8 +14,8 @@ use Rattle.gp_syntax.specs.Step.{Applies}
 use Rattle.gp_syntax.specs.Tree.{rule_of_tree}
 use Rattle.gp_independence.specs.Independent.{Independent}
 use Rattle.gp_independence.specs.Laws.{AreIndependent, IsApplying}
-use Rattle.gp_batch.specs.Held.{Meets}
-use Rattle.gp_batch.specs.inside.Gathered.{IsBeside, Fits}
+use Rattle.gp_independence.specs.Held.{Meets}
+use Rattle.gp_independence.specs.inside.Gathered.{IsBeside, Fits}
 
 -- ---- matches that are one
 
