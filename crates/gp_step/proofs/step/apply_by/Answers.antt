@@ -1,4 +1,5 @@
-use Rattle.std.proofs.Common.{refl, ap, ◌∙◌}
+use Rattle.std.proofs.Common.{refl, ap, ◌∙◌, arith}
+use Rattle.std.proofs.lemmas.Grind.{common_steps}
 use Rattle.gp_values.specs.Graph.{Graph}
 use Rattle.gp_syntax.specs.Assigned.{assigned_of}
 use Rattle.gp_syntax.specs.Tree.{rule_of_tree}
@@ -26,3 +27,15 @@ returns-clause-ok c =
     let g = c.args.graph.now.graph in
     let m = makes_step (rule_of_tree c.args.parts.now) g c.args.found.now (assigned_of c.args.assignment.now) (numbered g c.next_numbers-sound.ensures.sound) c.requires.applies.is_match c.requires.well_formed (changes_held g c.in_ok-changes.changes) c.in_ok-changes.ensures in
     c.make.ensures.graph ∙ ap (λ (h : Graph). made_by (changes_held h c.in_ok-changes.changes) h) c.in_ok-reserve.ensures.graph ∙ m.same
+
+pub make-requires-clause-none : goal.make-requires-clause-none
+make-requires-clause-none c = grind (arith, common_steps)
+
+pub make-requires-clause-spare : goal.make-requires-clause-spare
+make-requires-clause-spare c = grind (arith, common_steps)
+
+pub make-requires-clause-node_room : goal.make-requires-clause-node_room
+make-requires-clause-node_room c = grind (arith, common_steps)
+
+pub make-requires-clause-edge_room : goal.make-requires-clause-edge_room
+make-requires-clause-edge_room c = grind (arith, common_steps)
