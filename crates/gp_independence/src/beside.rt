@@ -5,8 +5,8 @@ ghost use Rattle.gp_syntax.specs.Tree.{rule_of_tree};
 ghost use Rattle.gp_independence.specs.Laws.{IsApplying};
 ghost use Rattle.gp_independence.specs.inside.Gathered.{Fits, IsBeside};
 
-use gp_graph::Graph;
 use crate::independence::independent;
+use gp_graph::Graph;
 use gp_memory::NoMemory;
 use gp_plan::RuleSet;
 use gp_syntax::Found;
