@@ -10,3 +10,5 @@ pub mod Written
 pub mod Asked
 pub mod Sizes
 pub mod Deciding
+pub mod Others
+pub mod Gathers

@@ -1,3 +1,5 @@
 pub mod Shared
 pub mod Size
 pub mod Tests
+pub mod Gathered
+pub mod Visiting

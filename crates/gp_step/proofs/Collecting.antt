@@ -1,6 +1,6 @@
 -- What is collected of the right side, item by item.
-use Rattle.std.proofs.Common.{◌≡◌, ℕ, suc, ◌+◌, ◌<◌, Bool, true, false, if◌then◌else◌, List, [], ◌∷◌, ◌++◌, length, get_or, drop, drop-cons, append_assoc, add-one, Option, Some, None, slice_get, slice_index, refl, sym, ap, subst, ◌∙◌, arith}
-use Rattle.std.proofs.lemmas.List.{at_drop_more}
+use Rattle.std.proofs.Common.{◌≡◌, ℕ, suc, ◌+◌, ◌<◌, ◌≤◌, Bool, true, false, if◌then◌else◌, List, [], ◌∷◌, ◌++◌, length, get_or, drop, drop-cons, append_assoc, add-one, Option, Some, None, slice_get, slice_index, refl, sym, ap, subst, ◌∙◌, arith}
+use Rattle.std.proofs.lemmas.List.{append-nil, at_drop_more, at_drop_all}
 use Rattle.gp_step.specs.Halves.{gone}
 use Rattle.gp_step.specs.inside.Changes.{kept_first, new_first}
 use Rattle.gp_step.proofs.Labels.{same_element}
@@ -54,6 +54,11 @@ pub from_item : {X : Type 0} {Y : Type 0} (F : List X → Y) (xs ys : List X) (k
 from_item F xs ys k q e l is =
     let h : q ≡ get_or xs k q = is ∙ ap (λ zs. get_or zs k q) e in
     at_drop_more F xs k q (subst (λ zs. k < length zs) e l) ∙ ap (λ z. F (z ∷ drop (k + 1) xs)) (sym h)
+
+-- and behind the last
+pub all_items : {X A : Type 0} (so whole : List A) (rest : List X → List A) (xs ys : List X) (k : ℕ) → ys ≡ xs → length ys ≤ k → rest [] ≡ [] → so ++ rest (drop k xs) ≡ whole → so ≡ whole
+all_items so whole rest xs ys k e l none same =
+    sym (append-nil so) ∙ sym (ap (λ zs. so ++ zs) (at_drop_all rest xs k (subst (λ zs. length zs ≤ k) e l) ∙ none)) ∙ same
 
 pub kept_more : {X : Type 0} (found : List ℕ) (o : Option ℕ) (x : X) (ps rest : List (ℕ × X)) → (ps ++ kept_first found o x []) ++ rest ≡ ps ++ kept_first found o x rest
 kept_more found (Some i) x ps rest = append_assoc ps ((slice_index found i, x) ∷ []) rest

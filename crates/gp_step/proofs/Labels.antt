@@ -1,7 +1,6 @@
 -- What a checked rule's right side asks for is there, where a match applies.
-use Rattle.std.proofs.Common.{◌≡◌, ℕ, ◌<◌, ◌||◌, Bool, List, [], ◌∷◌, map, length, get_or, Option, Some, None, IsSome, IfSome, IsSomeAnd, slice_get, slice_index, slice_index_or, false, refl, sym, ap, subst, ◌∙◌, arith}
+use Rattle.std.proofs.Common.{◌≡◌, ℕ, ◌<◌, List, map, length, get_or, Option, Some, None, IsSome, IfSome, IsSomeAnd, slice_get, slice_index, slice_index_or, false, refl, sym, ap, subst, ◌∙◌, arith}
 use Rattle.std.specs.Option.{option_map}
-use Rattle.std.specs.List.{list_any}
 use Rattle.std.proofs.lemmas.List.{get_or_default, length-map}
 use Rattle.std.proofs.lemmas.Option.{slice_get-map, get_or_from_slice_get}
 use Rattle.gp_values.specs.declared.marks.EdgeMark.TheVariants as edge_marks
@@ -143,9 +142,3 @@ module _ (scene : SceneView) (w : IsReady scene) where
       let n : length r.right_nodes ≡ length p.right_nodes = length-map p.right_nodes _ in
       let h = w.well_formed.right_ends k (right_edge_of q) (slice_get-map right_edge_of p.right_edges k ∙ ap (option_map right_edge_of) e) in
       (subst (λ z. q.source < z) n h.0, subst (λ z. q.target < z) n h.1)
-
--- ---- what is kept
-
-pub any_mapped : {A B : Type 0} (f : A → B) (t : B → Bool) (xs : List A) → list_any (λ x. t (f x)) xs ≡ list_any t (map f xs)
-any_mapped f t [] = refl
-any_mapped f t (x ∷ xs) = ap (λ b. t (f x) || b) (any_mapped f t xs)

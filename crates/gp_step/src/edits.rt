@@ -188,18 +188,17 @@ pub(crate) fn cut_edges(graph: &mut Graph, taken: &mut Vec<Inverse>, edges: &[u6
 }
 
 /// Keeps these edges, in order.
-pub(crate) fn keep_edges(graph: &mut Graph, taken: &mut Vec<Inverse>, kept: Vec<KeptEdge>)
-    requires there { MayKeepEdges kept.items graph.old.graph }
-    requires spare { vec_len taken.old + length kept.items ≤ vec_capacity taken.old }
-    ensures graph { graph.new.graph ≡ meant.keep_edges kept.items graph.old.graph }
+pub(crate) fn keep_edges(graph: &mut Graph, taken: &mut Vec<Inverse>, kept: &mut Vec<KeptEdge>)
+    requires there { MayKeepEdges kept.old.items graph.old.graph }
+    requires spare { vec_len taken.old + length kept.old.items ≤ vec_capacity taken.old }
+    ensures graph { graph.new.graph ≡ meant.keep_edges kept.old.items graph.old.graph }
     ensures undo { KeepsUndo (reverse taken.old.items) graph.old.graph (reverse taken.new.items) graph.new.graph }
-    ensures room { vec_capacity taken.old - vec_len taken.old ≤ (vec_capacity taken.new - vec_len taken.new) + length kept.items }
+    ensures room { vec_capacity taken.old - vec_len taken.old ≤ (vec_capacity taken.new - vec_len taken.new) + length kept.old.items }
     ensures node_room { graph.new.node_room ≡ graph.old.node_room }
     ensures edge_room { graph.new.edge_room ≡ graph.old.edge_room }
 {
-    let mut left = kept;
-    left.reverse();
-    'keeps: while let Some(edge) = left.pop() {
+    kept.reverse();
+    'keeps: while let Some(edge) = kept.pop() {
         keep_edge(graph, taken, edge);
     }
 }
@@ -220,45 +219,42 @@ pub(crate) fn cut_nodes(graph: &mut Graph, taken: &mut Vec<Inverse>, nodes: &[u6
 }
 
 /// Gives these nodes what they are to carry, in order.
-pub(crate) fn relabel_nodes(graph: &mut Graph, taken: &mut Vec<Inverse>, kept: Vec<Kept>)
-    requires there { MayRelabelNodes (kept_pairs kept.items) graph.old.graph }
-    requires spare { vec_len taken.old + length kept.items ≤ vec_capacity taken.old }
-    ensures graph { graph.new.graph ≡ meant.relabel_nodes (kept_pairs kept.items) graph.old.graph }
+pub(crate) fn relabel_nodes(graph: &mut Graph, taken: &mut Vec<Inverse>, kept: &mut Vec<Kept>)
+    requires there { MayRelabelNodes (kept_pairs kept.old.items) graph.old.graph }
+    requires spare { vec_len taken.old + length kept.old.items ≤ vec_capacity taken.old }
+    ensures graph { graph.new.graph ≡ meant.relabel_nodes (kept_pairs kept.old.items) graph.old.graph }
     ensures undo { KeepsUndo (reverse taken.old.items) graph.old.graph (reverse taken.new.items) graph.new.graph }
     ensures node_room { graph.new.node_room ≡ graph.old.node_room }
     ensures edge_room { graph.new.edge_room ≡ graph.old.edge_room }
 {
-    let mut left = kept;
-    left.reverse();
-    'relabels: while let Some(node) = left.pop() {
+    kept.reverse();
+    'relabels: while let Some(node) = kept.pop() {
         relabel_node(graph, taken, node);
     }
 }
 
 /// Adds nodes that carry this, in order.
-pub(crate) fn add_nodes(graph: &mut Graph, nodes: Vec<Carried>)
-    requires place { length nodes.items ≤ graph.old.node_room }
-    ensures graph { graph.new.graph ≡ with_nodes (nodes_of nodes.items) graph.old.graph }
-    ensures undo { KeepsUndoBehind (length nodes.items) inverses.DropNode graph.old.graph graph.new.graph }
+pub(crate) fn add_nodes(graph: &mut Graph, nodes: &mut Vec<Carried>)
+    requires place { length nodes.old.items ≤ graph.old.node_room }
+    ensures graph { graph.new.graph ≡ with_nodes (nodes_of nodes.old.items) graph.old.graph }
+    ensures undo { KeepsUndoBehind (length nodes.old.items) inverses.DropNode graph.old.graph graph.new.graph }
     ensures edge_room { graph.new.edge_room ≡ graph.old.edge_room }
 {
-    let mut waiting = nodes;
-    waiting.reverse();
-    'adds: while let Some(node) = waiting.pop() {
+    nodes.reverse();
+    'adds: while let Some(node) = nodes.pop() {
         add_node(graph, node);
     }
 }
 
 /// Adds these edges, in order.
-pub(crate) fn add_edges(graph: &mut Graph, edges: Vec<MadeEdge>)
-    requires there { MayPutEdges (edges_of edges.items) graph.old.graph }
-    requires place { length edges.items ≤ graph.old.edge_room }
-    ensures graph { graph.new.graph ≡ with_edges (edges_of edges.items) graph.old.graph }
-    ensures undo { KeepsUndoBehind (length edges.items) inverses.DropEdge graph.old.graph graph.new.graph }
+pub(crate) fn add_edges(graph: &mut Graph, edges: &mut Vec<MadeEdge>)
+    requires there { MayPutEdges (edges_of edges.old.items) graph.old.graph }
+    requires place { length edges.old.items ≤ graph.old.edge_room }
+    ensures graph { graph.new.graph ≡ with_edges (edges_of edges.old.items) graph.old.graph }
+    ensures undo { KeepsUndoBehind (length edges.old.items) inverses.DropEdge graph.old.graph graph.new.graph }
 {
-    let mut left = edges;
-    left.reverse();
-    'adds: while let Some(edge) = left.pop() {
+    edges.reverse();
+    'adds: while let Some(edge) = edges.pop() {
         add_edge(graph, edge);
     }
 }

@@ -59,7 +59,6 @@ pub(crate) struct MadeEdge {
 
 /// The nodes of the right side: the numbers of their images, in order, and what those of the interface and the new ones
 /// are to carry.
-#[derive(Drop)]
 pub(crate) struct Placed {
     pub(crate) images: Vec<u64>,
     pub(crate) kept: Vec<Kept>,
@@ -67,11 +66,32 @@ pub(crate) struct Placed {
     next: u64,
 }
 
+impl Drop for Placed {
+    fn drop(self) {
+        let Placed {
+            images,
+            kept,
+            added,
+            next: _,
+        } = self;
+        drop(images);
+        drop(kept);
+        drop(added);
+    }
+}
+
 /// The edges of the right side: what those that are kept are to carry, and the new ones.
-#[derive(Drop)]
 pub(crate) struct Joined {
     pub(crate) kept: Vec<KeptEdge>,
     pub(crate) added: Vec<MadeEdge>,
+}
+
+impl Drop for Joined {
+    fn drop(self) {
+        let Joined { kept, added } = self;
+        drop(kept);
+        drop(added);
+    }
 }
 
 // The value of a right label, which has one where the match applies.
@@ -161,14 +181,16 @@ fn place(
     match origin {
         Some(i) => {
             let number = found.nodes()[i as usize];
-            placed.images.push(number)?;
             placed.kept.push(Kept { number, carried })?;
+            placed.images.push(number)?;
         }
         None => {
-            // A graph of 2^64 nodes is not to be had.
-            let next = placed.next.checked_add(1).ok_or(NoMemory)?;
-            placed.images.push(placed.next)?;
+            let Some(next) = placed.next.checked_add(1) else {
+                // A graph of 2^64 nodes is not to be had.
+                return Err(NoMemory);
+            };
             placed.added.push(carried)?;
+            placed.images.push(placed.next)?;
             placed.next = next;
         }
     }
@@ -218,7 +240,7 @@ fn is_exchanged(found: &Found, q: &RightEdge) -> bool
         Some(i) => found.edges()[i as usize].reversed,
         None => false,
     };
-    q.bidirectional && ((reversed && !q.turned) || (q.turned && !reversed))
+    q.bidirectional && reversed != q.turned
 }
 
 // The edge that a right edge makes.

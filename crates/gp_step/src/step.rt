@@ -22,23 +22,24 @@ use std::alloc::Global;
 /// Makes the edits of a step, for which there is room, and keeps what takes them back.
 pub(crate) fn make(graph: &mut Graph, room: Vec<Inverse>, changes: Changes) -> Undo
     requires may { MayMake (changes_held graph.old.graph changes) graph.old.graph }
-    requires keeps { KeepsAs changes.kept_edges.items graph.old.graph (drop_edges changes.cut_edges.items graph.old.graph) }
+    requires keeps { KeepsAs changes.joined.kept.items graph.old.graph (drop_edges changes.cut_edges.items graph.old.graph) }
     requires none { room.items ≡ [] }
-    requires spare { length changes.cut_edges.items + length changes.kept_edges.items + length changes.cut_nodes.items + length changes.kept_nodes.items ≤ vec_capacity room }
-    requires node_room { length changes.new_nodes.items ≤ graph.old.node_room }
-    requires edge_room { length changes.new_edges.items ≤ graph.old.edge_room }
+    requires spare { length changes.cut_edges.items + length changes.joined.kept.items + length changes.cut_nodes.items + length changes.placed.kept.items ≤ vec_capacity room }
+    requires node_room { length changes.placed.added.items ≤ graph.old.node_room }
+    requires edge_room { length changes.joined.added.items ≤ graph.old.edge_room }
     ensures graph { graph.new.graph ≡ made_by (changes_held graph.old.graph changes) graph.old.graph }
     ensures undo { Undoes result graph.new.graph graph.old.graph }
 {
     let mut taken = room;
-    let nodes_made = changes.new_nodes.len() as u64;
-    let edges_made = changes.new_edges.len() as u64;
+    let mut changes = changes;
+    let nodes_made = changes.placed.added.len() as u64;
+    let edges_made = changes.joined.added.len() as u64;
     cut_edges(graph, &mut taken, &changes.cut_edges);
-    keep_edges(graph, &mut taken, changes.kept_edges);
+    keep_edges(graph, &mut taken, &mut changes.joined.kept);
     cut_nodes(graph, &mut taken, &changes.cut_nodes);
-    relabel_nodes(graph, &mut taken, changes.kept_nodes);
-    add_nodes(graph, changes.new_nodes);
-    add_edges(graph, changes.new_edges);
+    relabel_nodes(graph, &mut taken, &mut changes.placed.kept);
+    add_nodes(graph, &mut changes.placed.added);
+    add_edges(graph, &mut changes.joined.added);
     Undo::new(edges_made, nodes_made, taken)
 }
 
@@ -63,12 +64,12 @@ pub(crate) fn apply_by(
         assignment,
     };
     let changes = changes_of(alloc, &scene)?;
-    let edges = changes.cut_edges.len() + changes.kept_edges.len();
-    let nodes = changes.cut_nodes.len() + changes.kept_nodes.len();
+    let edges = changes.cut_edges.len() + changes.joined.kept.len();
+    let nodes = changes.cut_nodes.len() + changes.placed.kept.len();
     let room = Vec::with_capacity(alloc, edges + nodes)?;
     graph.reserve(
-        changes.new_nodes.len() as u64,
-        changes.new_edges.len() as u64,
+        changes.placed.added.len() as u64,
+        changes.joined.added.len() as u64,
     )?;
     Ok(make(graph, room, changes))
 }

@@ -13,8 +13,8 @@ use Rattle.gp_match.proofs.Judges.{judged_match}
 use Rattle.gp_plan.specs.Rules.{RuleSet, Share}
 use Rattle.gp_step.specs.Laws.{IsNumbered}
 use Rattle.gp_journal.specs.Trail.{Trail}
-use Rattle.gp_batch.specs.Held.{IsMember}
-use Rattle.gp_batch.specs.Held as batch
+use Rattle.gp_independence.specs.Held.{IsMember}
+use Rattle.gp_independence.specs.Held as batch
 use Rattle.opt_system.specs.Meaning.{applies}
 use Rattle.opt_system.specs.Batch.{AreHeld, NoneFits, IsFull, StartsWith}
 use Rattle.gp_system.specs.declared.goal.CallGoal.{CallGoal}

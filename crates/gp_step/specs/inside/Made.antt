@@ -56,9 +56,9 @@ pub record KeepsAs (ks : List KeptEdge) (g h : Graph) : Type 0 where
 abbrev pub changes_held : Graph → Changes → StepChanges
 changes_held g p = record {
   cut_edges = p.cut_edges.items;
-  kept_edges = kept_edge_pairs g p.kept_edges.items;
+  kept_edges = kept_edge_pairs g p.joined.kept.items;
   cut_nodes = p.cut_nodes.items;
-  kept_nodes = kept_pairs p.kept_nodes.items;
-  new_nodes = nodes_of p.new_nodes.items;
-  new_edges = edges_of p.new_edges.items;
+  kept_nodes = kept_pairs p.placed.kept.items;
+  new_nodes = nodes_of p.placed.added.items;
+  new_edges = edges_of p.joined.added.items;
 }

@@ -5,15 +5,15 @@ use Rattle.gp_step.proofs.edits.add_edges.Goals as goal
 
 pub adds-preserved : goal.adds-preserved
 adds-preserved c =
-    let one = one_longer c.adds.left.items c.pop.new.self.items c.in-Some.edge c.in-Some.ensures.items in
-    let m = put_next c.adds.left.items c.pop.new.self.items c.in-Some.edge c.adds.graph.graph c.add_edge.new.graph.graph _ c.in-Some.ensures.items c.add_edge.ensures.graph c.adds.invariant.may c.adds.invariant.graph in
+    let one = one_longer c.adds.edges.items c.pop.new.self.items c.in-Some.edge c.in-Some.ensures.items in
+    let m = put_next c.adds.edges.items c.pop.new.self.items c.in-Some.edge c.adds.graph.graph c.add_edge.new.graph.graph _ c.in-Some.ensures.items c.add_edge.ensures.graph c.adds.invariant.may c.adds.invariant.graph in
     record {
       may = m.may;
       graph = m.graph;
       left = omega (arith, c.adds.invariant.left);
-      undo = behind_next DropEdge (length c.args.edges.items) (length c.adds.left.items) (length c.pop.new.self.items) c.args.graph.now.graph c.adds.graph.graph c.add_edge.new.graph.graph one c.adds.invariant.left c.adds.invariant.undo c.add_edge.ensures.undo;
+      undo = behind_next DropEdge (length c.args.edges.now.items) (length c.adds.edges.items) (length c.pop.new.self.items) c.args.graph.now.graph c.adds.graph.graph c.add_edge.new.graph.graph one c.adds.invariant.left c.adds.invariant.undo c.add_edge.ensures.undo;
       room = omega (arith, c.adds.invariant.room, c.add_edge.ensures.edge_room);
     }
 
 pub returns-clause-undo : goal.returns-clause-undo
-returns-clause-undo c = behind_all DropEdge (length c.args.edges.items) (length c.adds.left.items) c.args.graph.now.graph c.adds.graph.graph (omega (arith, c.adds.left.ok.0, c.in_default.ensures.cases.0)) c.adds.invariant.undo
+returns-clause-undo c = behind_all DropEdge (length c.args.edges.now.items) (length c.adds.edges.items) c.args.graph.now.graph c.adds.graph.graph (omega (arith, c.adds.edges.ok.0, c.in_default.ensures.cases.0)) c.adds.invariant.undo

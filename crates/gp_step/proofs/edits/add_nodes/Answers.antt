@@ -5,14 +5,14 @@ use Rattle.gp_step.proofs.edits.add_nodes.Goals as goal
 
 pub adds-preserved : goal.adds-preserved
 adds-preserved c =
-    let one = one_longer c.adds.waiting.items c.pop.new.self.items c.in-Some.node c.in-Some.ensures.items in
+    let one = one_longer c.adds.nodes.items c.pop.new.self.items c.in-Some.node c.in-Some.ensures.items in
     record {
-      graph = added_next c.adds.waiting.items c.pop.new.self.items c.in-Some.node c.adds.graph.graph c.add_node.new.graph.graph _ c.in-Some.ensures.items c.add_node.ensures.graph c.adds.invariant.graph;
+      graph = added_next c.adds.nodes.items c.pop.new.self.items c.in-Some.node c.adds.graph.graph c.add_node.new.graph.graph _ c.in-Some.ensures.items c.add_node.ensures.graph c.adds.invariant.graph;
       left = omega (arith, c.adds.invariant.left);
-      undo = behind_next DropNode (length c.args.nodes.items) (length c.adds.waiting.items) (length c.pop.new.self.items) c.args.graph.now.graph c.adds.graph.graph c.add_node.new.graph.graph one c.adds.invariant.left c.adds.invariant.undo c.add_node.ensures.undo;
+      undo = behind_next DropNode (length c.args.nodes.now.items) (length c.adds.nodes.items) (length c.pop.new.self.items) c.args.graph.now.graph c.adds.graph.graph c.add_node.new.graph.graph one c.adds.invariant.left c.adds.invariant.undo c.add_node.ensures.undo;
       room = omega (arith, c.adds.invariant.room, c.add_node.ensures.node_room);
       edge_room = c.add_node.ensures.edge_room ∙ c.adds.invariant.edge_room;
     }
 
 pub returns-clause-undo : goal.returns-clause-undo
-returns-clause-undo c = behind_all DropNode (length c.args.nodes.items) (length c.adds.waiting.items) c.args.graph.now.graph c.adds.graph.graph (omega (arith, c.adds.waiting.ok.0, c.in_default.ensures.cases.0)) c.adds.invariant.undo
+returns-clause-undo c = behind_all DropNode (length c.args.nodes.now.items) (length c.adds.nodes.items) c.args.graph.now.graph c.adds.graph.graph (omega (arith, c.adds.nodes.ok.0, c.in_default.ensures.cases.0)) c.adds.invariant.undo

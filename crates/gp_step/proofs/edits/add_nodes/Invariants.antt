@@ -7,10 +7,10 @@ use Rattle.gp_step.proofs.edits.add_nodes.Given as goal
 
 abbrev pub invariant-adds : goal.invariant-adds
 invariant-adds l = record {
-  graph : with_nodes (nodes_of (reverse l.waiting.items)) l.graph.graph ≡ with_nodes (nodes_of l.fn.nodes.items) l.initial.graph.graph;
-  left : length l.waiting.items ≤ length l.fn.nodes.items;
-  undo : KeepsUndoBehind (length l.fn.nodes.items - length l.waiting.items) DropNode l.initial.graph.graph l.graph.graph;
-  room : length l.waiting.items ≤ l.graph.node_room;
+  graph : with_nodes (nodes_of (reverse l.nodes.items)) l.graph.graph ≡ with_nodes (nodes_of l.fn.nodes.items) l.initial.graph.graph;
+  left : length l.nodes.items ≤ length l.fn.nodes.items;
+  undo : KeepsUndoBehind (length l.fn.nodes.items - length l.nodes.items) DropNode l.initial.graph.graph l.graph.graph;
+  room : length l.nodes.items ≤ l.graph.node_room;
   edge_room : l.graph.edge_room ≡ l.initial.graph.edge_room;
 }
 

@@ -1,4 +1,5 @@
 use Rattle.std.proofs.Common.{◌∙◌, arith}
+use Rattle.std.proofs.lemmas.Grind.{common_steps}
 use Rattle.gp_step.proofs.Notes.{edge_dropped_next}
 use Rattle.gp_step.proofs.edits.cut_edges.Goals as goal
 
@@ -13,3 +14,9 @@ loop-e-preserved c =
       node_room = c.cut_edge.ensures.node_room ∙ c.loop-e.invariant.node_room;
       edge_room = c.cut_edge.ensures.edge_room ∙ c.loop-e.invariant.edge_room;
     }
+
+pub cut_edge-requires-clause-there : goal.cut_edge-requires-clause-there
+cut_edge-requires-clause-there c = grind (arith, common_steps)
+
+pub cut_edge-requires-clause-spare : goal.cut_edge-requires-clause-spare
+cut_edge-requires-clause-spare c = grind (arith, common_steps)

@@ -1,4 +1,5 @@
 use Rattle.std.proofs.Common.{◌∙◌, arith}
+use Rattle.std.proofs.lemmas.Grind.{common_steps}
 use Rattle.gp_step.proofs.Notes.{node_next, node_dropped_next}
 use Rattle.gp_step.proofs.edits.cut_nodes.Goals as goal
 
@@ -16,3 +17,6 @@ loop-n-preserved c =
       node_room = c.cut_node.ensures.node_room ∙ c.loop-n.invariant.node_room;
       edge_room = c.cut_node.ensures.edge_room ∙ c.loop-n.invariant.edge_room;
     }
+
+pub cut_node-requires-clause-spare : goal.cut_node-requires-clause-spare
+cut_node-requires-clause-spare c = grind (arith, common_steps)

@@ -1,4 +1,4 @@
-use Rattle.std.proofs.Common.{◌≡◌, ◌<◌, ◌+◌, ◌++◌, ◌∷◌, [], length, map, drop, Some, None, ap, subst, sym, ◌∙◌, arith}
+use Rattle.std.proofs.Common.{◌≡◌, ◌<◌, ◌+◌, ◌++◌, ◌∷◌, [], length, map, drop, Some, None, refl, ap, subst, sym, ◌∙◌, arith}
 use Rattle.std.proofs.lemmas.List.{map-append, append-nil}
 use Rattle.gp_values.specs.Graph.{Edge}
 use Rattle.gp_syntax.specs.Rule.{RightEdge, kept_edge}
@@ -7,7 +7,7 @@ use Rattle.gp_step.specs.inside.Changes.{kept_first, kept_of, new_first, new_of,
 use Rattle.gp_step.specs.inside.Made.{edge_of, edges_of, kept_edge_pair, kept_edge_pairs}
 use Rattle.gp_step.specs.inside.Scene.{SceneView, IsReady, rule_at, edge_made}
 use Rattle.gp_step.proofs.Labels.{edge_label, edge_origin, edge_ends, edge_keeps}
-use Rattle.gp_step.proofs.Collecting.{item_at, from_item, kept_more, new_more}
+use Rattle.gp_step.proofs.Collecting.{item_at, from_item, all_items, kept_more, new_more}
 use Rattle.gp_step.proofs.made.made_edges.Goals as goal
 use Rattle.gp_step.proofs.made.made_edges.Goals.{in-Some+in_ok-edge-in-Some+in_ok-push-in-Some, in-None+in_ok-edge-in-None+in_ok-push-in-None}
 
@@ -81,3 +81,15 @@ loop-q-preserved c =
           ∙ sym (from_item (λ qs. edges_of so.added.items ++ new_of keeps make (map right_edge_of qs)) c.args.scene.now.parts.right_edges c.as_slice-q-items.result.now c.loop-q.q-index q c.loop-q.invariant.items there c.q-item.is)
           ∙ c.loop-q.invariant.added;
     }
+
+pub returns-clause-kept : goal.returns-clause-kept
+returns-clause-kept c =
+    let s = c.args.scene.now in
+    all_items (kept_edge_pairs s.graph c.loop-q.joined.kept.items) _ (λ qs. kept_of s.found.edges (kept_edge (rule_at s)) (λ (z : RightEdge). carried_by (edge_made s c.args.images.now z)) (map right_edge_of qs)) s.parts.right_edges c.as_slice-q-items.result.now c.loop-q.q-index
+    c.loop-q.invariant.items c.loop-q-test.false refl c.loop-q.invariant.kept
+
+pub returns-clause-added : goal.returns-clause-added
+returns-clause-added c =
+    let s = c.args.scene.now in
+    all_items (edges_of c.loop-q.joined.added.items) _ (λ qs. new_of (kept_edge (rule_at s)) (edge_made s c.args.images.now) (map right_edge_of qs)) s.parts.right_edges c.as_slice-q-items.result.now c.loop-q.q-index
+    c.loop-q.invariant.items c.loop-q-test.false refl c.loop-q.invariant.added

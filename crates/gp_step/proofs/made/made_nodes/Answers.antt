@@ -1,4 +1,4 @@
-use Rattle.std.proofs.Common.{◌<◌, ◌+◌, ◌++◌, ◌∷◌, [], ℕ, List, IfSome, length, map, drop, append_assoc, ap, ap₂, subst, sym, ◌∙◌, arith}
+use Rattle.std.proofs.Common.{◌<◌, ◌+◌, ◌++◌, ◌∷◌, [], ℕ, List, IfSome, length, map, drop, append_assoc, refl, ap, ap₂, subst, sym, ◌∙◌, arith}
 use Rattle.gp_values.specs.Graph.{Node}
 use Rattle.gp_syntax.specs.Tree.{right_node_of}
 use Rattle.gp_step.specs.Halves.{image_of, images_from, next_of}
@@ -7,7 +7,7 @@ use Rattle.gp_step.specs.inside.Changes.{kept_first, kept_of, new_first, new_of}
 use Rattle.gp_step.specs.inside.Made.{kept_pairs, nodes_of}
 use Rattle.gp_step.specs.inside.Scene.{SceneView, IsReady, node_made}
 use Rattle.gp_step.proofs.Labels.{node_label, node_origin, node_count}
-use Rattle.gp_step.proofs.Collecting.{item_at, from_item, kept_more, new_more}
+use Rattle.gp_step.proofs.Collecting.{item_at, from_item, all_items, kept_more, new_more}
 use Rattle.gp_step.proofs.made.made_nodes.Goals as goal
 
 pub made_node-requires-clause-label : goal.made_node-requires-clause-label
@@ -49,3 +49,20 @@ loop-q-preserved c =
           ∙ sym (from_item (λ qs. nodes_of so.added.items ++ new_of origin_of make (map right_node_of qs)) c.args.scene.now.parts.right_nodes c.as_slice-q-items.result.now c.loop-q.q-index q c.loop-q.invariant.items there c.q-item.is)
           ∙ c.loop-q.invariant.added;
     }
+
+pub returns-clause-images : goal.returns-clause-images
+returns-clause-images c =
+    let m = c.args.scene.now.found in
+    all_items c.loop-q.placed.images.items _ (λ qs. images_from m.nodes (map origin_of (map right_node_of qs)) c.loop-q.placed.next) c.args.scene.now.parts.right_nodes c.as_slice-q-items.result.now c.loop-q.q-index
+    c.loop-q.invariant.items c.loop-q-test.false refl c.loop-q.invariant.images
+
+pub returns-clause-kept : goal.returns-clause-kept
+returns-clause-kept c =
+    let m = c.args.scene.now.found in
+    all_items (kept_pairs c.loop-q.placed.kept.items) _ (λ qs. kept_of m.nodes origin_of (node_made c.args.scene.now) (map right_node_of qs)) c.args.scene.now.parts.right_nodes c.as_slice-q-items.result.now c.loop-q.q-index
+    c.loop-q.invariant.items c.loop-q-test.false refl c.loop-q.invariant.kept
+
+pub returns-clause-added : goal.returns-clause-added
+returns-clause-added c =
+    all_items (nodes_of c.loop-q.placed.added.items) _ (λ qs. new_of origin_of (node_made c.args.scene.now) (map right_node_of qs)) c.args.scene.now.parts.right_nodes c.as_slice-q-items.result.now c.loop-q.q-index
+    c.loop-q.invariant.items c.loop-q-test.false refl c.loop-q.invariant.added

@@ -1,3 +1,0 @@
--- What bodies and proofs need.
-pub mod Gathered
-pub mod Visiting
