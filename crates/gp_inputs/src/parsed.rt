@@ -7,7 +7,7 @@ use gp_graph::Graph;
 use gp_hostfile::read_host;
 use gp_reader::{read_program, read_tree};
 use gp_reply::{Stop, host_refused, program_refused, script_refused, trace_refused};
-use gp_script::{Line, read_script};
+use gp_stepper::{Line, read_script};
 use gp_syntax::{Ast, Item, Program};
 use gp_trace::{Version, read_trace};
 use std::alloc::Global;
