@@ -1,4 +1,4 @@
-use Rattle.std.proofs.Common.{rules, ◌≡◌, length, map, slice_index_or, Some, refl, ap, ◌∙◌, arith, subst}
+use Rattle.std.proofs.Common.{◌≡◌, [], ◌∷◌, length, map, slice_index_or, Some, refl, ap, ◌∙◌, arith, subst}
 use Rattle.std.proofs.lemmas.List.{length-map}
 use Rattle.std.proofs.lemmas.Option.{slice_get_read}
 use Rattle.gp_syntax.specs.Run.{Command, Call, Skip, Fail, Break, Procedure}
@@ -10,43 +10,43 @@ use Rattle.gp_certify.specs.inside.Fits.{Fits, room}
 use Rattle.gp_certify.proofs.TreeParts.{seq_parts, or_parts, if_parts, try_parts, loop_part, call_part, body_part}
 use Rattle.gp_certify.proofs.Sizes.{size_of_one}
 use Rattle.gp_certify.proofs.Scopes.{fits_call, fits_condition, fits_then, fits_else, grouped_first, fits_one, fits_procedure, fits_positive}
-use Rattle.gp_certify.proofs.Tables.{put_leaf, put_behind, means_if, means_try, means_loop, means_procedure, lowers_more, lowers_known, lowers_kept}
+use Rattle.gp_certify.proofs.Tables.{put_leaf, put_behind, means_if, means_try, means_loop, means_procedure, lowers_then, lowers_more, lowers_known, lowers_kept}
 use Rattle.gp_certify.proofs.lower.+lower.Goals as goal
 
 pub lower-lower_chain-requires : goal.lower-lower_chain-requires
 lower-lower_chain-requires t c =
     let e = c.in-Seq.is in
     let h = seq_parts (program_of_tree c.args.program.now) c.args.depth (room c.args.program.now.procedures c.args.depth) c.args.command.now _ _ e c.requires.fits in
-    search rules
+    (omega arith, (h.fits, c.requires.roots))
 
 pub lower-lower_chain-requires-in-Or : goal.lower-lower_chain-requires-in-Or
 lower-lower_chain-requires-in-Or t c =
     let e = c.in-Or.is in
     let h = or_parts (program_of_tree c.args.program.now) c.args.depth (room c.args.program.now.procedures c.args.depth) c.args.command.now _ _ e c.requires.fits in
-    search rules
+    (omega arith, (h.fits, c.requires.roots))
 
 pub lower-lower_branches-requires : goal.lower-lower_branches-requires
 lower-lower_branches-requires t c =
     let e = c.in-If.is in
     let h = if_parts (program_of_tree c.args.program.now) c.args.depth (room c.args.program.now.procedures c.args.depth) c.args.command.now _ _ _ e c.requires.fits in
-    search rules
+    (omega arith, (h.fits, c.requires.roots))
 
 pub lower-lower_branches-requires-in-Try : goal.lower-lower_branches-requires-in-Try
 lower-lower_branches-requires-in-Try t c =
     let e = c.in-Try.is in
     let h = try_parts (program_of_tree c.args.program.now) c.args.depth (room c.args.program.now.procedures c.args.depth) c.args.command.now _ _ _ e c.requires.fits in
-    search rules
+    (omega arith, (h.fits, c.requires.roots))
 
 pub lower-lower-requires : goal.lower-lower-requires
 lower-lower-requires t c =
     let e = c.in-Loop.is in
     let h = loop_part (program_of_tree c.args.program.now) c.args.depth (room c.args.program.now.procedures c.args.depth) c.args.command.now _ e c.requires.fits in
-    search rules
+    rw c.get.ensures (omega arith, (h.fits, c.requires.roots))
 
 pub lower-lower_body-requires : goal.lower-lower_body-requires
 lower-lower_body-requires t c =
     let h = call_part (program_of_tree c.args.program.now) c.args.depth (room c.args.program.now.procedures c.args.depth) c.args.command.now c.in-Proc.procedure c.in-Proc.is c.requires.fits in
-    search rules
+    (omega arith, (h.fits, c.requires.roots))
 
 pub lower-returns-in-Call-clause-lowers : goal.lower-returns-in-Call-clause-lowers
 lower-returns-in-Call-clause-lowers t c =
@@ -124,7 +124,7 @@ lower_body-lower-requires t c =
     let body = c.index-as_slice-procedure.result in
     let is : body ≡ slice_index_or c.args.program.now.procedures c.args.procedure body = rw (← e) c.index-as_slice-procedure.is in
     let h = body_part (program_of_tree c.args.program.now) c.args.program.now.procedures c.args.depth c.args.procedure body refl c.parts-parts.ensures.scoped c.requires.fits is in
-    search rules
+    (omega arith, (h.fits, c.requires.roots))
 
 pub lower_body-index_mut-requires : goal.lower_body-index_mut-requires
 lower_body-index_mut-requires t c =
@@ -143,7 +143,7 @@ lower_body-returns-clause-lowers t c =
 pub lower_chain-lower-requires : goal.lower_chain-lower-requires
 lower_chain-lower-requires t c =
     let fits = grouped_first (program_of_tree c.args.program.now) c.args.depth c.args.chain (command_of c.args.first.now) (map command_of c.args.rest.now) c.requires.fits in
-    search rules
+    rw c.get.ensures (omega arith, (fits, c.requires.roots))
 
 pub lower_chain-lower-requires-in-parts : goal.lower_chain-lower-requires-in-parts
 lower_chain-lower-requires-in-parts t c =
@@ -151,7 +151,7 @@ lower_chain-lower-requires-in-parts t c =
     let is = rw c.as_slice-part-items.ensures at c.part-item.is in
     let fits = fits_one (program_of_tree c.args.program.now) c.args.depth c.args.chain (command_of c.args.first.now) c.args.rest.now c.parts.part-index c.part-item.result within is c.requires.fits in
     let size = size_of_one c.args.rest.now c.parts.part-index c.part-item.result within is in
-    search rules
+    (omega arith, (fits, c.parts.invariant.roots))
 
 pub lower_chain-parts-preserved : goal.lower_chain-parts-preserved
 lower_chain-parts-preserved t c =
@@ -165,14 +165,23 @@ lower_chain-parts-preserved t c =
 pub lower_branches-lower-requires : goal.lower_branches-lower-requires
 lower_branches-lower-requires t c =
     let fits = fits_condition (program_of_tree c.args.program.now) c.args.depth (command_of c.args.condition.now) (command_of c.args.then.now) (command_of c.args.otherwise.now) c.requires.fits in
-    search rules
+    rw c.get.ensures (omega arith, (fits, c.requires.roots))
 
 pub lower_branches-lower-requires-2 : goal.lower_branches-lower-requires-2
 lower_branches-lower-requires-2 t c =
     let fits = fits_then (program_of_tree c.args.program.now) c.args.depth (command_of c.args.condition.now) (command_of c.args.then.now) (command_of c.args.otherwise.now) c.requires.fits in
-    search rules
+    rw c.get-2.ensures (omega arith, (fits, c.in_ok-condition.ensures.roots ∙ c.requires.roots))
 
 pub lower_branches-lower-requires-3 : goal.lower_branches-lower-requires-3
 lower_branches-lower-requires-3 t c =
     let fits = fits_else (program_of_tree c.args.program.now) c.args.depth (command_of c.args.condition.now) (command_of c.args.then.now) (command_of c.args.otherwise.now) c.requires.fits in
-    search rules
+    rw c.get-3.ensures (omega arith, (fits, c.in_ok-then.ensures.roots ∙ c.in_ok-condition.ensures.roots ∙ c.requires.roots))
+
+pub lower_branches-returns-clause-lowers : goal.lower_branches-returns-clause-lowers
+lower_branches-returns-clause-lowers t c =
+    let program = program_of_tree c.args.program.now in
+    let k = command_of c.args.condition.now in
+    let p = command_of c.args.then.now in
+    let q = command_of c.args.otherwise.now in
+    let two = lowers_then program _ _ _ (c.in_ok-condition.condition ∷ []) (c.in_ok-then.then ∷ []) (k ∷ []) (p ∷ []) (rw c.get.ensures at c.in_ok-condition.ensures.lowers) (rw c.get-2.ensures at c.in_ok-then.ensures.lowers) in
+    lowers_then program _ _ _ (c.in_ok-condition.condition ∷ c.in_ok-then.then ∷ []) (c.in_ok-otherwise.otherwise ∷ []) (k ∷ p ∷ []) (q ∷ []) two (rw c.get-3.ensures at c.in_ok-otherwise.ensures.lowers)
