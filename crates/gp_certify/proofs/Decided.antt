@@ -1,11 +1,11 @@
 -- What the ends of Main say of its runs.
 use Rattle.std.proofs.Common.{◌≡◌, ℕ, Bool, true, List, length, Contains, refl, sym, subst}
 use Rattle.gp_syntax.specs.Run.{Command}
-use Rattle.gp_code.specs.declared.node.Node.{Node}
+use Rattle.gp_certify.specs.declared.node.Node.{Node}
 use Rattle.gp_certify.specs.declared.end.Outcome.{Outcome}
 use Rattle.gp_certify.specs.declared.end.End.{End}
 use Rattle.gp_certify.specs.inside.View.{View, IsTape}
-use Rattle.gp_code.specs.Code.{IsCodeOf}
+use Rattle.gp_certify.specs.Code.{IsCodeOf}
 use Rattle.gp_certify.specs.inside.Found.{AreEnds, AreEndsAt}
 use Rattle.gp_certify.specs.inside.Whole.{HasRun}
 use Rattle.gp_certify.proofs.Replayed.{whole_runs}

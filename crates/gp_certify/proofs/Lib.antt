@@ -1,3 +1,7 @@
+pub mod Sizes
+pub mod Scopes
+pub mod TreeParts
+pub mod Tables
 pub mod Places
 pub mod Compose
 pub mod Grown

@@ -1,15 +1,15 @@
 -- The ends of commands, put together from those of their parts.
 use Rattle.std.proofs.Common.{◌≡◌, inl, inr, ℕ, zero, suc, ◌+◌, ◌<◌, ◌≤◌, List, [], ◌∷◌, length, slice_get, Some, Result, Ok, Err, IfOk, OnOk, Contains, refl, sym, ap, subst, ◌∙◌, arith}
 use Rattle.gp_syntax.specs.Run.{Command, Call, Seq, If, Try, Or, Skip, Fail, Break, Procedure, Program}
-use Rattle.gp_code.specs.declared.node.Node.{Node}
-use Rattle.gp_code.specs.declared.node.Node.TheVariants as node
+use Rattle.gp_certify.specs.declared.node.Node.{Node}
+use Rattle.gp_certify.specs.declared.node.Node.TheVariants as node
 use Rattle.gp_certify.specs.declared.end.Outcome.{Outcome}
 use Rattle.gp_certify.specs.declared.end.Outcome.TheVariants as outcome
 use Rattle.gp_certify.specs.declared.end.End.{End}
 use Rattle.gp_certify.specs.Places.{Spans, IsPart, IsTakenBack}
 use Rattle.gp_certify.specs.Parts.{StepsAt, BlockedAt, OfParts}
 use Rattle.gp_certify.specs.inside.View.{View, IsTape}
-use Rattle.gp_code.specs.Code.{at, Means}
+use Rattle.gp_certify.specs.Code.{at, Means}
 use Rattle.gp_certify.specs.inside.Ways.{EndsSo, IsFirst, way_of, above, ByWay}
 use Rattle.gp_certify.specs.inside.Grows.{Grows, OfOne}
 use Rattle.gp_certify.specs.inside.Found.{AreEnds, Leaves}

@@ -2,8 +2,8 @@
 use Rattle.std.proofs.Common.{◌≡◌, ◌⊎◌, inl, inr, ℕ, ◌+◌, ◌<◌, ◌≤◌, List, [], ◌∷◌, length, slice_get, slice_index_or, Some, Contains, refl, sym, ap, subst, ◌∙◌, arith}
 use Rattle.std.proofs.lemmas.Option.{slice_get_within, slice_get-get_or}
 use Rattle.gp_syntax.specs.Run.{Command, Loop, Program, Turned}
-use Rattle.gp_code.specs.declared.node.Node.{Node}
-use Rattle.gp_code.specs.declared.node.Node.TheVariants as node
+use Rattle.gp_certify.specs.declared.node.Node.{Node}
+use Rattle.gp_certify.specs.declared.node.Node.TheVariants as node
 use Rattle.gp_certify.specs.declared.ways.Way.{Way}
 use Rattle.gp_certify.specs.declared.ways.Way.TheVariants as way
 use Rattle.gp_certify.specs.declared.end.Outcome.{Outcome}
@@ -13,7 +13,7 @@ use Rattle.gp_certify.specs.declared.starts.Reached.{Reached}
 use Rattle.gp_certify.specs.Places.{Spans, IsPart, IsTakenBack}
 use Rattle.gp_certify.specs.Parts.{OfParts}
 use Rattle.gp_certify.specs.inside.View.{View, IsTape}
-use Rattle.gp_code.specs.Code.{at, IsCode}
+use Rattle.gp_certify.specs.Code.{at, IsCode}
 use Rattle.gp_certify.specs.inside.Ways.{EndsSo, IsFirst, HasFirst, way_of, ByWay}
 use Rattle.gp_certify.specs.inside.Grows.{Grows, Has, IsTaken, OfOne}
 use Rattle.gp_certify.specs.inside.Memory.{Kept, Learns}

@@ -1,4 +1,6 @@
 -- What only bodies and proofs need.
+pub mod Fits
+pub mod Table
 pub mod Grows
 pub mod Memory
 pub mod Ways

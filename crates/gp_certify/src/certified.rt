@@ -7,9 +7,9 @@ ghost use Rattle.gp_syntax.specs.Tree.{program_of_tree, item_of};
 ghost use Rattle.gp_certify.specs.Certified.{HasRunTo};
 ghost use Rattle.gp_certify.specs.inside.Replay.{view_of};
 
+use crate::code::code_of;
 use crate::replay::Replay;
 use crate::whole::runs_of;
-use gp_code::code_of;
 use gp_graph::Graph;
 use gp_memory::NoMemory;
 use gp_syntax::{Item, Program};

@@ -2,7 +2,7 @@
 
 ghost use Rattle.std.specs.Prelude.{◌≡◌, ◌<◌, ◌≤◌, ◌∷◌, [], List, length, IfOk, OnOk, Some, slice_get, Contains};
 ghost use Rattle.gp_syntax.specs.Run.{Command, Call};
-ghost use Rattle.gp_code.specs.Code.{at, IsCode};
+ghost use Rattle.gp_certify.specs.Code.{at, IsCode};
 ghost use Rattle.gp_certify.specs.Places.{IsPart};
 ghost use Rattle.gp_certify.specs.inside.View.{IsTape};
 ghost use Rattle.gp_certify.specs.inside.Grows.{Grows, Has};
@@ -11,10 +11,10 @@ ghost use Rattle.gp_certify.specs.inside.Found.{AreEnds, AreEndsAt, AreByWay, Is
 
 use crate::end::{End, Outcome};
 use crate::memory::Memory;
+use crate::node::Node;
 use crate::starts::{Reached, put_end, put_ends, put_start, reached_first, take_least};
 use crate::tape::Tape;
 use crate::ways::{Way, way_of};
-use gp_code::Node;
 use gp_memory::NoMemory;
 use std::alloc::Global;
 

@@ -4,7 +4,7 @@ ghost use Rattle.std.specs.Prelude.{◌≡◌};
 ghost use Rattle.gp_certify.specs.inside.Ways.{way_of};
 
 use crate::end::Outcome;
-use gp_code::Node;
+use crate::node::Node;
 
 /// What comes after an end of a first part.
 #[derive(Clone, Copy)]

@@ -1,15 +1,15 @@
 //! Whether a trace is that of a run.
 
 ghost use Rattle.std.specs.Prelude.{◌≡◌, ◌↔◌, IsTrue, IfOk, Contains};
-ghost use Rattle.gp_code.specs.Code.{IsCodeOf};
+ghost use Rattle.gp_certify.specs.Code.{IsCodeOf};
 ghost use Rattle.gp_certify.specs.inside.View.{IsTape};
 ghost use Rattle.gp_certify.specs.inside.Whole.{HasRun};
 
 use crate::end::{End, Outcome};
 use crate::ends::ends_of;
 use crate::memory::Memory;
+use crate::node::Node;
 use crate::tape::Tape;
-use gp_code::Node;
 use gp_memory::NoMemory;
 use std::alloc::Global;
 

@@ -18,9 +18,9 @@ use Rattle.gp_graph.proofs.Numbers.{here, later, first_or_later, first_new, othe
 use Rattle.gp_graph.proofs.Degrees.{chosen, Walks-chosen}
 use Rattle.gp_step.specs.Laws.{IsNumbered}
 use Rattle.gp_hostfile.specs.GraphText.{IsGraphText, node_line, edge_lines, edges_of}
-use Rattle.gp_upgrade.specs.Upgrade.{AreAlike}
-use Rattle.gp_upgrade.proofs.Alike.{some_and, and_some, is_some, Walks-map, as_many}
-use Rattle.gp_upgrade.proofs.Tables.{some_of, is_some_of}
+use Rattle.gp_derivation.specs.Upgrade.{AreAlike}
+use Rattle.gp_derivation.proofs.Alike.{some_and, and_some, is_some, Walks-map, as_many}
+use Rattle.gp_derivation.proofs.Tables.{some_of, is_some_of}
 
 -- ---- alike to one graph
 

@@ -18,8 +18,8 @@ use Rattle.gp_syntax.specs.Step.{AppliesBy, FaultyBy, Blocked, first_fault, kind
 use Rattle.gp_syntax.proofs.Unique.{element}
 use Rattle.gp_step.proofs.Halves.{standing}
 use Rattle.gp_graph.specs.Walks.{Walks}
-use Rattle.gp_upgrade.specs.Upgrade.{AreAlike}
-use Rattle.gp_upgrade.proofs.Alike.{some_and, and_some, is_some, Walks-map, in_degree_alike, out_degree_alike, has_edge_alike, has_edge_with_alike}
+use Rattle.gp_derivation.specs.Upgrade.{AreAlike}
+use Rattle.gp_derivation.proofs.Alike.{some_and, and_some, is_some, Walks-map, in_degree_alike, out_degree_alike, has_edge_alike, has_edge_with_alike}
 
 -- ---- values and conditions
 

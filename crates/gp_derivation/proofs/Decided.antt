@@ -15,10 +15,10 @@ use Rattle.gp_step.specs.Laws.{IsNumbered}
 use Rattle.gp_trace.specs.declared.version.Version.TheVariants.{One, Two}
 use Rattle.gp_hostfile.specs.GraphText.{IsGraphText, WritesGraph}
 use Rattle.gp_hostfile.proofs.Lines.{one_text}
-use Rattle.gp_upgrade.specs.Upgrade.{IsUpgrade, BreaksAtItem, HasFault}
-use Rattle.gp_upgrade.specs.declared.fault.UpgradeFault.{UpgradeFault}
-use Rattle.gp_upgrade.specs.declared.fault.UpgradeFault.TheVariants as faults
-use Rattle.gp_upgrade.proofs.Breaks.{told}
+use Rattle.gp_derivation.specs.Upgrade.{IsUpgrade, BreaksAtItem, HasFault}
+use Rattle.gp_derivation.specs.declared.fault.UpgradeFault.{UpgradeFault}
+use Rattle.gp_derivation.specs.declared.fault.UpgradeFault.TheVariants as faults
+use Rattle.gp_derivation.proofs.Breaks.{told}
 use Rattle.gp_certify.specs.Certified.{HasRunTo}
 use Rattle.gp_derivation.specs.Derivation.{AreToday, as_they_are, brought_up, fail_text, EndsWith, with_graph, with_fail, IsDerivation}
 use Rattle.gp_derivation.proofs.Twins.{same_ends}

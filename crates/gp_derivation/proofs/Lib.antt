@@ -1,3 +1,15 @@
+pub mod Tables
+pub mod Changes
+pub mod Alike
+pub mod Renumbered
+pub mod OneStep
+pub mod Breaks
+pub mod Moves
+pub mod Stacks
+pub mod Standings
+pub mod Followed
+pub mod Upgraded
+pub mod Rights
 pub mod AlikeMatches
 pub mod AlikeGraphs
 pub mod TwinItems

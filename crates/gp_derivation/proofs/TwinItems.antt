@@ -5,8 +5,8 @@ use Rattle.std.proofs.lemmas.List.{length-take, length_push, length-map, take-ma
 use Rattle.std.proofs.lemmas.Option.{slice_get-map}
 use Rattle.gp_syntax.specs.Rule.{Found}
 use Rattle.gp_syntax.specs.Run.{Item, Stepped, Turned, Back, live_from, live}
-use Rattle.gp_upgrade.specs.Upgrade.{Renumbers, RenumbersAll}
-use Rattle.gp_upgrade.proofs.Tables.{mapped}
+use Rattle.gp_derivation.specs.Upgrade.{Renumbers, RenumbersAll}
+use Rattle.gp_derivation.proofs.Tables.{mapped}
 use Rattle.gp_certify.specs.Places.{between, IsTakenBack}
 
 -- the item without its edges

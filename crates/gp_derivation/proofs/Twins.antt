@@ -12,10 +12,10 @@ use Rattle.gp_syntax.specs.Replay.{StepsTo, Replays}
 use Rattle.gp_step.specs.Laws.{IsNumbered}
 use Rattle.gp_step.proofs.Wholes.{numbered_step}
 use Rattle.gp_hostfile.specs.GraphText.{IsGraphText}
-use Rattle.gp_upgrade.specs.StepAnew.{StepAnew, StepsAnewTo}
-use Rattle.gp_upgrade.specs.Upgrade.{AreAlike, IsUpgrade}
-use Rattle.gp_upgrade.proofs.OneStep.{one_step_anew}
-use Rattle.gp_upgrade.proofs.Stacks.{live_more}
+use Rattle.gp_derivation.specs.StepAnew.{StepAnew, StepsAnewTo}
+use Rattle.gp_derivation.specs.Upgrade.{AreAlike, IsUpgrade}
+use Rattle.gp_derivation.proofs.OneStep.{one_step_anew}
+use Rattle.gp_derivation.proofs.Stacks.{live_more}
 use Rattle.gp_certify.specs.declared.end.Outcome.{Outcome}
 use Rattle.gp_certify.specs.declared.end.Outcome.TheVariants as outcome
 use Rattle.gp_certify.specs.Certified.{HasRunTo}

@@ -6,7 +6,7 @@ use Rattle.gp_syntax.specs.Run.{Program, Item, Gives, Fails}
 use Rattle.gp_trace.specs.declared.version.Version.{Version}
 use Rattle.gp_trace.specs.declared.version.Version.TheVariants.{One, Two}
 use Rattle.gp_hostfile.specs.GraphText.{IsGraphText}
-use Rattle.gp_upgrade.specs.Upgrade.{IsUpgrade}
+use Rattle.gp_derivation.specs.Upgrade.{IsUpgrade}
 use Rattle.gp_certify.specs.Certified.{HasRunTo}
 
 -- The items of a trace, by today's numbers of edges: those of version 2 as they are, those of version 1 brought up to date.

@@ -1,1 +1,5 @@
+pub mod StepAnew
+pub mod Upgrade
+pub mod Laws
 pub mod Derivation
+pub mod inside

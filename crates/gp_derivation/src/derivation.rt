@@ -7,6 +7,8 @@ ghost use Rattle.gp_hostfile.specs.GraphText.{IsGraphText};
 ghost use Rattle.gp_trace.specs.declared.version.Version.TheVariants.{One};
 ghost use Rattle.gp_derivation.specs.Derivation.{fail_text, EndsWith, IsDerivation};
 
+use crate::fault::UpgradeFault;
+use crate::items::upgrade;
 use gp_certify::certify;
 use gp_certify::laws::rules_are_well_formed;
 use gp_graph::Graph;
@@ -14,7 +16,6 @@ use gp_hostfile::write_graph;
 use gp_memory::NoMemory;
 use gp_syntax::{Item, Program};
 use gp_trace::Version;
-use gp_upgrade::{UpgradeFault, upgrade};
 use std::alloc::Global;
 
 // Whether this is the text of the graph.

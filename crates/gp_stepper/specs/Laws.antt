@@ -1,12 +1,14 @@
 -- What holds of steppers: their graphs are what the items before their places lead to, the place tells the trail, and the
--- moves tell the place.
-use Rattle.std.specs.Prelude.{◌≡◌, ℕ, ◌+◌, List, [], ◌∷◌, length, take, All}
+-- moves tell the place. And of the texts of scripts.
+use Rattle.std.specs.Prelude.{◌≡◌, ◌⊎◌, ℕ, ◌+◌, List, [], ◌∷◌, length, take, All}
 use Rattle.gp_syntax.specs.Rule.{Rule}
 use Rattle.gp_syntax.specs.Replay.{Replays}
 use Rattle.gp_syntax.specs.WellFormed.{IsWellFormed}
 use Rattle.gp_journal.specs.Trail.{root_of}
 use Rattle.gp_journal.specs.Journal.{items_of}
+use Rattle.gp_stepper.specs.declared.line.Line.{Line}
 use Rattle.gp_stepper.specs.Stepper.{Stepper, IsStepperOf, IsMoved, Move, forward, back, moved_by}
+use Rattle.gp_stepper.specs.Script.{IsScript, BreaksAt}
 
 -- the items before the place replay to the graph
 abbrev pub SteppersReplay : Type 0
@@ -49,3 +51,15 @@ pub record StandsAfter (rules : List Rule) (s : Stepper) (ms : List Move) (u : S
 -- after each list of moves
 abbrev pub MovesAreCounted : Type 0
 MovesAreCounted = (rules : List Rule) (s u : Stepper) (ms : List Move) → IsStepperOf rules s → MovesBy rules s ms u → StandsAfter rules s ms u
+
+-- ---- the texts of scripts
+
+-- A text is that of a script or breaks at a line: of one script at most, at one line at most, and not both.
+pub record BreaksOnce (text : List ℕ) : Type 0 where
+  pub some : ((s : List Line) × IsScript text s) ⊎ ((n : ℕ) × BreaksAt text n)
+  pub told : (s t : List Line) → IsScript text s → IsScript text t → s ≡ t
+  pub one : (m n : ℕ) → BreaksAt text m → BreaksAt text n → m ≡ n
+  pub none : (s : List Line) (n : ℕ) → IsScript text s → BreaksAt text n → ⊥
+
+abbrev pub ScriptsBreakOnce : Type 0
+ScriptsBreakOnce = (text : List ℕ) → BreaksOnce text

@@ -1,3 +1,5 @@
 pub mod Stepper
+pub mod Script
+pub mod Walk
 pub mod Laws
 pub mod inside

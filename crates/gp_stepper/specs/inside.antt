@@ -2,3 +2,5 @@
 pub mod Code
 pub mod Stands
 pub mod Held
+pub mod Words
+pub mod Told

@@ -1,6 +1,6 @@
-//! What holds of steppers. Each function does nothing: its contract is the law.
+//! What holds of steppers and of the texts of scripts. Each function does nothing: its contract is the law.
 
-ghost use Rattle.gp_stepper.specs.Laws.{SteppersReplay, WellFormedMovesAreInverse, MovesAreCounted};
+ghost use Rattle.gp_stepper.specs.Laws.{SteppersReplay, WellFormedMovesAreInverse, MovesAreCounted, ScriptsBreakOnce};
 
 /// The items before the place of a stepper replay from its root graph to its graph.
 pub fn steppers_replay()
@@ -17,4 +17,9 @@ pub fn moves_are_inverse()
 /// the graph.
 pub fn moves_are_counted()
     ensures { MovesAreCounted }
+{}
+
+/// A text is that of one script or breaks at one line, and not both.
+pub fn scripts_break_once()
+    ensures { ScriptsBreakOnce }
 {}

@@ -1,8 +1,8 @@
 -- What is found of the ends of commands.
 use Rattle.std.specs.Prelude.{◌≡◌, ◌⊎◌, ℕ, ◌+◌, ◌≤◌, List, length, Some, slice_get, Contains}
 use Rattle.gp_syntax.specs.Run.{Command, Turned}
-use Rattle.gp_code.specs.declared.node.Node.{Node}
-use Rattle.gp_code.specs.Code.{at, IsCode}
+use Rattle.gp_certify.specs.declared.node.Node.{Node}
+use Rattle.gp_certify.specs.Code.{at, IsCode}
 use Rattle.gp_certify.specs.declared.end.End.{End}
 use Rattle.gp_certify.specs.declared.end.Outcome.TheVariants as outcome
 use Rattle.gp_certify.specs.declared.starts.Reached.{Reached}

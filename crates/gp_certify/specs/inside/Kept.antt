@@ -1,11 +1,11 @@
 -- What loops keep.
 use Rattle.std.specs.Prelude.{◌≡◌, ◌≤◌, ◌+◌, ℕ, List, length, Contains}
 use Rattle.gp_syntax.specs.Run.{Command}
-use Rattle.gp_code.specs.declared.node.Node.{Node}
+use Rattle.gp_certify.specs.declared.node.Node.{Node}
 use Rattle.gp_certify.specs.declared.end.End.{End}
 use Rattle.gp_certify.specs.declared.starts.Reached.{Reached}
 use Rattle.gp_certify.specs.inside.View.{View}
-use Rattle.gp_code.specs.Code.{at, IsCode}
+use Rattle.gp_certify.specs.Code.{at, IsCode}
 use Rattle.gp_certify.specs.inside.Grows.{Grows, OfOne}
 use Rattle.gp_certify.specs.inside.Memory.{Kept}
 use Rattle.gp_certify.specs.inside.Ways.{way_of, ByWay}

@@ -1,9 +1,9 @@
 -- What comes after the first part of a sequence, an `if` or a `try`.
 use Rattle.std.specs.Prelude.{◌≡◌, ℕ, ◌+◌, List, Some, slice_get}
 use Rattle.gp_syntax.specs.Run.{Command}
-use Rattle.gp_code.specs.declared.node.Node.{Node}
-use Rattle.gp_code.specs.declared.node.Node.TheVariants as node
-use Rattle.gp_code.specs.Code.{at}
+use Rattle.gp_certify.specs.declared.node.Node.{Node}
+use Rattle.gp_certify.specs.declared.node.Node.TheVariants as node
+use Rattle.gp_certify.specs.Code.{at}
 use Rattle.gp_certify.specs.declared.ways.Way.{Way}
 use Rattle.gp_certify.specs.declared.ways.Way.TheVariants as way
 use Rattle.gp_certify.specs.declared.end.Outcome.{Outcome}

@@ -1,13 +1,13 @@
 //! Traces of version 1 that are brought up to date.
 
 use crate::runs::replay::{catch_up, text_of};
+use gp_derivation::{UpgradeFault, upgrade};
 use gp_hostfile::read_host;
 use gp_journal::Trail;
 use gp_reader::read_rules;
 use gp_rows::{Answer, Wrong, field};
 use gp_syntax::{Item, Rule};
 use gp_trace::{read_trace, write_trace};
-use gp_upgrade::{UpgradeFault, upgrade};
 use std::alloc::Global;
 
 type Upgraded = Result<Vec<Item>, UpgradeFault>;

@@ -2,11 +2,11 @@ use Rattle.std.proofs.Common.{rules, ◌≡◌, ◌∙◌, ℕ, ◌+◌, ◌<◌
 use Rattle.std.proofs.lemmas.Option.{slice_get_within}
 use Rattle.gp_syntax.specs.Run.{Command, Program}
 use Rattle.gp_syntax.specs.Run as meant
-use Rattle.gp_code.specs.declared.node.Node.TheVariants as node
+use Rattle.gp_certify.specs.declared.node.Node.TheVariants as node
 use Rattle.gp_certify.specs.declared.end.End.{End}
 use Rattle.gp_certify.specs.Places.{IsPart}
 use Rattle.gp_certify.specs.inside.View.{View}
-use Rattle.gp_code.specs.Code.{at}
+use Rattle.gp_certify.specs.Code.{at}
 use Rattle.gp_certify.specs.inside.Ways.{HasFirst, above, way_of, ByWay}
 use Rattle.gp_certify.specs.inside.Found.{AreEnds, AreEndsAt, AreByWay, IsFound, GoesOn, Leaves}
 use Rattle.std.proofs.lemmas.List.Elements.{Contains-get_or}

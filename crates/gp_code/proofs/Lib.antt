@@ -1,4 +1,0 @@
-pub mod Parts
-pub mod Scopes
-pub mod Sizes
-pub mod Tables

@@ -1,4 +1,0 @@
-pub mod Script
-pub mod Walk
-pub mod Laws
-pub mod inside

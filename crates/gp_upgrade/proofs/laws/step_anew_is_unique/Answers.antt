@@ -1,5 +1,0 @@
-use Rattle.gp_upgrade.proofs.OneStep.{one_step_anew}
-use Rattle.gp_upgrade.proofs.laws.step_anew_is_unique.Goals as goal
-
-pub returns : goal.returns
-returns c = one_step_anew

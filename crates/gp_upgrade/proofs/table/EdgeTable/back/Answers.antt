@@ -1,6 +1,0 @@
-use Rattle.std.proofs.Common.{◌-◌, ◌+◌, arith}
-use Rattle.gp_upgrade.proofs.Changes.{back_step}
-use Rattle.gp_upgrade.proofs.table.EdgeTable.back.Goals as goal
-
-pub loop-preserved : goal.loop-preserved
-loop-preserved c = rw c.back_one.ensures (back_step (c.args.k - c.loop.counter) (c.args.k - (c.loop.counter + 1)) c.loop.self _ (omega arith) c.loop.invariant.left c.loop.invariant.same)

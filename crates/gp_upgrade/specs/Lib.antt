@@ -1,4 +1,0 @@
-pub mod StepAnew
-pub mod Upgrade
-pub mod Laws
-pub mod inside
