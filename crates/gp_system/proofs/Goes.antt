@@ -8,8 +8,10 @@ use Rattle.gp_run.specs.declared.engine.Called.TheVariants as called
 use Rattle.gp_run.specs.declared.engine.Turned.TheVariants as turned
 use Rattle.gp_run.specs.Engine.{View, MakesCall, HasCalled, HasTurned, HasRepeated}
 use Rattle.gp_run.proofs.Leads.{adds-append}
-use Rattle.gp_run.proofs.Turns.{Turns, turns_none, turns_more, turns_less}
-use Rattle.gp_system.specs.inside.AfterTurn.{GoesOn}
+use Rattle.gp_run.proofs.Turns.{Turns, turns_none, turns_more}
+use Rattle.gp_system.specs.declared.session.AfterTurn.{AfterTurn}
+use Rattle.gp_system.specs.declared.session.AfterTurn.TheVariants.{On, Dear, Came}
+use Rattle.gp_system.specs.inside.AfterTurn.{GoesOn, IsInTurn, HasGone}
 
 module _ (c : ℕ) (v w x : View) (t : Turns c v w) where
   -- the rest of the loop, seen from its beginning
@@ -28,9 +30,23 @@ module _ (c : ℕ) (v w x : View) (t : Turns c v w) where
   repeated_on (repeated.Fault r k) m = (rest_of_loop _ m.0, m.1)
   repeated_on repeated.NoMemory m = tt
 
--- behind a turn with a step
-pub goes_on : (c : ℕ) (v w x : View) → HasTurned turned.Made v w → HasCalled c called.Stepped w x → GoesOn c v x × (x.left < v.left)
-goes_on c v w x a m = ((λ r y h. repeated_on c v x y (turns_more c v v w x (turns_none c v) a m) r h), turns_less c v w x a m)
+pub goes_by : (c : ℕ) (v w : View) → Turns c v w → GoesOn c v w
+goes_by c v w t = record { onward = λ r x h. repeated_on c v w x t r h; program = t.adds.program }
+
+pub goes_not : (c : ℕ) (v : View) → GoesOn c v v
+goes_not c v = record { onward = λ r x h. h; program = refl }
+
+-- behind a turn with a step, and in a turn
+pub goes_on : (c : ℕ) (v w x : View) → HasTurned turned.Made v w → HasCalled c called.Stepped w x → GoesOn c v x
+goes_on c v w x a m = goes_by c v x (turns_more c v v w x (turns_none c v) a m)
+
+pub in_turn : (c : ℕ) (v w : View) → HasTurned turned.Made v w → IsInTurn c v w
+in_turn c v w a = record { before = v; goes_on = goes_not c v; made = a }
 
 pub goes_on_all : (c : ℕ) (v w x : View) → GoesOn c v w → GoesOn c w x → GoesOn c v x
-goes_on_all c v w x f g r y h = f r y (g r y h)
+goes_on_all c v w x f g = record { onward = λ r y h. f.onward r y (g.onward r y h); program = g.program ∙ f.program }
+
+pub gone_on : (c : ℕ) (s : AfterTurn) (v w x : View) → GoesOn c v w → HasGone c s w x → HasGone c s v x
+gone_on c On v w x f g = goes_on_all c v w x f g
+gone_on c Dear v w x f g = record { before = g.before; goes_on = goes_on_all c v w g.before f g.goes_on; made = g.made }
+gone_on c (Came r) v w x f g = f.onward r x g
