@@ -19,8 +19,8 @@ brought-requires-clause-way g c =
 pub overflow_sub-used : goal.overflow_sub-used
 overflow_sub-used g c = (let i = c.in_ok-pursued.ensures.pursued.legal.items in let e = i.1 in omega arith)
 
-pub overflow_sub-put_together : goal.overflow_sub-put_together
-overflow_sub-put_together g c =
+pub overflow_sub-left : goal.overflow_sub-left
+overflow_sub-left g c =
     let l : c.left-left.result ≡ c.args.self.now.left = c.left-left.ensures ∙ ap (λ (s : Shown). s.left) c.self.view_is in
     let i = c.in_ok-pursued.ensures.pursued.legal.items in let e = i.1 in omega (arith, c.requires.given)
 

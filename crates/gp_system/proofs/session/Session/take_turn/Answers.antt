@@ -1,6 +1,7 @@
-use Rattle.std.proofs.Common.{subst, sym, arith, length, ◌<◌}
-use Rattle.gp_syntax.specs.declared.command.ProgramParts.{ProgramParts}
+use Rattle.std.proofs.Common.{subst, sym, arith}
 use Rattle.gp_run.proofs.Turns.{turns_none, turns_bound, turns_spent, turns_faulty, turns_end, turns_less}
+use Rattle.gp_system.specs.inside.Viewed.{Shown, view_of}
+use Rattle.gp_system.specs.inside.AfterTurn.{IsInTurn}
 use Rattle.gp_system.proofs.Sessions.{same_graph, grows_on}
 use Rattle.gp_system.proofs.Goes.{goes_on, in_turn}
 use Rattle.gp_system.proofs.session.Session.take_turn.Goals as goal
@@ -29,3 +30,6 @@ returns-in-Some-Blocked-clause-going c =
 
 pub returns-in-Some-Blocked-clause-grows : goal.returns-in-Some-Blocked-clause-grows
 returns-in-Some-Blocked-clause-grows c = grows_on _ _ _ c.in-Made.ensures.grows (grows_on _ _ _ c.in-Some-Blocked.ensures.grows c.end.ensures.grows)
+
+pub returns-in-None-clause-going : goal.returns-in-None-clause-going
+returns-in-None-clause-going c = subst (λ (s : Shown). IsInTurn c.args.call (view_of c.args.self.now) (view_of s)) (sym c.in-None.ensures.given_up) (in_turn _ _ _ c.in-Made.ensures.turned)
