@@ -1,7 +1,6 @@
 -- A loop over a call that goes on behind some turns.
-use Rattle.std.proofs.Common.{◌≡◌, ℕ, ◌<◌, ◌≤◌, Bool, List, [], ◌++◌, refl, sym, subst, ◌∙◌, arith}
-use Rattle.gp_values.specs.Graph.{Graph}
-use Rattle.gp_syntax.specs.Run.{Call, Loop, Program, Item, Ending, Run}
+use Rattle.std.proofs.Common.{◌≡◌, ℕ, ◌<◌, ◌≤◌, [], ◌++◌, refl, subst, ◌∙◌, arith}
+use Rattle.gp_syntax.specs.Run.{Call, Loop, Program, Ending, Run}
 use Rattle.gp_run.specs.declared.engine.Repeated.{Repeated}
 use Rattle.gp_run.specs.declared.engine.Repeated.TheVariants as repeated
 use Rattle.gp_run.specs.declared.engine.Called.TheVariants as called

@@ -1,4 +1,4 @@
-use Rattle.std.proofs.Common.{◌∙◌, ◌<◌, min, ap, sym, subst, arith}
+use Rattle.std.proofs.Common.{◌∙◌, min, ap, subst, arith}
 use Rattle.gp_run.specs.Ended.{HasEnded}
 use Rattle.opt_system.specs.declared.answers.Mode.TheVariants.{Saturate}
 use Rattle.opt_core.specs.declared.event.Ending.{Ending}
