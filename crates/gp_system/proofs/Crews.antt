@@ -23,7 +23,7 @@ use Rattle.opt_core.specs.declared.event.Ending.{Ending}
 use Rattle.opt_core.specs.Core.{Core, Legal, IsUsed, reached, AllApply}
 use Rattle.opt_worker.specs.Replica.{IsReplica}
 use Rattle.gp_journal.specs.Trail.{Trail, root_of, rooted, fresh, led, advanced}
-use Rattle.gp_journal.specs.Leads.{StepsBy, Goes, Leads}
+use Rattle.gp_journal.specs.Leads.{StepsBy, Goes, Leads, CaughtUp}
 use Rattle.gp_journal.specs.Journal.{items_of, IsJournalOf}
 use Rattle.gp_system.specs.inside.Noted.{noted}
 use Rattle.gp_journal.proofs.Replays.{caught_back}
@@ -99,11 +99,13 @@ length-items (i ∷ is) = ap suc (length-items is)
 -- ---- catching up
 
 -- where catching up led, a trail is that forgot how many items it had
-pub brought_there : (rules : List Rule) (is : List Item) (old new t : Trail) → All IsWellFormed rules → Leads rules (items_of is) old t → t.caught ≡ 0 → Leads rules (items_of is) old (record new { caught = old.caught }) → new.caught ≡ 0 → new ≡ t
-brought_there rules is old new t w way e led settled =
-    let a : record new { caught = old.caught } ≡ t = one_way rules (items_of is) old (record new { caught = old.caught }) t w led way in
-    let b : old.caught ≡ 0 = sym (caught_led rules (items_of is) old t way) ∙ e in
-    subst (λ (n : ℕ). record new { caught = n } ≡ t) (b ∙ sym settled) a
+pub brought_there : (rules : List Rule) (is : List Item) (old mid new t : Trail) → All IsWellFormed rules → Leads rules (items_of is) old t → t.caught ≡ 0 → mid.caught ≡ length is → CaughtUp rules (items_of is) old mid → new ≡ record mid { caught = 0 } → new ≡ t
+brought_there rules is old mid new t w way settled long made e =
+    let whole : take mid.caught (items_of is) ≡ items_of is = ap (λ (k : ℕ). take k (items_of is)) (long ∙ sym (length-items is)) ∙ take_whole (items_of is) in
+    let led : Leads rules (items_of is) old (record mid { caught = old.caught }) = subst (λ (l : List meant.Item). Leads rules l old (record mid { caught = old.caught })) whole made.leads in
+    let a : record mid { caught = old.caught } ≡ t = one_way rules (items_of is) old (record mid { caught = old.caught }) t w led way in
+    let b : old.caught ≡ 0 = sym (caught_led rules (items_of is) old t way) ∙ settled in
+    e ∙ subst (λ (n : ℕ). record mid { caught = n } ≡ t) b a
 
 -- ---- entries
 

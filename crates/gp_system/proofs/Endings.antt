@@ -1,5 +1,5 @@
 -- What a goal that a crew pursued came to, as what an engine answers.
-use Rattle.std.proofs.Common.{◌≡◌, inl, inr, ℕ, zero, suc, ◌+◌, ◌-◌, ◌*◌, ◌<◌, Bool, true, false, List, [], ◌∷◌, ◌++◌, map, length, take, slice_get, Contains, All, Option, Some, None, refl, sym, ap, subst, ◌∙◌, arith, append_assoc}
+use Rattle.std.proofs.Common.{◌≡◌, inl, inr, ℕ, zero, suc, ◌+◌, ◌-◌, ◌*◌, ◌<◌, ◌%◌, min, Bool, true, false, List, [], ◌∷◌, ◌++◌, map, length, take, slice_get, Contains, All, Option, Some, None, refl, sym, ap, subst, ◌∙◌, arith, append_assoc}
 use Rattle.std.specs.Prelude.{if◌then◌else◌}
 use Rattle.gp_values.specs.Graph.{Graph}
 use Rattle.gp_syntax.specs.declared.found.Item.{Item}
@@ -32,14 +32,16 @@ use Rattle.gp_run.specs.declared.engine.Repeated.{Repeated}
 use Rattle.gp_run.specs.declared.engine.Repeated.TheVariants as repeated
 use Rattle.gp_run.specs.Ended.{HasEnded}
 use Rattle.gp_run.proofs.Leads.{adds-nothing, counted-append}
-use Rattle.gp_run.proofs.Turns.{Turns, turns_none, turns_bound, turns_spent, turns_faulty, turns_end}
+use Rattle.gp_run.proofs.Turns.{Turns, turns_bound, turns_spent, turns_faulty, turns_end}
 use Rattle.gp_system.specs.declared.goal.CallGoal.{CallGoal}
 use Rattle.gp_system.specs.declared.goal.Fault.{Fault}
 use Rattle.gp_system.specs.Gp.{RuleSystem, rules_of, has, with_rule, judged_by, judged_in, gp_means}
-use Rattle.gp_system.specs.inside.Viewed.{Shown, view_of, Grows}
+use Rattle.gp_system.specs.inside.Viewed.{Shown, view_of}
+use Rattle.gp_system.specs.inside.AfterTurn.{GoesOn}
 use Rattle.gp_system.specs.inside.Pursued.{HasPursued, turns_first, system_of, called_of}
 use Rattle.gp_system.proofs.Searches.{renumbered_applies, renumbered_faulty}
 use Rattle.gp_system.proofs.Systems.{contains_has, judged_applies, judged_faulty, well_formed_at, there}
+use Rattle.gp_system.proofs.Goes.{goes_by}
 use Rattle.gp_system.proofs.Pursuits.{turned_over, but_taken, all_taken, reached_root, called_once, so_far_on, has_applying}
 
 -- ---- what the ending says of the graph
@@ -110,15 +112,18 @@ items-append : (is js : List Item) → items_of (is ++ js) ≡ items_of is ++ it
 items-append [] js = refl
 items-append (i ∷ is) js = ap (λ (l : List meant.Item). item_of i ∷ l) (items-append is js)
 
-module _ (goal : CallGoal) (x : Ending Fault) (v w : Shown) (h : HasPursued goal x v w) where
+module _ (goal : CallGoal) (given : ℕ) (x : Ending Fault) (v w : Shown) (h : HasPursued goal given x v w) where
   abbrev s : RuleSystem
   s = system_of v.program h.further
 
   abbrev es : List Found
   es = h.entries
 
-  legal : IsLegal (gp_means s) goal v.journal.trail w.journal.trail es h.pursued.quiet v.left w.left (Some x)
+  legal : IsLegal (gp_means s) goal v.journal.trail w.journal.trail es h.pursued.quiet given h.rest (Some x)
   legal = h.pursued.legal
+
+  used_now : v.left ≡ w.left + legal.items.0
+  used_now = omega (arith, legal.items.1, h.left_before, h.left_behind)
 
   there_now : w.journal.trail ≡ reached (gp_means s) v.journal.trail es
   there_now = legal.at_all
@@ -169,22 +174,21 @@ take_nothing (suc n) (x ∷ xs) e = absurd cc
 abbrev one : ℕ → CallGoal
 one c = record { call = c; mode = Once }
 
-module _ (c : ℕ) (x : Ending Fault) (v w : Shown) (h : HasPursued (one c) x v w) where
+module _ (c given : ℕ) (x : Ending Fault) (v w : Shown) (h : HasPursued (one c) given x v w) where
   unmoved : h.entries ≡ [] → w.journal.trail ≡ v.journal.trail
-  unmoved e = there_now (one c) x v w h ∙ ap (λ (l : List Found). reached (gp_means (system_of v.program h.further)) v.journal.trail l) e
+  unmoved e = there_now (one c) given x v w h ∙ ap (λ (l : List Found). reached (gp_means (system_of v.program h.further)) v.journal.trail l) e
 
   unspent : h.entries ≡ [] → w.left ≡ v.left
   unspent e =
-      let i = (legal (one c) x v w h).items in
+      let i = (legal (one c) given x v w h).items in
       let u : i.0 ≡ 0 = i.2 ∙ ap (λ (l : List Found). length l) e in
-      let g : v.left ≡ w.left + i.0 = i.1 in
-      omega arith
+      omega (arith, used_now (one c) given x v w h)
 
   adds_none : h.entries ≡ [] → Adds (view_of v) (view_of w) []
   adds_none e = record {
-    program = same_program (one c) x v w h;
-    first = same_first (one c) x v w h;
-    items = items_now (one c) x v w h ∙ ap (λ (l : List Item). items_of v.journal.items ++ items_of l) (take_nothing (v.left - w.left) (noted Once h.entries) (ap (λ (l : List Found). noted Once l) e));
+    program = same_program (one c) given x v w h;
+    first = same_first (one c) given x v w h;
+    items = items_now (one c) given x v w h ∙ ap (λ (l : List Item). items_of v.journal.items ++ items_of l) (take_nothing (v.left - w.left) (noted Once h.entries) (ap (λ (l : List Found). noted Once l) e));
     left = let l = unspent e in omega arith;
   }
 
@@ -199,64 +203,64 @@ module _ (c : ℕ) (x : Ending Fault) (v w : Shown) (h : HasPursued (one c) x v 
   fails_still set i e none = record {
     trace = [];
     makes = record {
-      run = subst (λ (g : Graph). Run (program_of_tree v.program) (Call c) g [] [] (Fails w.journal.trail.graph)) (ap (λ (t : Trail). t.graph) (unmoved e)) (call_fails i (blocked_now (one c) x v w h set i none));
+      run = subst (λ (g : Graph). Run (program_of_tree v.program) (Call c) g [] [] (Fails w.journal.trail.graph)) (ap (λ (t : Trail). t.graph) (unmoved e)) (call_fails i (blocked_now (one c) given x v w h set i none));
       adds = adds_none e;
     };
     room = h.room;
   }
 
 -- the one entry
-stepped_once : (c : ℕ) (x : Ending Fault) (v w : Shown) (h : HasPursued (one c) x v w) (es : List Found) → h.entries ≡ es → length es ≡ 1 → MakesCall (Call c) (view_of v) (view_of w) (Gives w.journal.trail.graph)
-stepped_once c x v w h [] e l = absurd (omega arith)
-stepped_once c x v w h (m ∷ n ∷ ms) e l = absurd (omega arith)
-stepped_once c x v w h (m ∷ []) e l =
+stepped_once : (c given : ℕ) (x : Ending Fault) (v w : Shown) (h : HasPursued (one c) given x v w) (es : List Found) → h.entries ≡ es → length es ≡ 1 → MakesCall (Call c) (view_of v) (view_of w) (Gives w.journal.trail.graph)
+stepped_once c given x v w h [] e l = absurd (omega arith)
+stepped_once c given x v w h (m ∷ n ∷ ms) e l = absurd (omega arith)
+stepped_once c given x v w h (m ∷ []) e l =
     let s = system_of v.program h.further in
-    let k = legal (one c) x v w h in
+    let k = legal (one c) given x v w h in
     let a : AllApply (gp_means s) (one c) v.journal.trail (m ∷ []) = subst (λ (z : List Found). AllApply (gp_means s) (one c) v.journal.trail z) e k.each_applies in
     let t : w.journal.trail ≡ advanced (rules_of s) v.journal.trail m = k.at_all ∙ ap (λ (z : List Found). reached (gp_means s) v.journal.trail z) e in
     let i = k.items in
     let u : i.0 ≡ 1 = i.2 ∙ ap (λ (z : List Found). length z) e in
-    let g : v.left ≡ w.left + i.0 = i.1 in
+    let g : v.left ≡ w.left + i.0 = used_now (one c) given x v w h in
     let d : v.left - w.left ≡ 1 = omega arith in
     record {
       trace = Stepped m ∷ [];
       makes = record {
         run = subst (λ (z : Graph). Run (program_of_tree v.program) (Call c) v.journal.trail.graph [] (Stepped m ∷ []) (Gives z)) (sym (ap (λ (z : Trail). z.graph) t)) (called_once s (one c) h.well_formed (program_of_tree v.program) v.journal.trail m refl refl a.0 h.numbered);
         adds = record {
-          program = same_program (one c) x v w h;
-          first = same_first (one c) x v w h;
-          items = items_now (one c) x v w h ∙ ap (λ (z : List Found). items_of v.journal.items ++ items_of (take (v.left - w.left) (noted Once z))) e ∙ ap (λ (z : ℕ). items_of v.journal.items ++ items_of (take z (noted Once (m ∷ [])))) d;
+          program = same_program (one c) given x v w h;
+          first = same_first (one c) given x v w h;
+          items = items_now (one c) given x v w h ∙ ap (λ (z : List Found). items_of v.journal.items ++ items_of (take (v.left - w.left) (noted Once z))) e ∙ ap (λ (z : ℕ). items_of v.journal.items ++ items_of (take z (noted Once (m ∷ [])))) d;
           left = omega arith;
         };
       };
       room = h.room;
     }
 
-no_entry : (c : ℕ) (x : Ending Fault) (v w : Shown) (h : HasPursued (one c) x v w) → (Some x ≡ Some ending.Committed → ⊥) → h.entries ≡ []
-no_entry c x v w h n =
-    elim ((legal (one c) x v w h).one_at_most refl) [
+no_entry : (c given : ℕ) (x : Ending Fault) (v w : Shown) (h : HasPursued (one c) given x v w) → (Some x ≡ Some ending.Committed → ⊥) → h.entries ≡ []
+no_entry c given x v w h n =
+    elim ((legal (one c) given x v w h).one_at_most refl) [
       | inl e ↦ e
       | inr e ↦ absurd (n e)
     ]
 
-pub called_so : (c : ℕ) (x : Ending Fault) (v w : Shown) → c < length v.program.sets → HasPursued (one c) x v w → HasCalled c (called_of x) (view_of v) (view_of w)
-called_so c ending.Committed v w l h = stepped_once c ending.Committed v w h h.entries refl (legal (one c) ending.Committed v w h).ended.1
-called_so c ending.Blocked v w l h =
+pub called_so : (c given : ℕ) (x : Ending Fault) (v w : Shown) → c < length v.program.sets → given ≡ v.left → HasPursued (one c) given x v w → HasCalled c (called_of x) (view_of v) (view_of w)
+called_so c given ending.Committed v w l all_left h = stepped_once c given ending.Committed v w h h.entries refl (legal (one c) given ending.Committed v w h).ended.1
+called_so c given ending.Blocked v w l all_left h =
     let set = element v.program.sets c l in
-    fails_still c ending.Blocked v w h set.0 set.1 (no_entry c ending.Blocked v w h (λ e. cc)) (legal (one c) ending.Blocked v w h).ended
-called_so c ending.Bound v w l h =
+    fails_still c given ending.Blocked v w h set.0 set.1 (no_entry c given ending.Blocked v w h (λ e. cc)) (legal (one c) given ending.Blocked v w h).ended
+called_so c given ending.Bound v w l all_left h =
     let set = element v.program.sets c l in
-    let z = (legal (one c) ending.Bound v w h).ended in (
-      stands_still c ending.Bound v w h (no_entry c ending.Bound v w h (λ e. cc)),
+    let z = (legal (one c) given ending.Bound v w h).ended in (
+      stands_still c given ending.Bound v w h (no_entry c given ending.Bound v w h (λ e. cc)),
       elim z.1 [
         | inl q ↦ absurd (let e : Once ≡ Saturate = q.0 in cc)
-        | inr q ↦ spent_now (one c) ending.Bound v w h set.0 set.1 z.0 q.0 q.1
+        | inr q ↦ spent_now (one c) given ending.Bound v w h set.0 set.1 (omega (arith, z.0, h.left_before, h.left_behind)) q.0 q.1
       ],
     )
-called_so c (ending.Fault r) v w l h =
-    let z = (legal (one c) (ending.Fault r) v w h).ended in
-    (stands_still c (ending.Fault r) v w h (no_entry c (ending.Fault r) v w h (λ e. cc)), faulty_now (one c) (ending.Fault r) v w h r z.0 z.1)
-called_so c ending.Stopped v w l h = tt
+called_so c given (ending.Fault r) v w l all_left h =
+    let z = (legal (one c) given (ending.Fault r) v w h).ended in
+    (stands_still c given (ending.Fault r) v w h (no_entry c given (ending.Fault r) v w h (λ e. cc)), faulty_now (one c) given (ending.Fault r) v w h r z.0 z.1)
+called_so c given ending.Stopped v w l all_left h = tt
 
 -- ---- a goal whose matches are taken until none is left, behind its first turn
 
@@ -267,7 +271,7 @@ counted_turns : (es : List Found) → counted (items_of (turns_first es)) ≡ 2 
 counted_turns [] = refl
 counted_turns (m ∷ ms) = let l = counted_turns ms in let a = counted-append (Turned ∷ Stepped m ∷ []) (items_of (turns_first ms)) in omega arith
 
-module _ (c : ℕ) (x : Ending Fault) (u : View) (v w : Shown) (h : HasPursued (all c) x v w) (made : TurnMade u (view_of v)) where
+module _ (c given : ℕ) (x : Ending Fault) (u : View) (v w : Shown) (h : HasPursued (all c) given x v w) (made : TurnMade u (view_of v)) where
   abbrev s2 : RuleSystem
   s2 = system_of v.program h.further
 
@@ -277,7 +281,7 @@ module _ (c : ℕ) (x : Ending Fault) (u : View) (v w : Shown) (h : HasPursued (
 
   goes_so_far : SoFar u.program (Call c) u.graph [] (items_of (turns_first h.entries)) w.journal.trail.graph
   goes_so_far =
-      let k = legal (all c) x v w h in
+      let k = legal (all c) given x v w h in
       let f = so_far_on s2 (all c) h.well_formed (program_of_tree v.program) v.journal.trail.graph [] v.journal.trail h.entries refl refl at_first k.each_applies h.numbered in
       let g : SoFar (program_of_tree v.program) (Call c) v.journal.trail.graph [] (items_of (turns_first h.entries)) w.journal.trail.graph = subst (λ (t : Trail). SoFar (program_of_tree v.program) (Call c) v.journal.trail.graph [] (items_of (turns_first h.entries)) t.graph) (sym k.at_all) f in
       let i : SoFar u.program (Call c) v.journal.trail.graph [] (items_of (turns_first h.entries)) w.journal.trail.graph = subst (λ (p : Program). SoFar p (Call c) v.journal.trail.graph [] (items_of (turns_first h.entries)) w.journal.trail.graph) made.adds.program g in
@@ -289,7 +293,7 @@ module _ (c : ℕ) (x : Ending Fault) (u : View) (v w : Shown) (h : HasPursued (
   -- all turns are made
   full_items : v.left - w.left ≡ 2 * length h.entries → items_of w.journal.items ≡ (u.items ++ items_of (turns_first h.entries)) ++ Turned ∷ []
   full_items e =
-      items_now (all c) x v w h
+      items_now (all c) given x v w h
       ∙ ap (λ (l : List Item). items_of v.journal.items ++ items_of l) (all_taken h.entries (v.left - w.left) e)
       ∙ ap (λ (l : List meant.Item). l ++ items_of (noted Saturate h.entries)) items_before
       ∙ append_assoc u.items (Turned ∷ []) (items_of (noted Saturate h.entries))
@@ -307,8 +311,8 @@ module _ (c : ℕ) (x : Ending Fault) (u : View) (v w : Shown) (h : HasPursued (
   last_turn : v.left ≡ w.left + 2 * length h.entries → TurnMade mid (view_of w)
   last_turn e = record {
     adds = record {
-      program = same_program (all c) x v w h ∙ made.adds.program;
-      first = same_first (all c) x v w h ∙ made.adds.first;
+      program = same_program (all c) given x v w h ∙ made.adds.program;
+      first = same_first (all c) given x v w h ∙ made.adds.first;
       items = full_items (omega arith);
       left = omega arith;
     };
@@ -319,7 +323,7 @@ module _ (c : ℕ) (x : Ending Fault) (u : View) (v w : Shown) (h : HasPursued (
   -- the turn after the last step is missing
   but_items : (m : Found) (ms : List Found) → h.entries ≡ m ∷ ms → (v.left - w.left) + 1 ≡ 2 * length (m ∷ ms) → items_of w.journal.items ≡ u.items ++ items_of (turns_first h.entries)
   but_items m ms e l =
-      items_now (all c) x v w h
+      items_now (all c) given x v w h
       ∙ ap (λ (z : List Found). items_of v.journal.items ++ items_of (take (v.left - w.left) (noted Saturate z))) e
       ∙ ap (λ (z : List Item). items_of v.journal.items ++ items_of z) (but_taken m ms (v.left - w.left) l)
       ∙ ap (λ (z : List meant.Item). z ++ items_of (items.Step m ∷ turns_first ms)) items_before
@@ -327,12 +331,12 @@ module _ (c : ℕ) (x : Ending Fault) (u : View) (v w : Shown) (h : HasPursued (
       ∙ ap (λ (z : List Found). u.items ++ items_of (turns_first z)) (sym e)
 
   but_turns : (es : List Found) → h.entries ≡ es → v.left + 1 ≡ w.left + 2 * length es → Turns c u (view_of w)
-  but_turns [] e l = absurd (let i = (legal (all c) x v w h).items in let g : v.left ≡ w.left + i.0 = i.1 in omega arith)
+  but_turns [] e l = absurd (let g = used_now (all c) given x v w h in omega arith)
   but_turns (m ∷ ms) e l = record {
     trace = items_of (turns_first h.entries);
     adds = record {
-      program = same_program (all c) x v w h ∙ made.adds.program;
-      first = same_first (all c) x v w h ∙ made.adds.first;
+      program = same_program (all c) given x v w h ∙ made.adds.program;
+      first = same_first (all c) given x v w h ∙ made.adds.first;
       items = but_items m ms e (omega arith);
       left = let a = counted_turns h.entries in let b : v.left + 1 ≡ u.left = made.adds.left in let d = ap (λ (z : List Found). length z) e in omega arith;
     };
@@ -348,71 +352,71 @@ module _ (c : ℕ) (x : Ending Fault) (u : View) (v w : Shown) (h : HasPursued (
   call_fails_now set i none = record {
     trace = [];
     makes = record {
-      run = subst (λ (p : ProgramParts). Run (program_of_tree p) (Call c) w.journal.trail.graph [] [] (Fails w.journal.trail.graph)) (sym h.program) (call_fails i (blocked_now (all c) x v w h set i none));
+      run = subst (λ (p : ProgramParts). Run (program_of_tree p) (Call c) w.journal.trail.graph [] [] (Fails w.journal.trail.graph)) (sym h.program) (call_fails i (blocked_now (all c) given x v w h set i none));
       adds = adds-nothing (view_of w);
     };
     room = refl;
   }
 
 -- how many items were used
-used_all : (c : ℕ) (x : Ending Fault) (v w : Shown) (h : HasPursued (all c) x v w) → (Some x ≡ Some ending.Bound → ⊥) → v.left ≡ w.left + 2 * length h.entries
-used_all c x v w h n =
-    let i = (legal (all c) x v w h).items in
-    let g : v.left ≡ w.left + i.0 = i.1 in
+used_all : (c given : ℕ) (x : Ending Fault) (v w : Shown) (h : HasPursued (all c) given x v w) → (Some x ≡ Some ending.Bound → ⊥) → v.left ≡ w.left + 2 * length h.entries
+used_all c given x v w h n =
+    let i = (legal (all c) given x v w h).items in
+    let g : v.left ≡ w.left + i.0 = used_now (all c) given x v w h in
     elim i.2 [
       | inl e ↦ omega arith
       | inr e ↦ absurd (n e.1)
     ]
 
-pub blocked_so : (c : ℕ) (r : Repeated) (u : View) (v w : Shown) (z : View) → c < length v.program.sets → HasTurned turned.Made u (view_of v) → HasPursued (all c) ending.Blocked v w → HasEnded r (view_of w) z → HasRepeated c r u z
-blocked_so c r u v w z l made h e =
+pub blocked_so : (c given : ℕ) (r : Repeated) (u : View) (v w : Shown) (z : View) → c < length v.program.sets → HasTurned turned.Made u (view_of v) → HasPursued (all c) given ending.Blocked v w → HasEnded r (view_of w) z → HasRepeated c r u z
+blocked_so c given r u v w z l made h e =
     let set = element v.program.sets c l in
-    let used = used_all c ending.Blocked v w h (λ q. cc) in
-    turns_end c r u (mid c ending.Blocked u v w h made) (view_of w) (view_of w) z (full_turns c ending.Blocked u v w h made used) (last_turn c ending.Blocked u v w h made used)
-    (call_fails_now c ending.Blocked u v w h made set.0 set.1 (legal (all c) ending.Blocked v w h).ended) e refl
+    let used = used_all c given ending.Blocked v w h (λ q. cc) in
+    turns_end c r u (mid c given ending.Blocked u v w h made) (view_of w) (view_of w) z (full_turns c given ending.Blocked u v w h made used) (last_turn c given ending.Blocked u v w h made used)
+    (call_fails_now c given ending.Blocked u v w h made set.0 set.1 (legal (all c) given ending.Blocked v w h).ended) e refl
 
-pub faulty_so : (c : ℕ) (f : Fault) (u : View) (v w : Shown) → HasTurned turned.Made u (view_of v) → HasPursued (all c) (ending.Fault f) v w → HasRepeated c (repeated.Fault f.rule f.kind) u (view_of w)
-faulty_so c f u v w made h =
-    let z = (legal (all c) (ending.Fault f) v w h).ended in
-    let used = used_all c (ending.Fault f) v w h (λ q. cc) in
-    turns_faulty c f.rule f.kind u (mid c (ending.Fault f) u v w h made) (view_of w) (view_of w) (full_turns c (ending.Fault f) u v w h made used) (last_turn c (ending.Fault f) u v w h made used)
-    (call_stands_now c (ending.Fault f) u v w h made, faulty_now (all c) (ending.Fault f) v w h f z.0 z.1)
+pub faulty_so : (c given : ℕ) (f : Fault) (u : View) (v w : Shown) → HasTurned turned.Made u (view_of v) → HasPursued (all c) given (ending.Fault f) v w → HasRepeated c (repeated.Fault f.rule f.kind) u (view_of w)
+faulty_so c given f u v w made h =
+    let z = (legal (all c) given (ending.Fault f) v w h).ended in
+    let used = used_all c given (ending.Fault f) v w h (λ q. cc) in
+    turns_faulty c f.rule f.kind u (mid c given (ending.Fault f) u v w h made) (view_of w) (view_of w) (full_turns c given (ending.Fault f) u v w h made used) (last_turn c given (ending.Fault f) u v w h made used)
+    (call_stands_now c given (ending.Fault f) u v w h made, faulty_now (all c) given (ending.Fault f) v w h f z.0 z.1)
 
-pub bound_so : (c : ℕ) (u : View) (v w : Shown) → c < length v.program.sets → HasTurned turned.Made u (view_of v) → HasPursued (all c) ending.Bound v w → HasRepeated c repeated.Bound u (view_of w)
-bound_so c u v w l made h =
+pub bound_so : (c given : ℕ) (u : View) (v w : Shown) → c < length v.program.sets → HasTurned turned.Made u (view_of v) → HasPursued (all c) given ending.Bound v w → w.left ≡ 0 → HasRepeated c repeated.Bound u (view_of w)
+bound_so c given u v w l made h none =
     let set = element v.program.sets c l in
-    let k = legal (all c) ending.Bound v w h in
+    let k = legal (all c) given ending.Bound v w h in
     let z = k.ended in
     let i = k.items in
-    let g : v.left ≡ w.left + i.0 = i.1 in
-    let none : w.left ≡ 0 = z.0 in
+    let g : v.left ≡ w.left + i.0 = used_now (all c) given ending.Bound v w h in
+    let f : given ≡ h.rest + i.0 = i.1 in
     elim i.2 [
       | inl e ↦ (
           let used : v.left ≡ w.left + 2 * length h.entries = omega arith in
           elim z.1 [
-            | inl q ↦ absurd (let d : v.left + 1 ≡ 2 * length h.entries = q.1 in omega arith)
-            | inr q ↦ turns_spent c u (mid c ending.Bound u v w h made) (view_of w) (view_of w) (full_turns c ending.Bound u v w h made used) (last_turn c ending.Bound u v w h made used)
-                (call_stands_now c ending.Bound u v w h made, spent_now (all c) ending.Bound v w h set.0 set.1 none q.0 q.1)
+            | inl q ↦ absurd (let d : given + 1 ≡ 2 * length h.entries = q.1 in let b = z.0 in omega arith)
+            | inr q ↦ turns_spent c u (mid c given ending.Bound u v w h made) (view_of w) (view_of w) (full_turns c given ending.Bound u v w h made used) (last_turn c given ending.Bound u v w h made used)
+                (call_stands_now c given ending.Bound u v w h made, spent_now (all c) given ending.Bound v w h set.0 set.1 none q.0 q.1)
           ]
           )
-      | inr e ↦ turns_bound c u (view_of w) (view_of w) (but_turns c ending.Bound u v w h made h.entries refl (let d : i.0 + 1 ≡ 2 * length h.entries = e.0 in omega arith)) (refl, none)
+      | inr e ↦ turns_bound c u (view_of w) (view_of w) (but_turns c given ending.Bound u v w h made h.entries refl (let d : i.0 + 1 ≡ 2 * length h.entries = e.0 in omega arith)) (refl, none)
     ]
 
--- ---- the same as bodies have it: s is what the session shows as it begins
-
-pub bound_first : (c : ℕ) (s u w : Shown) → s ≡ u → HasTurned turned.Bound (view_of s) (view_of w) → HasRepeated c repeated.Bound (view_of u) (view_of w)
-bound_first c s u w e t = subst (λ (z : Shown). HasRepeated c repeated.Bound (view_of z) (view_of w)) e (turns_bound c (view_of s) (view_of s) (view_of w) (turns_none c (view_of s)) t)
-
-set_there : (c : ℕ) (s u v : Shown) → s ≡ u → c < length u.program.sets → Grows s v → c < length v.program.sets
-set_there c s u v e l g = subst (λ (p : ProgramParts). c < length p.sets) (ap (λ (z : Shown). z.program) (sym e) ∙ sym g.program) l
-
-pub blocked_here : (c : ℕ) (r : Repeated) (s u v w x z : Shown) (y0 : Ending Fault) → s ≡ u → c < length u.program.sets → Grows s v → HasTurned turned.Made (view_of s) (view_of v) → y0 ≡ ending.Blocked → HasPursued (all c) y0 v w → x ≡ w → HasEnded r (view_of x) (view_of z) → HasRepeated c r (view_of u) (view_of z)
-blocked_here c r s u v w x z y0 e l g made f h i k =
-    blocked_so c r (view_of u) v w (view_of z) (set_there c s u v e l g) (subst (λ (y : Shown). HasTurned turned.Made (view_of y) (view_of v)) e made) (subst (λ (y : Ending Fault). HasPursued (all c) y v w) f h) (subst (λ (y : Shown). HasEnded r (view_of y) (view_of z)) i k)
-
-pub bound_here : (c : ℕ) (s u v w : Shown) (y0 : Ending Fault) → s ≡ u → c < length u.program.sets → Grows s v → HasTurned turned.Made (view_of s) (view_of v) → y0 ≡ ending.Bound → HasPursued (all c) y0 v w → HasRepeated c repeated.Bound (view_of u) (view_of w)
-bound_here c s u v w y0 e l g made f h =
-    bound_so c (view_of u) v w (set_there c s u v e l g) (subst (λ (y : Shown). HasTurned turned.Made (view_of y) (view_of v)) e made) (subst (λ (y : Ending Fault). HasPursued (all c) y v w) f h)
-
-pub faulty_here : (c : ℕ) (r : Fault) (s u v w : Shown) (y0 : Ending Fault) → s ≡ u → HasTurned turned.Made (view_of s) (view_of v) → y0 ≡ ending.Fault r → HasPursued (all c) y0 v w → HasRepeated c (repeated.Fault r.rule r.kind) (view_of u) (view_of w)
-faulty_here c r s u v w y0 e made f h = faulty_so c r (view_of u) v w (subst (λ (y : Shown). HasTurned turned.Made (view_of y) (view_of v)) e made) (subst (λ (y : Ending Fault). HasPursued (all c) y v w) f h)
+-- where an odd number of items was given and used, the turn behind the last step is due
+pub leased_so : (c given lease : ℕ) (u : View) (v w : Shown) → HasTurned turned.Made u (view_of v) → HasPursued (all c) given ending.Bound v w → given ≡ min v.left lease → lease % 2 ≡ 1 → 0 < w.left → GoesOn c u (view_of w) × (w.left < v.left)
+leased_so c given lease u v w made h least odd some =
+    let k = legal (all c) given ending.Bound v w h in
+    let i = k.items in
+    let g : v.left ≡ w.left + i.0 = used_now (all c) given ending.Bound v w h in
+    let f : given ≡ h.rest + i.0 = i.1 in
+    let none : h.rest ≡ 0 = k.ended.0 in
+    let before = h.left_before in
+    let behind = h.left_behind in
+    let all_given : given ≡ lease = omega arith in
+    elim i.2 [
+      | inl e ↦ absurd (let d : i.0 ≡ 2 * length h.entries = e in omega arith)
+      | inr e ↦ (
+          let d : i.0 + 1 ≡ 2 * length h.entries = e.0 in
+          (goes_by c u (view_of w) (but_turns c given ending.Bound u v w h made h.entries refl (omega arith)), omega arith)
+          )
+    ]

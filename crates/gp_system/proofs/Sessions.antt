@@ -88,6 +88,9 @@ stepped_here s p j k c l m e w whole a pos f =
     (subst (λ (x : Shown). MakesCall (Call c) (view_of x) (view_of (shown p (with_step (map rule_of_tree p.rules) j m) (l - 1))) (Gives (with_step (map rule_of_tree p.rules) j m).trail.graph)) e
     (call_stepped p c j l (l - 1) m w whole (subst (λ (x : Shown). AppliesForCall (program_of_tree x.program) c x.journal.trail.graph m) (sym e) a) (omega arith)))
 
+pub applies_for : (program : Program) (c : ℕ) (g : Graph) (m : Found) → HasSoughtCall program c g (answers.Applies m) → AppliesForCall program c g m
+applies_for program c g m a = record { set = a.set; is_set = a.is_set; found = a.sought }
+
 -- ---- one share is all
 
 mod_one : (n : ℕ) → n % 1 ≡ 0

@@ -7,3 +7,4 @@ pub mod Noted
 pub mod Pursued
 pub mod Finishing
 pub mod AfterTurn
+pub mod Given

@@ -1,18 +1,20 @@
-//! A run of a program whose calls are searched by several workers where they have many candidates.
+//! A run of a program whose calls are searched by several workers where one alone would search long.
 
-ghost use Rattle.std.specs.Prelude.{◌≡◌, ◌<◌, IfOk, length, map};
+ghost use Rattle.std.specs.Prelude.{◌≡◌, ◌<◌, ◌≤◌, ◌%◌, IfOk, length, map};
 ghost use Rattle.gp_syntax.specs.Tree.{rule_of_tree};
 ghost use Rattle.gp_plan.specs.Plan.{plan_of};
 ghost use Rattle.gp_journal.specs.Journal.{IsJournalOf};
-ghost use Rattle.gp_run.specs.Engine.{HasCalled, HasRepeated};
+ghost use Rattle.gp_run.specs.Engine.{View, HasCalled, HasRepeated, HasTurned};
+ghost use Rattle.gp_run.specs.declared.engine.Turned.TheVariants as turned;
 ghost use Rattle.gp_system.specs.inside.Viewed.{view_of, begun};
-ghost use Rattle.gp_system.specs.inside.Pursued.{HasPursued, called_of};
+ghost use Rattle.gp_system.specs.inside.Pursued.{HasPursued};
+ghost use Rattle.gp_system.specs.inside.AfterTurn.{HasGone, still};
 
 use crate::crew::Crew;
 use crate::goal::{CallGoal, Fault};
 use crate::gp::Gp;
 use crate::pursuit::{Asked, brought, note_used, pursue_goal};
-use crate::session::Session;
+use crate::session::{AfterTurn, Session};
 use gp_graph::Graph;
 use gp_journal::{Journal, Trail};
 use gp_memory::NoMemory;
@@ -27,6 +29,12 @@ use std::marker::Model;
 use std::mem;
 use std::sync::Wait;
 use std::thread::Threads;
+
+// How many candidates a search may look at for each of the fan.
+const CANDIDATES: u64 = 1000;
+
+// With how many counted items the crew has a loop first, from within a turn: eight steps, and the turns between them.
+const FIRST_LEASE: u64 = 15;
 
 /// A run with a crew. Contracts see what they see of a `Session`. The workers' trails are made at the first call that goes
 /// to the crew and kept, with how many items of the journal they have had.
@@ -61,30 +69,7 @@ fn shares_for(crew: Crew) -> u32
     if crew.batch > 1 {
         return crew.workers;
     }
-    crew.workers
-        .checked_mul(SHARES_OF_A_WORKER)
-        .unwrap_or(crew.workers)
-}
-
-// What came of a goal of one match.
-fn called(ending: Ending<Fault>) -> Called
-    ensures { result ≡ called_of ending }
-{
-    match ending {
-        Ending::Committed => Called::Stepped,
-        Ending::Blocked => Called::Blocked,
-        Ending::Bound => Called::Bound,
-        Ending::Fault(fault) => Called::Fault(fault.rule, fault.kind),
-        Ending::Stopped => Called::NoMemory,
-    }
-}
-
-impl<'a> CrewSession<'a> {
-    // Whether the call goes to the crew at once.
-    fn is_wide(&self, call: u32) -> bool {
-        self.system
-            .is_wide(call, self.session.graph(), self.crew.fan)
-    }
+    crew.workers.saturating_mul(SHARES_OF_A_WORKER)
 }
 
 impl<'a> CrewSession<'a> {
@@ -120,14 +105,31 @@ impl<'a> CrewSession<'a> {
         self.session.into_journal()
     }
 
-    // Lets the crew pursue the call. After a refusal nothing of the run is left.
+    // Whether the call goes to the crew at once.
+    fn is_wide(&self, call: u32) -> bool {
+        let fan = self.crew.fan;
+        fan <= 1 && self.system.is_wide(call, self.session.graph(), fan)
+    }
+
+    // How many candidates a search on the run's own graph may look at before it is given up: so many that turns at the gate
+    // are cheap beside it, and one for each part of the run, which the workers have to copy; a quarter for each of these
+    // where they are more than four.
+    fn patience(&self) -> Option<u64> {
+        let turns = u64::from(self.crew.fan.max(64)) * CANDIDATES;
+        let copies = u64::from(self.crew.workers.max(4)).saturating_mul(self.session.size()) / 4;
+        Some(turns.saturating_add(copies))
+    }
+
+    // Lets the crew pursue the call, with so many of the items left. After a refusal nothing of the run is left.
     fn pursue_call<R: Threads + Wait + Sync>(
         &mut self,
         rt: &R,
         goal: CallGoal,
+        given: u64,
     ) -> Result<Ending<Fault>, NoMemory>
-        requires { goal.call < length self.old.program.sets }
-        ensures { IfOk result (λ x. HasPursued goal x self.old self.new) }
+        requires set { goal.call < length self.old.program.sets }
+        requires given { given ≤ self.old.left }
+        ensures { IfOk result (λ x. HasPursued goal given x self.old self.new) }
     {
         let left = self.session.left();
         let (trail, mut items) = self.session.take_apart();
@@ -139,53 +141,86 @@ impl<'a> CrewSession<'a> {
         let asked = Asked {
             goal,
             trail,
-            left,
+            left: given,
             batch: self.crew.batch,
         };
         let pursued = pursue_goal(rt, &self.system, asked, there, self.pace)?;
-        let used = left - pursued.left;
+        let used = given - pursued.left;
         note_used(&mut items, pursued.entries, goal.mode, used)?;
         self.had = items.as_slice().len();
         self.replicas = pursued.replicas;
-        self.session
-            .put_together(pursued.trail, items, pursued.left);
+        self.session.put_together(pursued.trail, items, left - used);
         Ok(pursued.ending)
-    }
-
-    // The whole loop over a call, whose first turn is made: the goal tells how it goes on.
-    fn pursue_all<R: Threads + Wait + Sync>(&mut self, rt: &R, call: u32) -> Repeated
-        requires { call < length self.old.program.sets }
-        ensures { HasRepeated call result (view_of self.old) (view_of self.new) }
-    {
-        match self.session.begin() {
-            Turned::Made => {}
-            Turned::Bound => return Repeated::Bound,
-            Turned::NoMemory => return Repeated::NoMemory,
-        }
-        let goal = CallGoal {
-            call,
-            mode: Mode::Saturate,
-        };
-        match self.pursue_call(rt, goal) {
-            Ok(Ending::Blocked) => self.session.end(),
-            Ok(Ending::Bound) => Repeated::Bound,
-            Ok(Ending::Fault(fault)) => Repeated::Fault(fault.rule, fault.kind),
-            Ok(Ending::Committed) => unreachable!(),
-            Ok(Ending::Stopped) | Err(NoMemory) => Repeated::NoMemory,
-        }
     }
 
     fn pursue_one<R: Threads + Wait + Sync>(&mut self, rt: &R, call: u32) -> Called
         requires { call < length self.old.program.sets }
         ensures { HasCalled call result (view_of self.old) (view_of self.new) }
     {
-        let goal = CallGoal {
-            call,
-            mode: Mode::Once,
-        };
-        match self.pursue_call(rt, goal) {
-            Ok(ending) => called(ending),
-            Err(NoMemory) => Called::NoMemory,
+        let mode = Mode::Once;
+        let left = self.session.left();
+        match self.pursue_call(rt, CallGoal { call, mode }, left) {
+            Ok(Ending::Committed) => Called::Stepped,
+            Ok(Ending::Blocked) => Called::Blocked,
+            Ok(Ending::Bound) => Called::Bound,
+            Ok(Ending::Fault(fault)) => Called::Fault(fault.rule, fault.kind),
+            Ok(Ending::Stopped) | Err(NoMemory) => Called::NoMemory,
+        }
+    }
+
+    // The loop over a call from within a turn that was begun: the crew has it with so many of the items left. Their number
+    // is odd, so that the last of them is a step.
+    fn pursue_turns<R: Threads + Wait + Sync>(&mut self, rt: &R, call: u32, lease: u64) -> AfterTurn
+        requires set { call < length self.old.program.sets }
+        requires lease { lease % 2 ≡ 1 }
+        ensures going { (u : View) → HasTurned turned.Made u (view_of self.old) → HasGone call result u (view_of self.new) }
+        ensures less { still result self.new.left ≤ self.old.left }
+    {
+        let mode = Mode::Saturate;
+        let given = self.session.left().min(lease);
+        match self.pursue_call(rt, CallGoal { call, mode }, given) {
+            Ok(Ending::Bound) if self.session.left() > 0 => AfterTurn::On,
+            Ok(Ending::Bound) => AfterTurn::Came(Repeated::Bound),
+            Ok(Ending::Blocked) => AfterTurn::Came(self.session.end()),
+            Ok(Ending::Fault(fault)) => AfterTurn::Came(Repeated::Fault(fault.rule, fault.kind)),
+            Ok(Ending::Committed) => unreachable!(),
+            Ok(Ending::Stopped) | Err(NoMemory) => AfterTurn::Came(Repeated::NoMemory),
+        }
+    }
+
+    // How the loop over a call stands as it begins: where the crew is to have it at once, in its first turn.
+    fn first_turn(&mut self, call: u32) -> AfterTurn
+        ensures going { HasGone call result (view_of self.old) (view_of self.new) }
+    {
+        if !self.is_wide(call) {
+            return AfterTurn::On;
+        }
+        match self.session.begin() {
+            Turned::Made => AfterTurn::Dear,
+            Turned::Bound => AfterTurn::Came(Repeated::Bound),
+            Turned::NoMemory => AfterTurn::Came(Repeated::NoMemory),
+        }
+    }
+
+    // The whole loop over a call. Each time that the crew has it, it has it for twice as many steps.
+    fn take_loop<R: Threads + Wait + Sync>(&mut self, rt: &R, call: u32) -> Repeated
+        requires { call < length self.old.program.sets }
+        ensures { HasRepeated call result (view_of self.old) (view_of self.new) }
+    {
+        let mut stands = self.first_turn(call);
+        let mut lease = FIRST_LEASE;
+        'turns: loop {
+            match stands {
+                AfterTurn::On => {
+                    let patience = self.patience();
+                    stands = self.session.take_turns(call, patience);
+                }
+                AfterTurn::Dear => {
+                    stands = self.pursue_turns(rt, call, lease);
+                    lease = lease.saturating_mul(2).saturating_add(1);
+                }
+                AfterTurn::Came(repeated) => return repeated,
+            }
         }
     }
 }
@@ -205,17 +240,15 @@ impl<'a, R: Threads + Wait + Sync> Engine<R> for CrewSession<'a> {
         if self.is_wide(call) {
             return self.pursue_one(rt, call);
         }
-        self.session.take(call)
+        let patience = self.patience();
+        match self.session.take(call, patience) {
+            Some(called) => called,
+            None => self.pursue_one(rt, call),
+        }
     }
 
     fn repeat(&mut self, rt: &R, call: u32) -> Repeated {
-        if self.crew.fan <= 1 && self.is_wide(call) {
-            return self.pursue_all(rt, call);
-        }
-        match self.session.take_cheap(call, u64::from(self.crew.fan)) {
-            Some(repeated) => repeated,
-            None => self.pursue_all(rt, call),
-        }
+        self.take_loop(rt, call)
     }
 
     fn turn(&mut self, _rt: &R) -> Turned {

@@ -12,7 +12,6 @@ mod crew;
 mod crew_session;
 mod goal;
 mod gp;
-mod hints;
 pub mod laws;
 mod outcome;
 mod pursuit;

@@ -54,17 +54,7 @@ fn copies(alloc: Global, trail: &Trail, count: u32) -> Result<Vec<Trail>, NoMemo
     Ok(copies)
 }
 
-// Brings a trail to another by the items that lead from it there.
-fn bring(rules: &[Rule], missing: &[Item], replica: &mut Trail) -> Result<(), NoMemory>
-    requires { (t : AnyTrail) × Leads (map rule_of_tree rules.now) (items_of missing.now) replica.old t }
-    ensures { OnOk result (Leads (map rule_of_tree rules.now) (items_of missing.now) replica.old (record replica.new { caught = replica.old.caught }) × (replica.new.caught ≡ 0)) }
-{
-    replica.catch_up(rules, missing)?;
-    replica.settle();
-    Ok(())
-}
-
-// The same for each of them.
+// Brings each trail to another by the items that lead from it there.
 fn bring_all(
     rules: &[Rule],
     missing: &[Item],
@@ -78,7 +68,8 @@ fn bring_all(
     ensures len { length replicas.new ≡ length replicas.old }
 {
     for replica in replicas.iter_mut() {
-        bring(rules, missing, replica)?;
+        replica.catch_up(rules, missing)?;
+        replica.settle();
         replica.set_hints(trail.graph().start(), trail.graph().changed());
     }
     Ok(())
@@ -142,16 +133,11 @@ pub(crate) fn pursue_goal<P: Pace + Sync, R: Threads + Wait + Sync>(
     ensures there { IfOk result (λ p. All (λ t. t ≡ p.trail) p.replicas.items) }
     ensures few { IfOk result (λ p. vec_len p.replicas < 2 ^ 32) }
 {
-    let Asked {
-        goal,
-        trail,
-        left,
-        batch,
-    } = asked;
-    let Ok(core) = Core::start(*replicas.allocator(), system, trail, goal, left) else {
+    let alloc = *replicas.allocator();
+    let Ok(core) = Core::start(alloc, system, asked.trail, asked.goal, asked.left) else {
         return Err(NoMemory);
     };
-    let (core, mut replicas) = pursue(rt, system, core, replicas, pace, batch);
+    let (core, mut replicas) = pursue(rt, system, core, replicas, pace, asked.batch);
     let (trail, entries, left, ending) = core.into_parts();
     level(system, &entries, &trail, &mut replicas)?;
     let Some(ending) = ending else { unreachable!() };

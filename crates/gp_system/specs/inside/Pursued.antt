@@ -56,13 +56,18 @@ noted_but_last_turn (m ∷ ms) = items.Step m ∷ turns_first ms
 abbrev pub system_of : ProgramParts → ℕ → RuleSystem
 system_of p further = record { rules = p.rules; sets = p.sets; further = further }
 
--- a goal of the program's calls came to this between two moments of a run
-pub record HasPursued (goal : CallGoal) (x : Ending Fault) (v w : Shown) : Type 0 where
+-- a goal of the program's calls, given so many of the items left, came to this between two moments of a run
+pub record HasPursued (goal : CallGoal) (given : ℕ) (x : Ending Fault) (v w : Shown) : Type 0 where
   pub further : ℕ
   pub well_formed : All IsWellFormed (map rule_of_tree v.program.rules)
   pub numbered : IsNumbered v.journal.trail.graph
   pub entries : List Found
-  pub pursued : IsPursued (system_of v.program further) goal v.journal.trail v.left w.journal.trail entries w.left x
+  -- of the items given, what is left; and what was not given
+  pub rest : ℕ
+  pub spared : ℕ
+  pub left_before : v.left ≡ given + spared
+  pub left_behind : w.left ≡ rest + spared
+  pub pursued : IsPursued (system_of v.program further) goal v.journal.trail given w.journal.trail entries rest x
   pub program : w.program ≡ v.program
   pub items : w.journal.items ≡ v.journal.items ++ take (v.left - w.left) (noted goal.mode entries)
   pub room : w.journal.backs ≡ v.journal.backs

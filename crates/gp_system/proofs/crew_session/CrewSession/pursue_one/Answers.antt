@@ -1,11 +1,16 @@
-use Rattle.std.proofs.Common.{sym, subst}
-use Rattle.gp_run.specs.Engine.{HasCalled}
-use Rattle.gp_run.specs.declared.engine.Called.{Called}
-use Rattle.gp_system.specs.inside.Viewed.{view_of}
+use Rattle.std.proofs.Common.{◌∙◌, ap}
+use Rattle.gp_system.specs.inside.Viewed.{Shown}
 use Rattle.gp_system.proofs.Endings.{called_so}
 use Rattle.gp_system.proofs.crew_session.CrewSession.pursue_one.Goals as goal
 
-pub returns-in-Ok : goal.returns-in-Ok
-returns-in-Ok g c =
-    subst (λ (r : Called). HasCalled c.args.call r (view_of c.args.self.now) (view_of c.pursue_call.new.self)) (sym c.called.ensures)
-    (called_so c.args.call c.in-Ok.ending c.args.self.now c.pursue_call.new.self c.requires c.in-Ok.ensures)
+pub returns-in-Ok-Committed : goal.returns-in-Ok-Committed
+returns-in-Ok-Committed g c = called_so _ _ _ _ _ c.requires (c.left-left.ensures ∙ ap (λ (s : Shown). s.left) c.self.view_is) (rw c.in-Ok-Committed.field-0-is at c.in-Ok-Committed.ensures)
+
+pub returns-in-Ok-Blocked : goal.returns-in-Ok-Blocked
+returns-in-Ok-Blocked g c = called_so _ _ _ _ _ c.requires (c.left-left.ensures ∙ ap (λ (s : Shown). s.left) c.self.view_is) (rw c.in-Ok-Blocked.field-0-is at c.in-Ok-Blocked.ensures)
+
+pub returns-in-Ok-Bound : goal.returns-in-Ok-Bound
+returns-in-Ok-Bound g c = called_so _ _ _ _ _ c.requires (c.left-left.ensures ∙ ap (λ (s : Shown). s.left) c.self.view_is) (rw c.in-Ok-Bound.field-0-is at c.in-Ok-Bound.ensures)
+
+pub returns-in-Ok-Fault : goal.returns-in-Ok-Fault
+returns-in-Ok-Fault g c = called_so _ _ _ _ _ c.requires (c.left-left.ensures ∙ ap (λ (s : Shown). s.left) c.self.view_is) (rw c.in-Ok-Fault.field-0-is at c.in-Ok-Fault.ensures)
