@@ -1,5 +1,5 @@
-//! Answers to rows: texts whose writing cannot fail. Where memory is refused, or a row cannot be answered, that is kept
-//! in place of the answer.
+//! Answers to rows: texts whose writing cannot fail. Where memory is refused, or a row cannot be answered, it is kept that
+//! the text is no answer.
 
 use crate::wrong::Wrong;
 use itoa::Buffer;
@@ -10,12 +10,12 @@ use std::io::Write;
 /// An answer, most often of words with a space between each two of them.
 pub struct Answer {
     text: Vec<u8>,
-    wrong: Option<Wrong>,
+    is_answer: bool,
 }
 
 impl Drop for Answer {
     fn drop(self) {
-        let Answer { text, wrong: _ } = self;
+        let Answer { text, is_answer: _ } = self;
         drop(text);
     }
 }
@@ -25,15 +25,13 @@ impl Answer {
     pub fn new(alloc: Global) -> Answer {
         Answer {
             text: Vec::new(alloc),
-            wrong: None,
+            is_answer: true,
         }
     }
 
     /// Writes bytes.
     pub fn put(&mut self, bytes: &[u8]) {
-        if self.text.extend_from_slice(bytes).is_err() {
-            self.wrong(Wrong::new("no memory"));
-        }
+        self.is_answer &= self.text.extend_from_slice(bytes).is_ok();
     }
 
     /// Writes a number.
@@ -58,31 +56,20 @@ impl Answer {
 
     /// Writes a number as a word.
     pub fn number(&mut self, number: u64) {
-        self.word(Buffer::new().format(number).as_bytes());
+        self.word(b"");
+        self.put_number(number);
     }
 
     /// Writes a value as a word, as `{}` prints it.
     pub fn show<T: Display>(&mut self, value: &T) {
         self.word(b"");
-        if write!(self.text, "{value}").is_err() {
-            self.wrong(Wrong::new("no memory"));
-        }
+        self.is_answer &= write!(self.text, "{value}").is_ok();
     }
 
     /// Writes a value as a word, as `{:?}` prints it.
     pub fn debug<T: Debug>(&mut self, value: &T) {
         self.word(b"");
-        if write!(self.text, "{value:?}").is_err() {
-            self.wrong(Wrong::new("no memory"));
-        }
-    }
-
-    /// Writes another answer, if it is one.
-    pub fn add(&mut self, other: &Answer) {
-        self.put(&other.text);
-        if let Some(wrong) = other.wrong {
-            self.wrong(wrong);
-        }
+        self.is_answer &= write!(self.text, "{value:?}").is_ok();
     }
 
     /// Writes what was made elsewhere.
@@ -93,9 +80,10 @@ impl Answer {
         }
     }
 
-    /// Says that there is no answer.
+    /// Says why there is no answer.
     pub fn wrong(&mut self, wrong: Wrong) {
-        self.wrong = Some(wrong);
+        self.is_answer = false;
+        self.word(wrong.text().as_bytes());
     }
 
     /// What is written so far.
@@ -103,20 +91,8 @@ impl Answer {
         &self.text
     }
 
-    /// Why there is no answer.
-    pub fn why(&self) -> Option<Wrong> {
-        self.wrong
-    }
-
-    /// The answer.
-    pub fn into_text(self) -> Result<Vec<u8>, Wrong> {
-        let Answer { text, wrong } = self;
-        match wrong {
-            Some(wrong) => {
-                drop(text);
-                Err(wrong)
-            }
-            None => Ok(text),
-        }
+    /// Whether what is written is an answer.
+    pub fn is_answer(&self) -> bool {
+        self.is_answer
     }
 }

@@ -1,15 +1,15 @@
 //! The report of a file: how many rows it has, and each row that did not give what is wanted.
 
 use crate::answers::Answer;
-use crate::rows::{Names, put_fields, split_at};
-use crate::wrong::Wrong;
+use crate::rows::{put_row, split_at};
 use std::alloc::Global;
 
-/// A report: the name of the file, the names that it has defined, its line, how many rows there were, and the mistakes.
+/// A report: the name of the file, the names that it has defined with their texts, its line, how many rows there were, and
+/// the mistakes.
 pub struct Report {
     alloc: Global,
     name: &'static str,
-    names: Names,
+    names: Vec<(Answer, Answer)>,
     line: u64,
     rows: u64,
     mistakes: Answer,
@@ -36,39 +36,37 @@ impl Report {
         Report {
             alloc,
             name,
-            names: Names::new(alloc),
+            names: Vec::new(alloc),
             line: 0,
             rows: 0,
             mistakes: Answer::new(alloc),
         }
     }
 
-    /// The fields of the next line: none, unless it is a row.
-    pub fn read(&mut self, line: &[u8]) -> Vec<Vec<u8>> {
+    /// The row of the next line, with what stands between backquotes written out; nothing, unless it is a row.
+    pub fn read(&mut self, line: &[u8]) -> Answer {
         self.line = self.line.saturating_add(1);
-        let mut fields = Vec::new(self.alloc);
-        if let Err(wrong) = put_fields(self.alloc, &mut self.names, line, &mut fields) {
-            self.put_mistake(&[wrong.text().as_bytes()]);
-            return Vec::new(self.alloc);
+        let mut row = Answer::new(self.alloc);
+        put_row(self.alloc, &mut self.names, line, &mut row);
+        if !row.is_answer() {
+            self.put_mistake(&[row.text()]);
+            return Answer::new(self.alloc);
         }
-        if !fields.is_empty() {
+        if !row.text().is_empty() {
             self.rows = self.rows.saturating_add(1);
         }
-        fields
+        row
     }
 
     /// Tells an answer to the row of this line that is not the one that is wanted.
     pub fn judge(&mut self, wanted: &[u8], given: &Answer) {
-        let texts = [
-            b"wanted ".as_slice(),
-            wanted,
-            b", gave ".as_slice(),
-            given.text(),
-        ];
-        if let Some(wrong) = given.why() {
-            self.put_mistake(&texts);
-            self.put_mistake(&[wrong.text().as_bytes()]);
-        } else if !is_one_of(given.text(), wanted) {
+        if !given.is_answer() || !is_one_of(given.text(), wanted) {
+            let texts = [
+                b"wanted ".as_slice(),
+                wanted,
+                b", gave ".as_slice(),
+                given.text(),
+            ];
             self.put_mistake(&texts);
         }
     }
@@ -86,14 +84,15 @@ impl Report {
     }
 
     /// Its text: the line of the file, and the mistakes in it.
-    pub fn text(&self) -> Result<Vec<u8>, Wrong> {
+    pub fn text(&self) -> Answer {
         let mut text = Answer::new(self.alloc);
         text.put(self.name.as_bytes());
         text.put(b": ");
         text.put_number(self.rows);
         text.put(b" rows\n");
-        text.add(&self.mistakes);
-        text.into_text()
+        text.put(self.mistakes.text());
+        text.word_if(!self.mistakes.is_answer(), b"and more, without memory\n");
+        text
     }
 }
 
@@ -108,7 +107,7 @@ fn is_one_of(given: &[u8], wanted: &[u8]) -> bool {
                 }
                 left = others;
             }
-            None => return given == left,
+            None => break,
         }
     }
     given == left

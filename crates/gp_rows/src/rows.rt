@@ -1,4 +1,4 @@
-//! Rows of a file: its lines, cut into fields, with what stands between backquotes written out.
+//! Rows of a file: its lines, with what stands between backquotes written out.
 
 ghost use Rattle.std.specs.Prelude.{◌≡◌, ◌++◌, IfSome};
 
@@ -6,76 +6,34 @@ use crate::answers::Answer;
 use crate::wrong::Wrong;
 use std::alloc::Global;
 
-// A name and its text.
-struct Named {
-    name: Vec<u8>,
-    text: Vec<u8>,
-}
-
-impl Drop for Named {
-    fn drop(self) {
-        let Named { name, text } = self;
-        drop(name);
-        drop(text);
-    }
-}
-
-/// The names that a file has defined so far.
-pub(crate) struct Names {
-    names: Vec<Named>,
-}
-
-impl Drop for Names {
-    fn drop(self) {
-        let Names { names } = self;
-        drop(names);
-    }
-}
-
-impl Names {
-    /// No name.
-    pub(crate) fn new(alloc: Global) -> Names {
-        Names {
-            names: Vec::new(alloc),
-        }
-    }
-
-    // Writes the text of a name.
-    fn put(&self, word: &[u8], out: &mut Answer) {
-        for named in self.names.iter() {
-            if named.name.as_slice() == word {
-                return out.put(&named.text);
-            }
-        }
-        out.wrong(Wrong::new("an unknown word between backquotes"));
-    }
-
-    // Takes up the definition `NAME` text.
-    fn define(&mut self, alloc: Global, definition: &[u8]) -> Result<(), Wrong> {
-        let Some((name, text)) = split_at(definition, b"` ") else {
-            return Err(Wrong::new("a definition without a text"));
-        };
-        let text = expanded(alloc, self, text)?;
-        let name = Vec::from_slice(alloc, name)?;
-        self.names.push(Named { name, text })?;
-        Ok(())
-    }
-}
-
-/// Puts the fields of a line behind others. An empty line, a comment and a definition have none.
-pub(crate) fn put_fields(
+/// Writes the row of a line, with what stands between backquotes written out. An empty line, a comment and a definition,
+/// which adds a name, have none.
+pub(crate) fn put_row(
     alloc: Global,
-    names: &mut Names,
+    names: &mut Vec<(Answer, Answer)>,
     line: &[u8],
-    fields: &mut Vec<Vec<u8>>,
-) -> Result<(), Wrong> {
+    out: &mut Answer,
+) {
     if line.is_empty() || line.starts_with(b"//") {
-        return Ok(());
+        return;
     }
     match line.strip_prefix(b"`let ".as_slice()) {
-        Some(definition) => names.define(alloc, definition),
-        None => cut(alloc, names, line, fields),
+        Some(definition) if is_defined(alloc, names, definition) => {}
+        Some(_) => out.wrong(Wrong::new("no definition")),
+        None => put_expanded(names, line, out),
     }
+}
+
+// Takes up the definition `NAME` text, unless it is none.
+fn is_defined(alloc: Global, names: &mut Vec<(Answer, Answer)>, definition: &[u8]) -> bool {
+    let Some((name, text)) = split_at(definition, b"` ") else {
+        return false;
+    };
+    let mut word = Answer::new(alloc);
+    word.put(name);
+    let mut expanded = Answer::new(alloc);
+    put_expanded(names, text, &mut expanded);
+    expanded.is_answer() && names.push((word, expanded)).is_ok()
 }
 
 /// What stands before and behind the first of these marks.
@@ -91,39 +49,12 @@ pub fn split_at<'a>(text: &'a [u8], mark: &[u8]) -> Option<(&'a [u8], &'a [u8])>
     None
 }
 
-// Puts the fields of a line that has some behind others.
-fn cut(alloc: Global, names: &Names, line: &[u8], fields: &mut Vec<Vec<u8>>) -> Result<(), Wrong> {
-    let mut left = line;
-    for _ in 0..line.len() {
-        match split_at(left, b" @ ") {
-            Some((field, behind)) => {
-                put_field(alloc, names, field, fields)?;
-                left = behind;
-            }
-            None => return put_field(alloc, names, left, fields),
-        }
-    }
-    Ok(())
-}
-
-fn put_field(
-    alloc: Global,
-    names: &Names,
-    text: &[u8],
-    fields: &mut Vec<Vec<u8>>,
-) -> Result<(), Wrong> {
-    let field = expanded(alloc, names, text)?;
-    fields.push(field)?;
-    Ok(())
-}
-
-// A text with what stands between backquotes written out.
-fn expanded(alloc: Global, names: &Names, text: &[u8]) -> Result<Vec<u8>, Wrong> {
-    let mut out = Answer::new(alloc);
+// Writes a text with what stands between backquotes written out.
+fn put_expanded(names: &[(Answer, Answer)], text: &[u8], out: &mut Answer) {
     let mut is_word = false;
     for piece in text.split(|byte| *byte == b'`') {
         if is_word {
-            put_word(names, piece, &mut out);
+            put_word(names, piece, out);
         } else {
             out.put(piece);
         }
@@ -132,11 +63,20 @@ fn expanded(alloc: Global, names: &Names, text: &[u8]) -> Result<Vec<u8>, Wrong>
     if !is_word {
         out.wrong(Wrong::new("a backquote without a second one"));
     }
-    out.into_text()
+}
+
+// Writes the text of a name.
+fn put_named(names: &[(Answer, Answer)], word: &[u8], out: &mut Answer) {
+    for (name, text) in names {
+        if name.text() == word {
+            return out.put(text.text());
+        }
+    }
+    out.wrong(Wrong::new("an unknown word between backquotes"));
 }
 
 // Writes what a word between backquotes stands for; no word stands for nothing.
-fn put_word(names: &Names, word: &[u8], out: &mut Answer) {
+fn put_word(names: &[(Answer, Answer)], word: &[u8], out: &mut Answer) {
     if let Some(byte) = byte_of(word) {
         out.put(&[byte]);
     } else if let Some((count, piece)) = split_at(word, b"*")
@@ -144,7 +84,7 @@ fn put_word(names: &Names, word: &[u8], out: &mut Answer) {
     {
         put_copies(count, piece, out);
     } else if !word.is_empty() {
-        names.put(word, out);
+        put_named(names, word, out);
     }
 }
 

@@ -11,77 +11,71 @@ use std::thread::Threads;
 
 /// What the rows of a file are about.
 #[derive(Clone, Copy)]
-pub(crate) enum Kind {
+pub enum Kind {
     Edits,
     Leads,
-    Walks,
+    Calls,
     Hubs,
     Met,
     Journals,
     Upgrades,
     Upgraded,
     Certified,
-    Derivations,
     Independence,
     Pairs,
     Batches,
     Replays,
     Parts,
     Moves,
-    Scripts,
     Commands,
     Crews,
 }
 
 /// The files of rows, `NAME.rows`, and the kind of each.
-pub(crate) const FILES: [(&'static str, Kind); 19] = [
+pub const FILES: [(&'static str, Kind); 17] = [
     ("edits", Kind::Edits),
     ("leads", Kind::Leads),
-    ("walks", Kind::Walks),
+    ("calls", Kind::Calls),
     ("hubs", Kind::Hubs),
     ("met", Kind::Met),
     ("journals", Kind::Journals),
     ("upgrades", Kind::Upgrades),
     ("upgraded", Kind::Upgraded),
     ("certified", Kind::Certified),
-    ("derivations", Kind::Derivations),
     ("independence", Kind::Independence),
     ("pairs", Kind::Pairs),
     ("batches", Kind::Batches),
     ("replays", Kind::Replays),
     ("parts", Kind::Parts),
     ("moves", Kind::Moves),
-    ("scripts", Kind::Scripts),
     ("commands", Kind::Commands),
     ("crews", Kind::Crews),
 ];
 
 /// Answers a row of this kind, from all its fields but the last one.
-pub(crate) fn answer<R: Threads + Wait + Sync>(
+pub fn answer<R: Threads + Wait + Sync>(
     rt: &R,
     kind: Kind,
     alloc: Global,
-    fields: &[Vec<u8>],
+    fields: &[&[u8]],
     out: &mut Answer,
 ) {
     match kind {
         Kind::Edits => edits::answer(alloc, fields, out),
         Kind::Leads => edits::leads(alloc, fields, out),
-        Kind::Walks => beside::answer(alloc, fields, out),
+        Kind::Calls => beside::answer(alloc, fields, out),
         Kind::Hubs => hub::answer(alloc, fields, out),
         Kind::Met => hub::order(alloc, fields, out),
         Kind::Journals => journals::answer(alloc, fields, out),
         Kind::Upgrades => upgrades::answer(alloc, fields, out),
         Kind::Upgraded => upgrades::graph(alloc, fields, out),
         Kind::Certified => certified::answer(alloc, fields, out),
-        Kind::Derivations => certified::derivation(alloc, fields, out),
         Kind::Independence => independence::answer(alloc, fields, out),
         Kind::Pairs => independence::pairs(alloc, fields, out),
         Kind::Batches => batches::answer(alloc, fields, out),
         Kind::Replays => random::replays(alloc, fields, out),
         Kind::Parts => random::parts(alloc, fields, out),
         Kind::Moves => moves::answer(alloc, fields, out),
-        Kind::Scripts => moves::scripts(rt, alloc, fields, out),
         Kind::Commands => commands::answer(rt, alloc, fields, out),
         Kind::Crews => crews::answer(rt, alloc, fields, out),
     }

@@ -63,11 +63,6 @@ impl Answer {
         !self.is_cut && self.text.strip_suffix(b"\n") == Some(wanted.as_bytes())
     }
 
-    /// Whether what was told begins so.
-    pub(crate) fn begins(&self, head: &str) -> bool {
-        !self.is_cut && self.text.starts_with(head.as_bytes())
-    }
-
     /// Whether this was told, or this and a newline.
     pub(crate) fn is(&self, wanted: &str) -> bool {
         !self.is_cut && self.text.as_slice() == wanted.as_bytes() || self.is_line(wanted)

@@ -1,13 +1,12 @@
 //! Calls of the top call over files and sinks in memory.
 
-use crate::tests::answers::{Answer, expect, part_at};
+use crate::tests::answers::Answer;
 use gp_cli::gp2_main;
 use gp_io::{MemFiles, MemSink};
 use gp_memory::NoMemory;
 use opt_worker::Pacing;
 use std::alloc::{AllocGlobal, Global};
 use std::sync::Wait;
-use std::test::Fail;
 use std::thread::Threads;
 
 // Adds the words of a line, with a blank between each two. An empty line has none.
@@ -124,76 +123,4 @@ pub(crate) fn told_of<R: AllocGlobal + Threads + Wait + Sync>(
         }
     }
     told
-}
-
-/// Fails with the row unless a call where nobody is held comes to this line.
-pub(crate) fn expect_line<R: AllocGlobal + Threads + Wait + Sync>(
-    rt: &R,
-    call: &Call<'_>,
-    wanted: &str,
-    row: &str,
-) -> Result<(), Fail> {
-    expect(told_of(rt, call, &Pacing::Free).is_line(wanted), row)
-}
-
-/// Each row shows what it says, by its words and these behind them. A row is a program, a host, words and what they come
-/// to, with a percent sign at the head of each behind the first; rows have an empty line between each two.
-pub(crate) fn check_rows<R: AllocGlobal + Threads + Wait + Sync>(
-    rt: &R,
-    table: &str,
-    crew: &str,
-) -> Result<(), Fail> {
-    for row in table.split("\n\n") {
-        let call = Call::new(part_at(row, 0), part_at(row, 1), (part_at(row, 2), crew));
-        expect_line(rt, &call, part_at(row, 3), row)?;
-    }
-    Ok(())
-}
-
-// Files of these names, whose texts are the parts of a row behind the first. A part has no newline at its end, so each file but
-// the first gets one.
-fn files_of(alloc: Global, row: &str, names: &[&str]) -> MemFiles {
-    let mut files = Vec::new(alloc);
-    for (place, name) in names.iter().enumerate() {
-        let mut text = Answer::new(alloc);
-        text.put(part_at(row, place.saturating_add(1)).as_bytes());
-        if place > 0 {
-            text.put(b"\n");
-        }
-        add(alloc, &mut files, name, text.text());
-    }
-    MemFiles::new(files, Vec::new(alloc))
-}
-
-// What the words of a row come to on its files.
-fn told_of_files<R: AllocGlobal + Threads + Wait + Sync>(
-    rt: &R,
-    row: &str,
-    names: &[&str],
-) -> Answer {
-    let alloc = rt.alloc();
-    let mut told = Answer::new(alloc);
-    let mut files = files_of(alloc, row, names);
-    let words = words_of(alloc, (part_at(row, 0), ""));
-    if let Ok(mut out) = sink(alloc, 4096, 0, None) {
-        if let Ok(mut err) = sink(alloc, 4096, 0, None) {
-            let status = gp2_main(rt, words, &mut files, &mut out, &mut err, &Pacing::Free);
-            put_shown(status, out.bytes(), err.bytes(), &mut told);
-        }
-    }
-    told
-}
-
-/// Each row shows what it says. A row is words, files of these names, and what they come to, with a percent sign at the head
-/// of each behind the first; rows have an empty line between each two.
-pub(crate) fn check_files<R: AllocGlobal + Threads + Wait + Sync>(
-    rt: &R,
-    table: &str,
-    names: &[&str],
-) -> Result<(), Fail> {
-    for row in table.split("\n\n") {
-        let wanted = part_at(row, names.len().saturating_add(1));
-        expect(told_of_files(rt, row, names).is_line(wanted), row)?;
-    }
-    Ok(())
 }

@@ -39,8 +39,8 @@ step p h s => p h s 1000000 0
 step --seed 7 p h --bound 5 s => p h s 5 7
 step -- -p --h s => -p --h s 1000000 0";
 
-/// Words that are no command, a line each; the first line has none.
-pub(crate) const OTHER_WORDS: &str = "
+// Words that are no command, a line each; the first line has none.
+const OTHER_WORDS: &str = "
 run
 run p
 run p h x

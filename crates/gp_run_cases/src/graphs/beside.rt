@@ -1,14 +1,11 @@
 //! Calls by chance on a graph, beside which lists are kept of what should be in it.
 
-use crate::graphs::there::{
-    ends_with_no_edge, ends_with_no_node, has_edge, has_node, is_free, is_vacant_edge,
-    is_vacant_node, label, number_in,
-};
+use crate::graphs::edits::make_edit;
+use crate::graphs::there::{has_node, number_in};
 use crate::graphs::told::sorted;
-use gp_graph::Graph;
+use gp_graph::{Graph, Walk};
 use gp_memory::NoMemory;
 use gp_rows::{Answer, number};
-use gp_values::{EdgeMark, NodeMark};
 use std::alloc::Global;
 
 // The number of a node's list, and whether it is a root.
@@ -39,7 +36,7 @@ impl Drop for Beside {
 
 /// How many calls agree with the lists: a seed, how many calls are made, and from which of them on the edges are indexed,
 /// where they are.
-pub(crate) fn answer(alloc: Global, fields: &[Vec<u8>], out: &mut Answer) {
+pub(crate) fn answer(alloc: Global, fields: &[&[u8]], out: &mut Answer) {
     let mut beside = Beside {
         graph: Graph::new(alloc),
         nodes: Vec::new(alloc),
@@ -113,47 +110,60 @@ fn put_at<T: Copy + Drop>(
     Ok(())
 }
 
+fn root_or_not(is_root: bool) -> &'static [u8] {
+    if is_root { b"None root" } else { b"None -" }
+}
+
 impl Beside {
+    // Makes the edit of a word, numbers and a mark on the graph. Whether it may be made.
+    fn is_made(&mut self, alloc: Global, word: &[u8], numbers: &[u64], mark: &[u8]) -> bool {
+        let mut text = Answer::new(alloc);
+        text.put(word);
+        for number in numbers {
+            text.number(*number);
+        }
+        text.word(mark);
+        let mut given = Answer::new(alloc);
+        make_edit(alloc, text.text(), &mut self.graph, &mut given).is_ok()
+    }
+
     // The call that is drawn.
     fn call(&mut self, alloc: Global, state: u64) -> Result<(), NoMemory> {
         match (state >> 40) % 16 {
-            0..=2 => self.add(alloc, state >> 7),
+            0..=2 => self.add(alloc, (state >> 7) % 3 == 0),
             3..=6 => self.join(alloc, state),
-            7..=9 => self.remove(state),
+            7..=9 => self.remove(alloc, state),
             10..=11 => self.relabel(alloc, state),
             12..=13 => self.put(alloc, state),
-            _ => Ok(self.drop_vacant()),
+            _ => Ok(self.drop_vacant(alloc)),
         }
     }
 
-    fn add(&mut self, alloc: Global, state: u64) -> Result<(), NoMemory> {
-        let is_root = state % 3 == 0;
-        let list = label(alloc, 1)?;
-        let n = self.graph.add_node(list, NodeMark::None, is_root)?;
-        put_at(&mut self.nodes, n, Some((1, is_root)))
+    fn add(&mut self, alloc: Global, is_root: bool) -> Result<(), NoMemory> {
+        let (n, _) = self.graph.next_numbers();
+        if self.is_made(alloc, b"node", &[1], root_or_not(is_root)) {
+            put_at(&mut self.nodes, n, Some((1, is_root)))?;
+        }
+        Ok(())
     }
 
     fn join(&mut self, alloc: Global, state: u64) -> Result<(), NoMemory> {
         let source = recent(self.nodes.len(), state);
         let target = recent(self.nodes.len(), drawn(state));
-        if has_node(&self.graph, source) && has_node(&self.graph, target) {
-            let list = label(alloc, 2)?;
-            let e = self.graph.add_edge(source, target, list, EdgeMark::None)?;
-            let edge = (source, target, 2);
-            return put_at(&mut self.edges, e, Some(edge));
+        let (_, e) = self.graph.next_numbers();
+        if self.is_made(alloc, b"edge", &[source, target, 2], b"None") {
+            put_at(&mut self.edges, e, Some((source, target, 2)))?;
         }
         Ok(())
     }
 
-    fn remove(&mut self, state: u64) -> Result<(), NoMemory> {
+    fn remove(&mut self, alloc: Global, state: u64) -> Result<(), NoMemory> {
         let e = recent(self.edges.len(), state);
-        if has_edge(&self.graph, e) {
-            self.graph.remove_edge(e);
+        if self.is_made(alloc, b"cut", &[e], b"") {
             put_at(&mut self.edges, e, None)?;
         }
         let n = recent(self.nodes.len(), drawn(state));
-        if has_node(&self.graph, n) && is_free(&self.graph, n) {
-            self.graph.remove_node(n);
+        if self.is_made(alloc, b"gone", &[n], b"") {
             put_at(&mut self.nodes, n, None)?;
         }
         Ok(())
@@ -161,10 +171,8 @@ impl Beside {
 
     fn relabel(&mut self, alloc: Global, state: u64) -> Result<(), NoMemory> {
         let n = recent(self.nodes.len(), state);
-        if has_node(&self.graph, n) {
-            let is_root = state % 2 == 0;
-            let list = label(alloc, 3)?;
-            self.graph.relabel(n, list, NodeMark::None, is_root);
+        let is_root = state % 2 == 0;
+        if self.is_made(alloc, b"label", &[n, 3], root_or_not(is_root)) {
             put_at(&mut self.nodes, n, Some((3, is_root)))?;
         }
         Ok(())
@@ -172,33 +180,24 @@ impl Beside {
 
     fn put(&mut self, alloc: Global, state: u64) -> Result<(), NoMemory> {
         let n = recent(self.nodes.len(), state);
-        if is_vacant_node(&self.graph, n) {
-            let is_root = state % 2 == 0;
-            let list = label(alloc, 4)?;
-            self.graph.put_node(n, list, NodeMark::None, is_root);
+        let is_root = state % 2 == 0;
+        if self.is_made(alloc, b"put-node", &[n, 4], root_or_not(is_root)) {
             put_at(&mut self.nodes, n, Some((4, is_root)))?;
         }
         let e = recent(self.edges.len(), drawn(state));
-        self.put_loop(alloc, n, e)
-    }
-
-    fn put_loop(&mut self, alloc: Global, n: u64, e: u64) -> Result<(), NoMemory> {
-        if is_vacant_edge(&self.graph, e) && has_node(&self.graph, n) {
-            let list = label(alloc, 5)?;
-            self.graph.put_edge(e, n, n, list, EdgeMark::None);
-            let edge = (n, n, 5);
-            put_at(&mut self.edges, e, Some(edge))?;
+        if self.is_made(alloc, b"put-edge", &[e, n, n, 5], b"None") {
+            put_at(&mut self.edges, e, Some((n, n, 5)))?;
         }
         Ok(())
     }
 
-    fn drop_vacant(&mut self) {
-        if ends_with_no_node(&self.graph) {
-            self.graph.drop_node();
+    fn drop_vacant(&mut self, alloc: Global) {
+        self.is_made(alloc, b"drop", &[], b"");
+        let (nodes, edges) = self.graph.next_numbers();
+        if (nodes as usize) < self.nodes.len() {
             let _ = self.nodes.pop();
         }
-        if ends_with_no_edge(&self.graph) {
-            self.graph.drop_edge();
+        if (edges as usize) < self.edges.len() {
             let _ = self.edges.pop();
         }
     }
@@ -208,27 +207,19 @@ impl Beside {
     fn agrees_after(&mut self, alloc: Global, call: u64, state: u64) -> Result<bool, NoMemory> {
         let n = recent(self.nodes.len(), state);
         let m = recent(self.nodes.len(), drawn(state));
-        if !self.walks_agree(alloc, n)? || !self.between_agrees(alloc, n, m)? {
-            return Ok(false);
-        }
         if call % 500 == 0 {
             self.graph = self.graph.copy(alloc)?;
-            return Ok(self.agrees());
+            return Ok(self.walks_agree(alloc, n, m) && self.agrees());
         }
-        Ok(true)
+        Ok(self.walks_agree(alloc, n, m))
     }
 
     // Whether the graph has what the lists have.
     fn agrees(&self) -> bool {
         let (nodes, edges) = self.graph.next_numbers();
-        nodes == self.nodes.len() as u64
-            && edges == self.edges.len() as u64
-            && self.are_counted()
-            && self.each_agrees(nodes, edges)
-    }
-
-    // Whether the graph has what the lists have at each number below these.
-    fn each_agrees(&self, nodes: u64, edges: u64) -> bool {
+        if nodes != self.nodes.len() as u64 || edges != self.edges.len() as u64 {
+            return false;
+        }
         for n in 0..nodes {
             if !self.node_agrees(n) {
                 return false;
@@ -239,7 +230,7 @@ impl Beside {
                 return false;
             }
         }
-        true
+        self.are_counted()
     }
 
     // Whether the graph counts as many nodes and roots as the lists have.
@@ -276,34 +267,39 @@ impl Beside {
         }
     }
 
-    // Whether the walks at a node give what the lists have there.
-    fn walks_agree(&self, alloc: Global, n: u64) -> Result<bool, NoMemory> {
+    // Whether the walks at a node, if it is there, and between it and another, if that is there too, give what the lists have.
+    fn walks_agree(&self, alloc: Global, n: u64, m: u64) -> bool {
         if !has_node(&self.graph, n) {
-            return Ok(true);
+            return true;
         }
-        let leaving = sorted(alloc, self.graph.out_edges(n))?;
-        let arriving = sorted(alloc, self.graph.in_edges(n))?;
-        let loops = sorted(alloc, self.graph.edges_between(n, n))?;
-        Ok(
-            self.graph.degrees(n) == (arriving.len() as u64, leaving.len() as u64)
-                && self.are_edges(&leaving, Some(n), None)
-                && self.are_edges(&arriving, None, Some(n))
-                && self.are_edges(&loops, Some(n), Some(n)),
-        )
+        let leaving = self.walked(alloc, self.graph.out_edges(n), Some(n), None);
+        let arriving = self.walked(alloc, self.graph.in_edges(n), None, Some(n));
+        let (into, from) = self.graph.degrees(n);
+        leaving == Some(from)
+            && arriving == Some(into)
+            && self.between_agrees(alloc, n, n)
+            && self.between_agrees(alloc, n, m)
+            && self.between_agrees(alloc, m, n)
     }
 
-    // Whether the walks between two nodes give what the lists have there.
-    fn between_agrees(&self, alloc: Global, n: u64, m: u64) -> Result<bool, NoMemory> {
-        if !(has_node(&self.graph, n) && has_node(&self.graph, m)) {
-            return Ok(true);
+    // Whether the walk from a node to another, if both are there, gives what the lists have.
+    fn between_agrees(&self, alloc: Global, n: u64, m: u64) -> bool {
+        if !has_node(&self.graph, n) || !has_node(&self.graph, m) {
+            return true;
         }
-        let there = sorted(alloc, self.graph.edges_between(n, m))?;
-        let back = sorted(alloc, self.graph.edges_between(m, n))?;
-        Ok(self.are_edges(&there, Some(n), Some(m)) && self.are_edges(&back, Some(m), Some(n)))
+        let walk = self.graph.edges_between(n, m);
+        self.walked(alloc, walk, Some(n), Some(m)).is_some()
     }
 
-    // Whether these are, in their order, the numbers of the edges with this source and this target, where they are asked for.
-    fn are_edges(&self, numbers: &[u64], source: Option<u64>, target: Option<u64>) -> bool {
+    // How many edges a walk meets, if they are those with this source and this target, where they are asked for.
+    fn walked(
+        &self,
+        alloc: Global,
+        walk: Walk<'_>,
+        source: Option<u64>,
+        target: Option<u64>,
+    ) -> Option<u64> {
+        let numbers = sorted(alloc, walk).ok()?;
         let mut met: usize = 0;
         for (e, entry) in self.edges.iter().enumerate() {
             if let Some(edge) = entry
@@ -311,12 +307,16 @@ impl Beside {
                 && is_asked(target, edge.1)
             {
                 if numbers.get(met).copied() != Some(e as u64) {
-                    return false;
+                    return None;
                 }
                 met = met.saturating_add(1);
             }
         }
-        met == numbers.len()
+        if met == numbers.len() {
+            Some(met as u64)
+        } else {
+            None
+        }
     }
 }
 

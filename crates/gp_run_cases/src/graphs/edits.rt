@@ -16,7 +16,7 @@ use std::alloc::Global;
 
 /// What edits give back, each with the hints behind it, and what a copy has then: edits that are made before, and these.
 /// The copy is edited then: where it does not stand alone, this is said behind it.
-pub(crate) fn answer(alloc: Global, fields: &[Vec<u8>], out: &mut Answer) {
+pub(crate) fn answer(alloc: Global, fields: &[&[u8]], out: &mut Answer) {
     let mut graph = Graph::new(alloc);
     make_before(alloc, field(fields, 0), &mut graph, out);
     make_edits(alloc, field(fields, 1), &mut graph, out);
@@ -31,7 +31,7 @@ fn compare(alloc: Global, graph: &Graph, copied: &mut Graph, out: &mut Answer) {
     let left = told(alloc, copied);
     out.word(b"=>");
     out.put(b" ");
-    out.add(&left);
+    out.put(left.text());
     out.word_if(
         copied.start() != graph.start() || copied.changed() != graph.changed(),
         b"but its copy has other hints",
@@ -60,7 +60,7 @@ fn is_told(alloc: Global, graph: &Graph, wanted: &Answer) -> bool {
 }
 
 /// Whether each edge that begins at a node ends at another: the edits that make the graph, and both nodes.
-pub(crate) fn leads(alloc: Global, fields: &[Vec<u8>], out: &mut Answer) {
+pub(crate) fn leads(alloc: Global, fields: &[&[u8]], out: &mut Answer) {
     let mut graph = Graph::new(alloc);
     make_before(alloc, field(fields, 0), &mut graph, out);
     let (n, target) = (number(fields, 1), number(fields, 2));
@@ -91,8 +91,8 @@ fn leads_only_to(graph: &Graph, n: u64, target: u64) -> bool
 fn make_before(alloc: Global, text: &[u8], graph: &mut Graph, out: &mut Answer) {
     let mut given = Answer::new(alloc);
     make_edits(alloc, text, graph, &mut given);
-    if let Some(wrong) = given.why() {
-        out.wrong(wrong);
+    if !given.is_answer() {
+        out.wrong(Wrong::new("wrong edits"));
     }
 }
 
@@ -117,29 +117,24 @@ fn put_hints(graph: &Graph, out: &mut Answer) {
     out.put(b");");
 }
 
-fn make_edit(alloc: Global, text: &[u8], graph: &mut Graph, out: &mut Answer) -> Result<(), Wrong> {
+/// Makes an edit, such as `cut 1`. Writes what it gives back.
+pub(crate) fn make_edit(
+    alloc: Global,
+    text: &[u8],
+    graph: &mut Graph,
+    out: &mut Answer,
+) -> Result<(), Wrong> {
     let mut words = Vec::new(alloc);
     for word in text.split(|byte| *byte == b' ') {
         if !word.is_empty() {
-            put_word(alloc, word, &mut words)?;
+            words.push(word)?;
         }
     }
     make(alloc, graph, &words, out)
 }
 
-fn put_word(alloc: Global, word: &[u8], words: &mut Vec<Vec<u8>>) -> Result<(), Wrong> {
-    let word = Vec::from_slice(alloc, word)?;
-    words.push(word)?;
-    Ok(())
-}
-
 // Makes the edit of these words.
-fn make(
-    alloc: Global,
-    graph: &mut Graph,
-    words: &[Vec<u8>],
-    out: &mut Answer,
-) -> Result<(), Wrong> {
+fn make(alloc: Global, graph: &mut Graph, words: &[&[u8]], out: &mut Answer) -> Result<(), Wrong> {
     let word = field(words, 0);
     if word == b"node".as_slice() {
         return add_node(alloc, graph, words, out);
@@ -163,7 +158,7 @@ fn make(
 }
 
 // Makes the edit of these words, which gives nothing back.
-fn make_other(alloc: Global, graph: &mut Graph, words: &[Vec<u8>]) -> Result<(), Wrong> {
+fn make_other(alloc: Global, graph: &mut Graph, words: &[&[u8]]) -> Result<(), Wrong> {
     let word = field(words, 0);
     if word == b"put-node".as_slice() {
         return put_node(alloc, graph, words);
@@ -193,7 +188,7 @@ fn make_other(alloc: Global, graph: &mut Graph, words: &[Vec<u8>]) -> Result<(),
 }
 
 // `hints 3 1`, or `hints 3`.
-fn set_hints(graph: &mut Graph, words: &[Vec<u8>]) {
+fn set_hints(graph: &mut Graph, words: &[&[u8]]) {
     let changed = if words.len() > 2 {
         Some(number(words, 2))
     } else {
@@ -221,7 +216,7 @@ fn edge_mark(word: &[u8]) -> EdgeMark {
     }
 }
 
-fn is_root(words: &[Vec<u8>], place: usize) -> bool {
+fn is_root(words: &[&[u8]], place: usize) -> bool {
     field(words, place) == b"root".as_slice()
 }
 
@@ -229,7 +224,7 @@ fn is_root(words: &[Vec<u8>], place: usize) -> bool {
 fn add_node(
     alloc: Global,
     graph: &mut Graph,
-    words: &[Vec<u8>],
+    words: &[&[u8]],
     out: &mut Answer,
 ) -> Result<(), Wrong> {
     let list = label(alloc, number(words, 1))?;
@@ -241,7 +236,7 @@ fn add_node(
 fn add_edge(
     alloc: Global,
     graph: &mut Graph,
-    words: &[Vec<u8>],
+    words: &[&[u8]],
     out: &mut Answer,
 ) -> Result<(), Wrong> {
     let (source, target) = (number(words, 1), number(words, 2));
@@ -257,7 +252,7 @@ fn add_edge(
 fn relabel(
     alloc: Global,
     graph: &mut Graph,
-    words: &[Vec<u8>],
+    words: &[&[u8]],
     out: &mut Answer,
 ) -> Result<(), Wrong> {
     let n = number(words, 1);
@@ -274,7 +269,7 @@ fn relabel(
 fn relabel_edge(
     alloc: Global,
     graph: &mut Graph,
-    words: &[Vec<u8>],
+    words: &[&[u8]],
     out: &mut Answer,
 ) -> Result<(), Wrong> {
     let e = number(words, 1);
@@ -288,7 +283,7 @@ fn relabel_edge(
 }
 
 // `cut 1`: what the edge was.
-fn cut(alloc: Global, graph: &mut Graph, words: &[Vec<u8>], out: &mut Answer) -> Result<(), Wrong> {
+fn cut(alloc: Global, graph: &mut Graph, words: &[&[u8]], out: &mut Answer) -> Result<(), Wrong> {
     let e = number(words, 1);
     if !has_edge(graph, e) {
         return Err(Wrong::new("the edge is not there"));
@@ -301,12 +296,7 @@ fn cut(alloc: Global, graph: &mut Graph, words: &[Vec<u8>], out: &mut Answer) ->
 }
 
 // `gone 1`: what the node was.
-fn gone(
-    alloc: Global,
-    graph: &mut Graph,
-    words: &[Vec<u8>],
-    out: &mut Answer,
-) -> Result<(), Wrong> {
+fn gone(alloc: Global, graph: &mut Graph, words: &[&[u8]], out: &mut Answer) -> Result<(), Wrong> {
     let n = number(words, 1);
     if !(has_node(graph, n) && is_free(graph, n)) {
         return Err(Wrong::new("the node is not free"));
@@ -317,7 +307,7 @@ fn gone(
 }
 
 // `put-node 1 10 Red root`
-fn put_node(alloc: Global, graph: &mut Graph, words: &[Vec<u8>]) -> Result<(), Wrong> {
+fn put_node(alloc: Global, graph: &mut Graph, words: &[&[u8]]) -> Result<(), Wrong> {
     let n = number(words, 1);
     if !is_vacant_node(graph, n) {
         return Err(Wrong::new("the number is not vacant"));
@@ -328,7 +318,7 @@ fn put_node(alloc: Global, graph: &mut Graph, words: &[Vec<u8>]) -> Result<(), W
 }
 
 // `put-edge 2 0 1 20 Dashed`
-fn put_edge(alloc: Global, graph: &mut Graph, words: &[Vec<u8>]) -> Result<(), Wrong> {
+fn put_edge(alloc: Global, graph: &mut Graph, words: &[&[u8]]) -> Result<(), Wrong> {
     let (e, source, target) = (number(words, 1), number(words, 2), number(words, 3));
     if !(is_vacant_edge(graph, e) && has_node(graph, source) && has_node(graph, target)) {
         return Err(Wrong::new("the number is not vacant, or an end is not there"));
@@ -339,7 +329,7 @@ fn put_edge(alloc: Global, graph: &mut Graph, words: &[Vec<u8>]) -> Result<(), W
 }
 
 // `begin-at 1`, `begin-behind 1`
-fn turn(graph: &mut Graph, words: &[Vec<u8>]) -> Result<(), Wrong> {
+fn turn(graph: &mut Graph, words: &[&[u8]]) -> Result<(), Wrong> {
     let e = number(words, 1);
     if !has_edge(graph, e) {
         return Err(Wrong::new("the edge is not there"));

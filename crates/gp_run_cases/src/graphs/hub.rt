@@ -26,7 +26,7 @@ pub(crate) fn hub(alloc: Global, edges: u64) -> Result<Graph, NoMemory> {
 }
 
 /// How many edges a hub loses one by one, with the degrees that follow, and its degrees then: how many it has.
-pub(crate) fn answer(alloc: Global, fields: &[Vec<u8>], out: &mut Answer) {
+pub(crate) fn answer(alloc: Global, fields: &[&[u8]], out: &mut Answer) {
     let edges = number(fields, 0);
     match hub(alloc, edges) {
         Ok(mut graph) => {
@@ -63,7 +63,7 @@ fn put_degrees(graph: &Graph, out: &mut Answer) {
 }
 
 /// In which order the edges that leave a hub are met, and in a copy of it: how many edges it has, and edits of it.
-pub(crate) fn order(alloc: Global, fields: &[Vec<u8>], out: &mut Answer) {
+pub(crate) fn order(alloc: Global, fields: &[&[u8]], out: &mut Answer) {
     match hub(alloc, number(fields, 0)) {
         Ok(mut graph) => {
             make_edits(alloc, field(fields, 1), &mut graph, &mut Answer::new(alloc));

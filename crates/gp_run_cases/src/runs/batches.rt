@@ -15,7 +15,7 @@ use std::alloc::Global;
 
 /// How many matches of the first call are held for one turn, and each as a step of a trace: a program, a host, how many
 /// shares a call has, the share that is searched, and how many may be held.
-pub(crate) fn answer(alloc: Global, fields: &[Vec<u8>], out: &mut Answer) {
+pub(crate) fn answer(alloc: Global, fields: &[&[u8]], out: &mut Answer) {
     match held_of(alloc, fields) {
         Ok(held) => {
             out.put_number(held.len() as u64);
@@ -35,7 +35,7 @@ fn steps_of(alloc: Global, held: Vec<Found>) -> Result<Vec<u8>, Wrong> {
     Ok(text)
 }
 
-fn held_of(alloc: Global, fields: &[Vec<u8>]) -> Result<Vec<Found>, Wrong> {
+fn held_of(alloc: Global, fields: &[&[u8]]) -> Result<Vec<Found>, Wrong> {
     let program = read_program(alloc, field(fields, 0))?;
     let at = Trail::new(alloc, read_host(alloc, field(fields, 1))?);
     let shares = u32::try_from(number(fields, 2))?;

@@ -2,7 +2,6 @@
 
 use crate::runs::replay::text_of;
 use gp_certify::{Checked, certify};
-use gp_derivation::is_derivation;
 use gp_hostfile::read_host;
 use gp_reader::read_program;
 use gp_rows::{Answer, Wrong, field};
@@ -11,14 +10,14 @@ use std::alloc::Global;
 
 /// What the runs of a program on a host with a trace end with: the graph that they give, that some fail, or that there is
 /// none.
-pub(crate) fn answer(alloc: Global, fields: &[Vec<u8>], out: &mut Answer) {
+pub(crate) fn answer(alloc: Global, fields: &[&[u8]], out: &mut Answer) {
     match checked(alloc, fields) {
         Ok(checked) => put_checked(alloc, &checked, out),
         Err(wrong) => out.wrong(wrong),
     }
 }
 
-fn checked(alloc: Global, fields: &[Vec<u8>]) -> Result<Checked, Wrong> {
+fn checked(alloc: Global, fields: &[&[u8]]) -> Result<Checked, Wrong> {
     let program = read_program(alloc, field(fields, 0))?;
     let host = read_host(alloc, field(fields, 1))?;
     let (_, items) = read_trace(alloc, field(fields, 2))?;
@@ -31,21 +30,4 @@ fn put_checked(alloc: Global, checked: &Checked, out: &mut Answer) {
     }
     out.word_if(checked.fail, b"fail");
     out.word_if(checked.graph.is_none() && !checked.fail, b"none");
-}
-
-/// Whether a trace of either version and the text of a result are a derivation of a program on a host.
-pub(crate) fn derivation(alloc: Global, fields: &[Vec<u8>], out: &mut Answer) {
-    match is_derived(alloc, fields) {
-        Ok(true) => out.word(b"derivation"),
-        Ok(false) => out.word(b"none"),
-        Err(wrong) => out.wrong(wrong),
-    }
-}
-
-fn is_derived(alloc: Global, fields: &[Vec<u8>]) -> Result<bool, Wrong> {
-    let program = read_program(alloc, field(fields, 0))?;
-    let host = read_host(alloc, field(fields, 1))?;
-    let (version, items) = read_trace(alloc, field(fields, 2))?;
-    let text = field(fields, 3);
-    Ok(is_derivation(alloc, &program, &host, version, &items, text)?)
 }

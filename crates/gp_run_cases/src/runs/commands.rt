@@ -17,7 +17,7 @@ use std::thread::Threads;
 pub(crate) fn answer<R: Threads + Wait + Sync>(
     rt: &R,
     alloc: Global,
-    fields: &[Vec<u8>],
+    fields: &[&[u8]],
     out: &mut Answer,
 ) {
     match read_program(alloc, field(fields, 0)) {
@@ -39,7 +39,7 @@ fn run<R: Threads + Wait + Sync>(
     rt: &R,
     alloc: Global,
     program: &Program,
-    fields: &[Vec<u8>],
+    fields: &[&[u8]],
     bound: u64,
 ) -> Result<Outcome, Wrong> {
     let host = read_host(alloc, field(fields, 1))?;

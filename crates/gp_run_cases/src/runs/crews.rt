@@ -21,7 +21,7 @@ use std::thread::Threads;
 pub(crate) fn answer<R: Threads + Wait + Sync>(
     rt: &R,
     alloc: Global,
-    fields: &[Vec<u8>],
+    fields: &[&[u8]],
     out: &mut Answer,
 ) {
     match replayed(rt, alloc, fields) {
@@ -37,7 +37,7 @@ pub(crate) fn answer<R: Threads + Wait + Sync>(
 fn replayed<R: Threads + Wait + Sync>(
     rt: &R,
     alloc: Global,
-    fields: &[Vec<u8>],
+    fields: &[&[u8]],
 ) -> Result<u64, Wrong> {
     let host = read_host(alloc, field(fields, 1))?;
     let program = read_program(alloc, field(fields, 0))?;

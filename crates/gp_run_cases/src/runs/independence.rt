@@ -5,7 +5,7 @@ ghost use Rattle.gp_syntax.specs.Step.{Applies};
 ghost use Rattle.gp_syntax.specs.Tree.{rule_of_tree};
 
 use crate::graphs::hub::hub;
-use crate::runs::replay::catch_up;
+use crate::runs::replay::go_on;
 use gp_graph::Graph;
 use gp_hostfile::read_host;
 use gp_independence::independent;
@@ -20,7 +20,7 @@ use std::alloc::Global;
 
 /// Whether two matches are independent: a program, a host, and the matches, as steps of a trace. Where they are, both
 /// orders of their steps are made, and lead to one graph but for the numbers of what is new.
-pub(crate) fn answer(alloc: Global, fields: &[Vec<u8>], out: &mut Answer) {
+pub(crate) fn answer(alloc: Global, fields: &[&[u8]], out: &mut Answer) {
     match told(alloc, fields) {
         Ok(true) => out.word(b"true"),
         Ok(false) => out.word(b"false"),
@@ -28,7 +28,7 @@ pub(crate) fn answer(alloc: Global, fields: &[Vec<u8>], out: &mut Answer) {
     }
 }
 
-fn told(alloc: Global, fields: &[Vec<u8>]) -> Result<bool, Wrong> {
+fn told(alloc: Global, fields: &[&[u8]]) -> Result<bool, Wrong> {
     let rules = read_rules(alloc, field(fields, 0))?;
     let host = read_host(alloc, field(fields, 1))?;
     let first = step_of(alloc, field(fields, 2))?;
@@ -36,26 +36,22 @@ fn told(alloc: Global, fields: &[Vec<u8>]) -> Result<bool, Wrong> {
     if !are_independent(alloc, rules.as_slice(), &host, &first, &second)? {
         return Ok(false);
     }
-    let one = make_both(
-        alloc,
-        rules.as_slice(),
-        &host,
-        first.copy(alloc)?,
-        second.copy(alloc)?,
-    )?;
-    let other = make_both(alloc, rules.as_slice(), &host, second, first)?;
-    if !are_same(&one, &other) {
-        return Err(Wrong::new("the two orders lead to different graphs"));
+    let one = make_both(alloc, rules.as_slice(), &host, &first, &second)?;
+    let other = make_both(alloc, rules.as_slice(), &host, &second, &first)?;
+    if are_same(&one, &other) {
+        Ok(true)
+    } else {
+        Err(Wrong::new("the two orders lead to different graphs"))
     }
-    Ok(true)
 }
 
 // The match of a step, by its line in a trace.
 fn step_of(alloc: Global, line: &[u8]) -> Result<Found, Wrong> {
-    let mut text = Vec::from_slice(alloc, b"gp2-trace 2\n")?;
-    text.extend_from_slice(line)?;
-    text.extend_from_slice(b"\nend\n")?;
-    let (_, mut items) = read_trace(alloc, &text)?;
+    let mut text = Answer::new(alloc);
+    text.put(b"gp2-trace 2\n");
+    text.put(line);
+    text.put(b"\nend\n");
+    let (_, mut items) = read_trace(alloc, text.text())?;
     match items.pop() {
         Some(Item::Step(found)) => Ok(found),
         _ => Err(Wrong::new("no step")),
@@ -105,25 +101,20 @@ fn make_both(
     alloc: Global,
     rules: &[Rule],
     host: &Graph,
-    first: Found,
-    second: Found,
+    first: &Found,
+    second: &Found,
 ) -> Result<Made, Wrong> {
     let mut trail = Trail::new(alloc, host.copy(alloc)?);
-    let mut next = [trail.graph().next_numbers(); 3];
-    go(alloc, rules, Item::Step(first), &mut trail)?;
-    next[1] = trail.graph().next_numbers();
-    go(alloc, rules, Item::Step(second), &mut trail)?;
-    next[2] = trail.graph().next_numbers();
-    Ok(Made { trail, next })
-}
-
-fn go(alloc: Global, rules: &[Rule], item: Item, trail: &mut Trail) -> Result<(), Wrong> {
-    let mut items = Vec::new(alloc);
-    items.push(item)?;
-    if !catch_up(alloc, rules, &items, trail)? {
-        return Err(Wrong::new("a step may not be made"));
+    let before = trail.graph().next_numbers();
+    if !go_on(alloc, rules, first, &mut trail)? {
+        return Err(Wrong::new("the first step may not be made"));
     }
-    Ok(())
+    let between = trail.graph().next_numbers();
+    if !go_on(alloc, rules, second, &mut trail)? {
+        return Err(Wrong::new("the second step may not be made"));
+    }
+    let next = [before, between, trail.graph().next_numbers()];
+    Ok(Made { trail, next })
 }
 
 // The number that a node or an edge has in the other order: what the first step made comes behind what the second made.
@@ -189,14 +180,14 @@ fn is_edge(one: &Graph, e: u64, other: &Graph, k: u64, nodes: (u64, u64, u64)) -
 
 /// Of a hub of so many edges, how many pairs of edges beside one another are matched independently by the first rule of a
 /// program, which has an edge between two nodes.
-pub(crate) fn pairs(alloc: Global, fields: &[Vec<u8>], out: &mut Answer) {
+pub(crate) fn pairs(alloc: Global, fields: &[&[u8]], out: &mut Answer) {
     match counted(alloc, fields) {
         Ok(count) => out.number(count),
         Err(wrong) => out.wrong(wrong),
     }
 }
 
-fn counted(alloc: Global, fields: &[Vec<u8>]) -> Result<u64, Wrong> {
+fn counted(alloc: Global, fields: &[&[u8]]) -> Result<u64, Wrong> {
     let rules = read_rules(alloc, field(fields, 0))?;
     let edges = number(fields, 1);
     let graph = hub(alloc, edges)?;

@@ -9,7 +9,7 @@ use std::alloc::Global;
 
 /// What the items of a journal leave, how many steps are live then, and how many items were caught up with; or that they do
 /// not lead on: a rule, a host, and the journal.
-pub(crate) fn answer(alloc: Global, fields: &[Vec<u8>], out: &mut Answer) {
+pub(crate) fn answer(alloc: Global, fields: &[&[u8]], out: &mut Answer) {
     let host = read_host(alloc, field(fields, 1));
     match host {
         Ok(graph) => {
@@ -24,7 +24,7 @@ pub(crate) fn answer(alloc: Global, fields: &[Vec<u8>], out: &mut Answer) {
     }
 }
 
-fn is_made(alloc: Global, fields: &[Vec<u8>], trail: &mut Trail) -> Result<bool, Wrong> {
+fn is_made(alloc: Global, fields: &[&[u8]], trail: &mut Trail) -> Result<bool, Wrong> {
     let (_, items) = read_trace(alloc, field(fields, 2))?;
     let rules = rules_of(alloc, field(fields, 0))?;
     Ok(catch_up(alloc, rules.as_slice(), &items, trail)?)

@@ -1,33 +1,25 @@
-//! Steppers over the items of journals, moved by chance and by scripts.
+//! Steppers over the items of journals, moved by chance.
 
 ghost use Rattle.std.specs.Prelude.{map};
 ghost use Rattle.gp_syntax.specs.Tree.{rule_of_tree};
 ghost use Rattle.gp_stepper.specs.Stepper.{IsStepperOf};
 
-use crate::runs::bits::Bits;
 use crate::runs::random::{below, note_more};
 use crate::runs::replay::{are_alike, go, rules_of};
 use gp_graph::Graph;
 use gp_hostfile::read_host;
 use gp_journal::{Journal, Trail};
 use gp_memory::NoMemory;
-use gp_reader::read_program;
 use gp_rows::{Answer, Wrong, field, number};
-use gp_stepper::{Line, Moved, Stepper, read_script, walk};
+use gp_stepper::{Moved, Stepper};
 use gp_syntax::{Item, Rule};
-use gp_system::{Crew, Outcome, execute};
-use opt_worker::Pacing;
 use rand_core::SeedableRng;
 use rand_pcg::Lcg64Xsh32;
 use std::alloc::Global;
-use std::sync::Wait;
-use std::thread::Threads;
-
-// ---- moves by chance
 
 /// How many walks were right after each move: some rules, a host, a seed, how many items are noted for each walk, how many
 /// walks there are, and how many moves each has.
-pub(crate) fn answer(alloc: Global, fields: &[Vec<u8>], out: &mut Answer) {
+pub(crate) fn answer(alloc: Global, fields: &[&[u8]], out: &mut Answer) {
     match right_walks(alloc, fields) {
         Ok(count) => {
             out.number(count);
@@ -37,7 +29,7 @@ pub(crate) fn answer(alloc: Global, fields: &[Vec<u8>], out: &mut Answer) {
     }
 }
 
-fn right_walks(alloc: Global, fields: &[Vec<u8>]) -> Result<u64, Wrong> {
+fn right_walks(alloc: Global, fields: &[&[u8]]) -> Result<u64, Wrong> {
     let host = read_host(alloc, field(fields, 1))?;
     let rules = rules_of(alloc, field(fields, 0))?;
     let mut random = Lcg64Xsh32::seed_from_u64(number(fields, 2));
@@ -55,7 +47,7 @@ fn is_right(
     alloc: Global,
     rules: &[Rule],
     host: &Graph,
-    fields: &[Vec<u8>],
+    fields: &[&[u8]],
     random: &mut Lcg64Xsh32,
 ) -> Result<bool, Wrong> {
     let mut journal = Journal::new(alloc, host.copy(alloc)?);
@@ -154,43 +146,5 @@ fn stands_at(
                 && are_alike(alloc, graph, wanted)?,
         ),
         None => Ok(false),
-    }
-}
-
-// ---- scripts
-
-/// What a script comes to over the items of a run, or why it is none: a program, a host, and the script.
-pub(crate) fn scripts<R: Threads + Wait + Sync>(
-    rt: &R,
-    alloc: Global,
-    fields: &[Vec<u8>],
-    out: &mut Answer,
-) {
-    match read_script(alloc, field(fields, 2)) {
-        Ok(script) => out.take(walked(rt, alloc, fields, &script)),
-        Err(fault) => out.debug(&fault),
-    }
-}
-
-// What the script comes to over the items of a run of the program, by one worker.
-fn walked<R: Threads + Wait + Sync>(
-    rt: &R,
-    alloc: Global,
-    fields: &[Vec<u8>],
-    script: &[Line],
-) -> Result<Vec<u8>, Wrong> {
-    let program = read_program(alloc, field(fields, 0))?;
-    let host = read_host(alloc, field(fields, 1))?;
-    let rules = program.parts().rules.as_slice();
-    let crew = Crew {
-        workers: 1,
-        fan: 1,
-        batch: 1,
-        bound: 1000,
-    };
-    match execute(rt, alloc, &program, host, crew, &mut Bits(0), &Pacing::Free) {
-        Outcome::Graph(journal) => Ok(walk(alloc, journal, rules, script)?),
-        Outcome::Fail(journal) => Ok(walk(alloc, journal, rules, script)?),
-        _ => Err(Wrong::new("the run does not end")),
     }
 }

@@ -38,7 +38,7 @@ impl Drop for Noted {
 }
 
 // The rules and the host of a row, and a journal without items.
-fn started(alloc: Global, fields: &[Vec<u8>]) -> Result<Noted, Wrong> {
+fn started(alloc: Global, fields: &[&[u8]]) -> Result<Noted, Wrong> {
     let host = read_host(alloc, field(fields, 1))?;
     let rules = rules_of(alloc, field(fields, 0))?;
     let journal = Journal::new(alloc, host.copy(alloc)?);
@@ -51,7 +51,7 @@ fn started(alloc: Global, fields: &[Vec<u8>]) -> Result<Noted, Wrong> {
 
 /// How many items a journal has, whose graph and depth a replay from the start gives after each: some rules, a host, a seed,
 /// how many items are noted, and more than how many steps have to be live, and items that take others back.
-pub(crate) fn replays(alloc: Global, fields: &[Vec<u8>], out: &mut Answer) {
+pub(crate) fn replays(alloc: Global, fields: &[&[u8]], out: &mut Answer) {
     match started(alloc, fields) {
         Ok(mut noted) => {
             let rules = noted.rules.as_slice();
@@ -73,7 +73,7 @@ fn put_journal(journal: &Journal, few: u64, out: &mut Answer) {
 
 /// How many items a trail caught up with in each part of a journal of items by chance, which lead to the journal's graph
 /// and depth: some rules, a host, a seed, how many items are noted, and where each part ends.
-pub(crate) fn parts(alloc: Global, fields: &[Vec<u8>], out: &mut Answer) {
+pub(crate) fn parts(alloc: Global, fields: &[&[u8]], out: &mut Answer) {
     match started(alloc, fields) {
         Ok(mut noted) => {
             let rules = noted.rules.as_slice();
@@ -91,7 +91,7 @@ fn put_parts(
     rules: &[Rule],
     host: &Graph,
     journal: &Journal,
-    fields: &[Vec<u8>],
+    fields: &[&[u8]],
     out: &mut Answer,
 ) {
     match host.copy(alloc) {
@@ -135,7 +135,7 @@ fn note_all(
     rules: &[Rule],
     journal: &mut Journal,
     host: Option<&Graph>,
-    fields: &[Vec<u8>],
+    fields: &[&[u8]],
 ) -> Result<(), Wrong> {
     let mut random = Lcg64Xsh32::seed_from_u64(number(fields, 2));
     for _ in 0..number(fields, 3) {

@@ -27,8 +27,13 @@ pub(crate) fn applies(alloc: Global, rules: &[Rule], graph: &Graph, found: &Foun
     }
 }
 
-// Makes the step, if the match applies.
-fn go_on(alloc: Global, rules: &[Rule], found: &Found, at: &mut Trail) -> Result<bool, NoMemory>
+/// Makes the step, if the match applies.
+pub(crate) fn go_on(
+    alloc: Global,
+    rules: &[Rule],
+    found: &Found,
+    at: &mut Trail,
+) -> Result<bool, NoMemory>
     ensures { IfOk result (λ b. IsTrue b → Goes (map rule_of_tree rules.now) (Stepped found.now) at.old at.new) }
 {
     if !applies(alloc, rules, at.graph(), found) {

@@ -13,14 +13,14 @@ use std::alloc::Global;
 type Upgraded = Result<Vec<Item>, UpgradeFault>;
 
 // The items of version 2 of a host and a trace of version 1, by these rules.
-fn upgraded(alloc: Global, rules: &[Rule], fields: &[Vec<u8>]) -> Result<Upgraded, Wrong> {
+fn upgraded(alloc: Global, rules: &[Rule], fields: &[&[u8]]) -> Result<Upgraded, Wrong> {
     let host = read_host(alloc, field(fields, 1))?;
     let (_, items) = read_trace(alloc, field(fields, 2))?;
     Ok(upgrade(alloc, rules, host, &items))
 }
 
 /// The trace of version 2, or the first item that does not replay: a program, a host, and the trace of version 1.
-pub(crate) fn answer(alloc: Global, fields: &[Vec<u8>], out: &mut Answer) {
+pub(crate) fn answer(alloc: Global, fields: &[&[u8]], out: &mut Answer) {
     match trace_of(alloc, fields) {
         Ok(Ok(text)) => out.word(&text),
         Ok(Err(fault)) => out.show(&fault),
@@ -28,7 +28,7 @@ pub(crate) fn answer(alloc: Global, fields: &[Vec<u8>], out: &mut Answer) {
     }
 }
 
-fn trace_of(alloc: Global, fields: &[Vec<u8>]) -> Result<Result<Vec<u8>, UpgradeFault>, Wrong> {
+fn trace_of(alloc: Global, fields: &[&[u8]]) -> Result<Result<Vec<u8>, UpgradeFault>, Wrong> {
     let rules = read_rules(alloc, field(fields, 0))?;
     match upgraded(alloc, rules.as_slice(), fields)? {
         Ok(items) => {
@@ -41,11 +41,11 @@ fn trace_of(alloc: Global, fields: &[Vec<u8>]) -> Result<Result<Vec<u8>, Upgrade
 }
 
 /// The text of the graph to which that trace leads from the host, its edges sorted and without their names.
-pub(crate) fn graph(alloc: Global, fields: &[Vec<u8>], out: &mut Answer) {
+pub(crate) fn graph(alloc: Global, fields: &[&[u8]], out: &mut Answer) {
     out.take(graph_of(alloc, fields));
 }
 
-fn graph_of(alloc: Global, fields: &[Vec<u8>]) -> Result<Vec<u8>, Wrong> {
+fn graph_of(alloc: Global, fields: &[&[u8]]) -> Result<Vec<u8>, Wrong> {
     let rules = read_rules(alloc, field(fields, 0))?;
     let Ok(items) = upgraded(alloc, rules.as_slice(), fields)? else {
         return Err(Wrong::new("an item does not replay"));
