@@ -8,9 +8,9 @@ use std::alloc::Global;
 use std::marker::Model;
 
 /// So many numbers of nodes, and so many images of edges, stand in a match itself; more take memory.
-pub const INLINE_NODES: usize = 4;
+pub const INLINE_NODES: usize = 3;
 
-pub const INLINE_EDGES: usize = 4;
+pub const INLINE_EDGES: usize = 2;
 
 /// The image of a left edge: its number, and whether it was matched reversed.
 #[derive(Clone, Copy, Default)]
