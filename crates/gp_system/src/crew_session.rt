@@ -112,12 +112,11 @@ impl<'a> CrewSession<'a> {
     }
 
     // How many candidates a search on the run's own graph may look at before it is given up: so many that turns at the gate
-    // are cheap beside it, and one for each part of the run, which the workers have to copy; a quarter for each of these
-    // where they are more than four.
+    // are cheap beside it, and four for each part of the run and each worker, who has to copy it.
     fn patience(&self) -> Option<u64> {
         let turns = u64::from(self.crew.fan.max(64)) * CANDIDATES;
-        let copies = u64::from(self.crew.workers.max(4)).saturating_mul(self.session.size()) / 4;
-        Some(turns.saturating_add(copies))
+        let parts = u64::from(self.crew.workers).saturating_mul(self.session.size());
+        Some(turns.saturating_add(parts.saturating_mul(4)))
     }
 
     // Lets the crew pursue the call, with so many of the items left. After a refusal nothing of the run is left.
