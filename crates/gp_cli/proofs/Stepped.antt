@@ -7,8 +7,8 @@ use Rattle.gp_syntax.specs.Rule.{Rule}
 use Rattle.gp_syntax.specs.Run.{Program}
 use Rattle.gp_syntax.specs.declared.kinds.NumberKind.{NumberKind}
 use Rattle.gp_journal.specs.Journal.{items_of}
-use Rattle.gp_stepper.specs.declared.line.Line.{Line}
-use Rattle.gp_stepper.specs.Walk.{Walks}
+use Rattle.gp_derivation.specs.declared.line.Line.{Line}
+use Rattle.gp_derivation.specs.Walk.{Walks}
 use Rattle.gp_words.specs.CommandLine.{StepCommand}
 use Rattle.gp_reply.specs.declared.said.Said.{Said}
 use Rattle.gp_reply.specs.declared.said.Said.TheVariants as code

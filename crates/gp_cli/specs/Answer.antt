@@ -14,8 +14,8 @@ use Rattle.gp_hostfile.specs.declared.fault.HostFault.{HostFault}
 use Rattle.gp_hostfile.specs.Host.{IsHostText, IsHostFault}
 use Rattle.gp_trace.specs.declared.version.Version.{Version}
 use Rattle.gp_derivation.specs.Derivation.{IsDerivation}
-use Rattle.gp_stepper.specs.declared.line.Line.{Line}
-use Rattle.gp_stepper.specs.Walk.{Walks}
+use Rattle.gp_derivation.specs.declared.line.Line.{Line}
+use Rattle.gp_derivation.specs.Walk.{Walks}
 use Rattle.gp_gen.specs.Texts.{program_text, host_text}
 use Rattle.gp_words.specs.CommandLine.{RunCommand, DemoCommand, CheckCommand, FmtCommand, StepCommand, Command, run, demo, check, fmt, step, command_of}
 use Rattle.gp_cli.specs.Choices.{AreSeeded}

@@ -7,7 +7,7 @@
 //! Inside it: `gp_words` reads the words, `gp_reply` the files, or `demo` makes what stands in their place, `run` runs
 //! the program, or `check` asks whether a trace and a result are a derivation of it
 //! (`gp_derivation`), `fmt` writes a program in its canonical text (`gp_fmt`), `step` walks a script over its items
-//! (`gp_stepper`), `gp_reply` makes the texts of the answer, and `deliver` writes. All text is made before the first
+//! (`gp_derivation`), `gp_reply` makes the texts of the answer, and `deliver` writes. All text is made before the first
 //! write.
 #![tactic(auto)]
 

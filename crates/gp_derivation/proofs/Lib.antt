@@ -16,3 +16,11 @@ pub mod TwinItems
 pub mod TwinRuns
 pub mod Twins
 pub mod Decided
+pub mod Counted
+pub mod StepperMoves
+pub mod StepperStacks
+pub mod StepperStandings
+pub mod Unique
+pub mod Lines
+pub mod Words
+pub mod Told

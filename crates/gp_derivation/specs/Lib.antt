@@ -2,4 +2,8 @@ pub mod StepAnew
 pub mod Upgrade
 pub mod Laws
 pub mod Derivation
+pub mod Stepper
+pub mod Script
+pub mod Walk
+pub mod StepperLaws
 pub mod inside

@@ -2,3 +2,8 @@ pub mod Table
 pub mod Held
 pub mod Led
 pub mod Standing
+pub mod Code
+pub mod Stands
+pub mod StepperHeld
+pub mod Words
+pub mod Told

@@ -1,6 +1,8 @@
-//! What holds of the step as it was. Each function does nothing: its contract is the law.
+//! What holds of the step as it was, of steppers and of the texts of scripts. Each function does nothing: its contract is
+//! the law.
 
 ghost use Rattle.gp_derivation.specs.Laws.{StepAnewIsUnique, ItemsBreakOnce};
+ghost use Rattle.gp_derivation.specs.StepperLaws.{SteppersReplay, WellFormedMovesAreInverse, MovesAreCounted, ScriptsBreakOnce};
 
 /// A match of a checked rule led to one graph.
 pub fn step_anew_is_unique()
@@ -10,4 +12,26 @@ pub fn step_anew_is_unique()
 /// Items break at one place at most, and those that can be brought up to date at none.
 pub fn items_break_once()
     ensures { ItemsBreakOnce }
+{}
+
+/// The items before the place of a stepper replay from its root graph to its graph.
+pub fn steppers_replay()
+    ensures { SteppersReplay }
+{}
+
+/// By well-formed rules, items, root graph and place tell the trail. So a move forward and then one back are the
+/// identity, and so are one back and then one forward.
+pub fn moves_are_inverse()
+    ensures { WellFormedMovesAreInverse }
+{}
+
+/// After a list of moves, of which none was refused, the place is that of the moves, and the items before it replay to
+/// the graph.
+pub fn moves_are_counted()
+    ensures { MovesAreCounted }
+{}
+
+/// A text is that of one script or breaks at one line, and not both.
+pub fn scripts_break_once()
+    ensures { ScriptsBreakOnce }
 {}

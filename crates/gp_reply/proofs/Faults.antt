@@ -9,9 +9,9 @@ use Rattle.gp_reader.specs.Program as program
 use Rattle.gp_trace.specs.declared.fault.TraceFault.{TraceFault}
 use Rattle.gp_trace.specs.declared.fault.TraceFault.TheVariants as breaks
 use Rattle.gp_trace.specs.Reading.{HasFault}
-use Rattle.gp_stepper.specs.declared.fault.ScriptFault.{ScriptFault}
-use Rattle.gp_stepper.specs.declared.fault.ScriptFault.TheVariants as unread
-use Rattle.gp_stepper.specs.Script as script
+use Rattle.gp_derivation.specs.declared.script_fault.ScriptFault.{ScriptFault}
+use Rattle.gp_derivation.specs.declared.script_fault.ScriptFault.TheVariants as unread
+use Rattle.gp_derivation.specs.Script as script
 use Rattle.gp_values.specs.Names.{Name}
 use Rattle.gp_syntax.specs.Run.{Program}
 use Rattle.gp_hostfile.specs.Host.{IsRefusal, IsHostFault}

@@ -14,9 +14,9 @@ use Rattle.gp_hostfile.proofs.Hosts.{one_host, no_fault}
 use Rattle.gp_trace.specs.declared.version.Version.{Version}
 use Rattle.gp_trace.specs.Reading.{IsTraceOf}
 use Rattle.gp_trace.proofs.Told.{told, breaks_told}
-use Rattle.gp_stepper.specs.declared.line.Line.{Line}
-use Rattle.gp_stepper.specs.Script.{IsScript}
-use Rattle.gp_stepper.proofs.Words.{breaks_once}
+use Rattle.gp_derivation.specs.declared.line.Line.{Line}
+use Rattle.gp_derivation.specs.Script.{IsScript}
+use Rattle.gp_derivation.proofs.Words.{breaks_once}
 use Rattle.gp_reply.specs.Inputs.{HasBytes, HasLongFile, CannotRead, risen, lacking, HasProgram, HasProgramTree, HasHost, HasTrace, HasScript, HasFaultyProgram, has_long_program, has_bad_program, HasTreelessProgram, has_long_text, has_no_tree, HasFaultyHost, has_long_host, has_bad_host, HasFaultyTrace, has_long_trace, has_bad_trace, HasFaultyScript, has_long_script, has_bad_script}
 
 pub same_bytes : {held : Content} (content : Option Content) (name : Name) (a b : List ℕ) → content ≡ Some held → HasFile content name a → HasFile content name b → a ≡ b

@@ -12,7 +12,7 @@ use Rattle.gp_syntax.specs.declared.tree.Ast.{Ast}
 use Rattle.gp_syntax.specs.declared.command.ProgramParts.{ProgramParts}
 use Rattle.gp_syntax.specs.Run as meant
 use Rattle.gp_trace.specs.declared.version.Version.{Version}
-use Rattle.gp_stepper.specs.declared.line.Line.{Line}
+use Rattle.gp_derivation.specs.declared.line.Line.{Line}
 use Rattle.gp_graph.specs.declared.graph.Graph.{Graph}
 use Rattle.gp_reply.specs.declared.said.Stop.{Stop}
 use Rattle.gp_reply.specs.declared.said.Stop.TheVariants as stops

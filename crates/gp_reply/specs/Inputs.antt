@@ -12,9 +12,9 @@ use Rattle.gp_hostfile.specs.declared.fault.HostFault.{HostFault}
 use Rattle.gp_hostfile.specs.Host.{IsHostText, IsHostFault}
 use Rattle.gp_trace.specs.declared.version.Version.{Version}
 use Rattle.gp_trace.specs.Reading.{IsTraceOf, BreaksAt}
-use Rattle.gp_stepper.specs.declared.line.Line.{Line}
-use Rattle.gp_stepper.specs.Script.{IsScript}
-use Rattle.gp_stepper.specs.Script as script
+use Rattle.gp_derivation.specs.declared.line.Line.{Line}
+use Rattle.gp_derivation.specs.Script.{IsScript}
+use Rattle.gp_derivation.specs.Script as script
 use Rattle.gp_reply.specs.Texts.{Said, long_program, bad_program, long_host, bad_host, long_trace, bad_trace, long_result, long_script, bad_script, unread}
 
 -- the greatest number of bytes of a file

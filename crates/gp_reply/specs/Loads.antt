@@ -18,9 +18,9 @@ use Rattle.gp_hostfile.specs.declared.fault.HostFault.{HostFault}
 use Rattle.gp_hostfile.specs.Host.{IsHostText, IsHostFault}
 use Rattle.gp_trace.specs.declared.version.Version.{Version}
 use Rattle.gp_trace.specs.Reading.{IsTraceOf, BreaksAt}
-use Rattle.gp_stepper.specs.declared.line.Line.{Line}
-use Rattle.gp_stepper.specs.Script.{IsScript}
-use Rattle.gp_stepper.specs.Script as script
+use Rattle.gp_derivation.specs.declared.line.Line.{Line}
+use Rattle.gp_derivation.specs.Script.{IsScript}
+use Rattle.gp_derivation.specs.Script as script
 use Rattle.gp_reply.specs.declared.said.Stop.{Stop}
 use Rattle.gp_reply.specs.declared.said.Stop.TheVariants as stops
 use Rattle.gp_reply.specs.Texts as texts

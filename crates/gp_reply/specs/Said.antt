@@ -5,16 +5,16 @@ use Rattle.gp_values.specs.Graph.{Graph}
 use Rattle.gp_syntax.specs.Rule.{Rule}
 use Rattle.gp_journal.specs.Trail.{root_of}
 use Rattle.gp_journal.specs.Journal.{items_of, IsJournalOf}
-use Rattle.gp_stepper.specs.declared.line.Line.{Line}
-use Rattle.gp_stepper.specs.Walk.{Walks}
+use Rattle.gp_derivation.specs.declared.line.Line.{Line}
+use Rattle.gp_derivation.specs.Walk.{Walks}
 use Rattle.gp_reader.specs.declared.fault.ProgramFault.{ProgramFault}
 use Rattle.gp_reader.specs.declared.fault.ProgramFault.TheVariants as program
 use Rattle.gp_hostfile.specs.declared.fault.HostFault.{HostFault}
 use Rattle.gp_hostfile.specs.declared.fault.HostFault.TheVariants as host
 use Rattle.gp_trace.specs.declared.fault.TraceFault.{TraceFault}
 use Rattle.gp_trace.specs.declared.fault.TraceFault.TheVariants as trace
-use Rattle.gp_stepper.specs.declared.fault.ScriptFault.{ScriptFault}
-use Rattle.gp_stepper.specs.declared.fault.ScriptFault.TheVariants as script
+use Rattle.gp_derivation.specs.declared.script_fault.ScriptFault.{ScriptFault}
+use Rattle.gp_derivation.specs.declared.script_fault.ScriptFault.TheVariants as script
 use Rattle.gp_reply.specs.declared.said.Said.{Said}
 use Rattle.gp_reply.specs.declared.said.Said.TheVariants as code
 use Rattle.gp_reply.specs.declared.said.Stop.{Stop}

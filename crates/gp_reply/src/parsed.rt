@@ -8,7 +8,7 @@ use crate::said::Stop;
 use gp_graph::Graph;
 use gp_hostfile::read_host;
 use gp_reader::{read_program, read_tree};
-use gp_stepper::{Line, read_script};
+use gp_derivation::{Line, read_script};
 use gp_syntax::{Ast, Item, Program};
 use gp_trace::{Version, read_trace};
 use std::alloc::Global;

@@ -6,7 +6,7 @@ ghost use Rattle.gp_reply.specs.Said.{program_refused, host_refused, trace_refus
 use crate::said::{Said, Stop};
 use gp_hostfile::HostFault;
 use gp_reader::ProgramFault;
-use gp_stepper::ScriptFault;
+use gp_derivation::ScriptFault;
 use gp_trace::TraceFault;
 
 /// What is answered where a program is refused so.

@@ -12,7 +12,7 @@ use gp_hostfile::HostFault;
 use gp_journal::Journal;
 use gp_memory::NoMemory;
 use gp_reader::ProgramFault;
-use gp_stepper::{Line, walk};
+use gp_derivation::{Line, walk};
 use gp_syntax::{Name, NumberKind, Rule};
 use gp_words::DemoCommand;
 use std::alloc::Global;

@@ -2,7 +2,7 @@
 
 ghost use Rattle.std.specs.Prelude.{map};
 ghost use Rattle.gp_syntax.specs.Tree.{rule_of_tree};
-ghost use Rattle.gp_stepper.specs.Stepper.{IsStepperOf};
+ghost use Rattle.gp_derivation.specs.Stepper.{IsStepperOf};
 
 use crate::runs::random::{below, note_more};
 use crate::runs::replay::{are_alike, go, rules_of};
@@ -11,7 +11,7 @@ use gp_hostfile::read_host;
 use gp_journal::{Journal, Trail};
 use gp_memory::NoMemory;
 use gp_rows::{Answer, Wrong, field, number};
-use gp_stepper::{Moved, Stepper};
+use gp_derivation::{Moved, Stepper};
 use gp_syntax::{Item, Rule};
 use rand_core::SeedableRng;
 use rand_pcg::Lcg64Xsh32;

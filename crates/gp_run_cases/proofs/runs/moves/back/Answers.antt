@@ -1,6 +1,6 @@
 use Rattle.std.proofs.Common.{inl, inr, map, sym, subst}
 use Rattle.gp_syntax.specs.Tree.{rule_of_tree}
-use Rattle.gp_stepper.specs.Stepper.{IsStepperOf}
+use Rattle.gp_derivation.specs.Stepper.{IsStepperOf}
 use Rattle.gp_run_cases.proofs.runs.moves.back.Goals as goal
 
 pub returns-in-Made : goal.returns-in-Made

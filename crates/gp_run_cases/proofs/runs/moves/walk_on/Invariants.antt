@@ -1,6 +1,6 @@
 use Rattle.std.proofs.Common.{map}
 use Rattle.gp_syntax.specs.Tree.{rule_of_tree}
-use Rattle.gp_stepper.specs.Stepper.{IsStepperOf}
+use Rattle.gp_derivation.specs.Stepper.{IsStepperOf}
 use Rattle.gp_run_cases.proofs.runs.moves.walk_on.Given as goal
 
 abbrev pub invariant-loop : goal.invariant-loop

@@ -1,5 +1,0 @@
-use Rattle.gp_stepper.proofs.Counted.{all_counted}
-use Rattle.gp_stepper.proofs.laws.moves_are_counted.Goals as goal
-
-pub returns : goal.returns
-returns c = all_counted

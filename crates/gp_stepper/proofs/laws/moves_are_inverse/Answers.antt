@@ -1,5 +1,0 @@
-use Rattle.gp_stepper.proofs.Unique.{all_inverse}
-use Rattle.gp_stepper.proofs.laws.moves_are_inverse.Goals as goal
-
-pub returns : goal.returns
-returns c = all_inverse

@@ -1,5 +1,0 @@
-use Rattle.gp_stepper.proofs.Words.{breaks_once}
-use Rattle.gp_stepper.proofs.laws.scripts_break_once.Goals as goal
-
-pub returns : goal.returns
-returns c = breaks_once
