@@ -5,16 +5,16 @@ use Rattle.std.specs.List.{list_any}
 use Rattle.std.proofs.lemmas.Bool.{ne_eqb}
 use Rattle.gp_tokens.specs.declared.token.Token.{Token}
 use Rattle.gp_tokens.specs.Kinds.{same_kind}
-use Rattle.gp_grammar.specs.declared.want.Want.{Want}
-use Rattle.gp_grammar.specs.declared.want.Want.TheVariants as wants
-use Rattle.gp_grammar.specs.Signs.{number_sign, string_sign, open_sign, close_sign, comma, colon, dot, plus, minus, star, slash, hash, empty, equal, less, greater}
-use Rattle.gp_grammar.specs.Wants.{excludes, meets}
-use Rattle.gp_grammar.specs.Shape.{Shape, Is, ◌then◌, one, other, absent, none, more}
-use Rattle.gp_grammar.specs.Shape as s
-use Rattle.gp_grammar.specs.Grammar.{Grammar, One, shape_of}
-use Rattle.gp_grammar.specs.Fits.{Fits, BeginsBy, enders, nullable, Avoids, AllAvoid, AllExcluded, Answers}
-use Rattle.gp_grammar.proofs.Wants.{excluded}
-use Rattle.gp_grammar.proofs.Passing.{Passes}
+use Rattle.gp_tokens.specs.declared.want.Want.{Want}
+use Rattle.gp_tokens.specs.declared.want.Want.TheVariants as wants
+use Rattle.gp_tokens.specs.SignWants.{number_sign, string_sign, open_sign, close_sign, comma, colon, dot, plus, minus, star, slash, hash, empty, equal, less, greater}
+use Rattle.gp_tokens.specs.Wants.{excludes, meets}
+use Rattle.gp_tokens.specs.Shape.{Shape, Is, ◌then◌, one, other, absent, none, more}
+use Rattle.gp_tokens.specs.Shape as s
+use Rattle.gp_tokens.specs.Grammar.{Grammar, One, shape_of}
+use Rattle.gp_tokens.specs.Fits.{Fits, BeginsBy, enders, nullable, Avoids, AllAvoid, AllExcluded, Answers}
+use Rattle.gp_tokens.proofs.Wants.{excluded}
+use Rattle.gp_tokens.proofs.Passing.{Passes}
 use Rattle.gp_syntax.specs.declared.expression.Expr.{Expr}
 use Rattle.gp_expressions.specs.declared.ranged.Ranged.{Ranged}
 use Rattle.gp_expressions.specs.Signs.{and_word, or_word, indegree_word, outdegree_word, length_word, not_word, edge_word, int_word, char_word, string_word, atom_word, not_equal, less_equal, greater_equal}

@@ -1,11 +1,11 @@
 -- Expressions are read without a doubt, at each room.
 use Rattle.std.proofs.Common.{◌≡◌, ℕ, zero, suc, List, [], ◌∷◌, false, refl}
 use Rattle.gp_tokens.specs.Kinds.{same_kind}
-use Rattle.gp_grammar.specs.declared.want.Want.{Want}
-use Rattle.gp_grammar.specs.Signs.{number_sign, colon, dot, plus, minus, star, slash, bar, open_sign, close_bracket}
-use Rattle.gp_grammar.specs.Wants.{excludes, meets}
-use Rattle.gp_grammar.specs.Grammar.{Grammar}
-use Rattle.gp_grammar.specs.Fits.{Fits, enders, nullable, Avoids, AllAvoid, Lacks}
+use Rattle.gp_tokens.specs.declared.want.Want.{Want}
+use Rattle.gp_tokens.specs.SignWants.{number_sign, colon, dot, plus, minus, star, slash, bar, open_sign, close_bracket}
+use Rattle.gp_tokens.specs.Wants.{excludes, meets}
+use Rattle.gp_tokens.specs.Grammar.{Grammar}
+use Rattle.gp_tokens.specs.Fits.{Fits, enders, nullable, Avoids, AllAvoid, Lacks}
 use Rattle.gp_expressions.specs.declared.ranged.Ranged.{Ranged}
 use Rattle.gp_expressions.specs.Signs.{not_word, edge_word, int_word, char_word, string_word, atom_word}
 use Rattle.gp_expressions.specs.Expressions.{Tree, unary, quotients, product, differences, sum, dots, joins, name, argument, leaf, nested, operand, list}

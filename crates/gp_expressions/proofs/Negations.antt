@@ -1,9 +1,9 @@
 -- Negations, by the room that is left, and what the test of a parenthesis finds.
 use Rattle.std.proofs.Common.{◌≡◌, ◌≢◌, ℕ, zero, suc, ◌+◌, ◌-◌, Bool, true, false, List, [], ◌∷◌, refl, ap, arith}
 use Rattle.gp_tokens.specs.declared.token.Token.{Token}
-use Rattle.gp_grammar.specs.Grammar.{Grammar}
-use Rattle.gp_grammar.specs.Signs.{open_sign, close_sign}
-use Rattle.gp_grammar.specs.Wants.{meets}
+use Rattle.gp_tokens.specs.Grammar.{Grammar}
+use Rattle.gp_tokens.specs.SignWants.{open_sign, close_sign}
+use Rattle.gp_tokens.specs.Wants.{meets}
 use Rattle.gp_expressions.specs.declared.ranged.Ranged.{Ranged}
 use Rattle.gp_expressions.specs.Expressions.{Tree}
 use Rattle.gp_expressions.specs.Conditions.{negation, negated_in}

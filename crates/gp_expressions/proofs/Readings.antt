@@ -2,12 +2,12 @@
 use Rattle.std.proofs.Common.{◌≡◌, Bool, true, false, List, [], ◌∷◌, Option, Some, None, refl, subst}
 use Rattle.std.specs.Prelude.{if◌then◌else◌}
 use Rattle.gp_tokens.specs.declared.token.Token.{Token}
-use Rattle.gp_grammar.specs.declared.error.ReadError.{ReadError}
-use Rattle.gp_grammar.specs.declared.error.ReadError.TheVariants as error
-use Rattle.gp_grammar.specs.declared.want.Want.{Want}
-use Rattle.gp_grammar.specs.Ahead.{◌>>=◌}
-use Rattle.gp_grammar.specs.Wants.{meets}
-use Rattle.gp_grammar.specs.Reading.{Reader, Fails, token, begins, behind, ◌and◌, made}
+use Rattle.gp_tokens.specs.declared.error.ReadError.{ReadError}
+use Rattle.gp_tokens.specs.declared.error.ReadError.TheVariants as error
+use Rattle.gp_tokens.specs.declared.want.Want.{Want}
+use Rattle.gp_tokens.specs.Ahead.{◌>>=◌}
+use Rattle.gp_tokens.specs.Wants.{meets}
+use Rattle.gp_tokens.specs.Reading.{Reader, Fails, token, begins, behind, ◌and◌, made}
 
 pub still_fails : {A B : Type 0} (e : ReadError) (read : Option A) (f : A → Option B) → Fails e read → Fails e (read >>= f)
 still_fails error.NoMemory read f h = h

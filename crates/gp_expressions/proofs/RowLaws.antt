@@ -3,12 +3,12 @@ use Rattle.std.proofs.Common.{◌≡◌, ℕ, zero, suc, Bool, true, false, List
 use Rattle.std.specs.Prelude.{if◌then◌else◌}
 use Rattle.std.specs.Option.{option_or}
 use Rattle.gp_tokens.specs.declared.token.Token.{Token}
-use Rattle.gp_grammar.specs.declared.want.Want.{Want}
-use Rattle.gp_grammar.specs.Grammar.{Grammar}
-use Rattle.gp_grammar.specs.Shape.{second_of, list_of}
-use Rattle.gp_grammar.specs.Signs.{dot, minus, slash}
-use Rattle.gp_grammar.specs.Ahead.{◌>>=◌}
-use Rattle.gp_grammar.specs.Reading.{Reader, begins, token, ◌and◌, made, many, repeated, separated, reader_of}
+use Rattle.gp_tokens.specs.declared.want.Want.{Want}
+use Rattle.gp_tokens.specs.Grammar.{Grammar}
+use Rattle.gp_tokens.specs.Shape.{second_of, list_of}
+use Rattle.gp_tokens.specs.SignWants.{dot, minus, slash}
+use Rattle.gp_tokens.specs.Ahead.{◌>>=◌}
+use Rattle.gp_tokens.specs.Reading.{Reader, begins, token, ◌and◌, made, many, repeated, separated, reader_of}
 use Rattle.gp_syntax.specs.declared.expression.Expr.TheVariants as e
 use Rattle.gp_syntax.specs.declared.expression.Cond.TheVariants as c
 use Rattle.gp_syntax.specs.declared.expression.Signed.{Signed}

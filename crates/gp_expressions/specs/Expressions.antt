@@ -1,12 +1,12 @@
 -- The grammar of expressions.
 use Rattle.std.specs.Prelude.{ℕ, zero, suc, ℤ, Bool, true, false, List, [], ◌∷◌, map, Option, Some, None}
 use Rattle.gp_tokens.specs.declared.token.Token.{Token}
-use Rattle.gp_grammar.specs.declared.want.Want.{Want}
-use Rattle.gp_grammar.specs.declared.want.Want.TheVariants as wants
-use Rattle.gp_grammar.specs.Grammar.{Grammar, One, NumberAt, String, Made, At, Separated, Never, ◌followed_by◌}
-use Rattle.gp_grammar.specs.Numerals.{signed}
-use Rattle.gp_grammar.specs.Shape.{second_of}
-use Rattle.gp_grammar.specs.Signs.{number_sign, string_sign, open_sign, close_sign, colon, dot, plus, minus, star, slash, empty}
+use Rattle.gp_tokens.specs.declared.want.Want.{Want}
+use Rattle.gp_tokens.specs.declared.want.Want.TheVariants as wants
+use Rattle.gp_tokens.specs.Grammar.{Grammar, One, NumberAt, String, Made, At, Separated, Never, ◌followed_by◌}
+use Rattle.gp_tokens.specs.Numerals.{signed}
+use Rattle.gp_tokens.specs.Shape.{second_of}
+use Rattle.gp_tokens.specs.SignWants.{number_sign, string_sign, open_sign, close_sign, colon, dot, plus, minus, star, slash, empty}
 use Rattle.gp_values.specs.Names.{Name}
 use Rattle.gp_syntax.specs.declared.expression.Signed.{Signed}
 use Rattle.gp_syntax.specs.declared.expression.SumSign.{SumSign}

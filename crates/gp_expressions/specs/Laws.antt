@@ -1,8 +1,8 @@
 -- What holds of the tokens of expressions and of conditions.
 use Rattle.std.specs.Prelude.{ℕ, List, []}
 use Rattle.gp_tokens.specs.declared.token.Token.{Token}
-use Rattle.gp_grammar.specs.Grammar.{shape_of}
-use Rattle.gp_grammar.specs.Fits.{Fits}
+use Rattle.gp_tokens.specs.Grammar.{shape_of}
+use Rattle.gp_tokens.specs.Fits.{Fits}
 use Rattle.gp_expressions.specs.declared.ranged.Ranged.{Ranged}
 use Rattle.gp_expressions.specs.Expressions.{Tree, list}
 use Rattle.gp_expressions.specs.Conditions.{CondTree, condition}

@@ -1,8 +1,8 @@
 -- Names of wants that only programs have.
 use Rattle.gp_tokens.specs.declared.keyword.Keyword.TheVariants as keywords
 use Rattle.gp_tokens.specs.declared.token.Kind.TheVariants as kinds
-use Rattle.gp_grammar.specs.declared.want.Want.{Want}
-use Rattle.gp_grammar.specs.declared.want.Want.TheVariants as wants
+use Rattle.gp_tokens.specs.declared.want.Want.{Want}
+use Rattle.gp_tokens.specs.declared.want.Want.TheVariants as wants
 
 abbrev pub indegree_word : Want
 indegree_word = wants.Keyword keywords.Indegree

@@ -4,7 +4,7 @@ ghost use Rattle.std.specs.Prelude.{◌≡◌, MatchResult};
 ghost use Rattle.gp_expressions.specs.inside.Chains as spec;
 
 use crate::ranged::{Ranged, gather};
-use gp_grammar::ReadError;
+use gp_tokens::ReadError;
 use gp_syntax::{Boxed, Items};
 use std::alloc::Global;
 

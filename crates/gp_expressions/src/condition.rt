@@ -1,8 +1,8 @@
 //! Reads labels and conditions, one function for each line of the grammar.
 
 ghost use Rattle.std.specs.Prelude.{◌≡◌, MatchResult};
-ghost use Rattle.gp_grammar.specs.Cursor.{Reads};
-ghost use Rattle.gp_grammar.specs.Reading.{reader_of};
+ghost use Rattle.gp_tokens.specs.Cursor.{Reads};
+ghost use Rattle.gp_tokens.specs.Reading.{reader_of};
 ghost use Rattle.gp_syntax.specs.declared.expression.Cond.TheVariants as c;
 ghost use Rattle.gp_expressions.specs.Ranges.{with, chained};
 ghost use Rattle.gp_expressions.specs.Expressions.{list};
@@ -12,7 +12,7 @@ use crate::chain::{Links, linked};
 use crate::expression::{read_list, read_name};
 use crate::ranged::{Ranged, whole};
 use crate::rows::{Row, read_rows};
-use gp_grammar::{ReadError, Tokens, Want};
+use gp_tokens::{ReadError, Tokens, Want};
 use gp_syntax::{Boxed, Comparison, Cond, Expr, Name, VariableType};
 use gp_tokens::{Keyword, Kind, Token};
 use std::alloc::Global;

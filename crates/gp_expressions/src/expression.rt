@@ -1,9 +1,9 @@
 //! Reads expressions, one function for each line of the grammar.
 
 ghost use Rattle.std.specs.Prelude.{◌≡◌, MatchResult};
-ghost use Rattle.gp_grammar.specs.Cursor.{Reads};
-ghost use Rattle.gp_grammar.specs.Reading.{reader_of, made, number_at};
-ghost use Rattle.gp_grammar.specs.Numerals.{integer_of};
+ghost use Rattle.gp_tokens.specs.Cursor.{Reads};
+ghost use Rattle.gp_tokens.specs.Reading.{reader_of, made, number_at};
+ghost use Rattle.gp_tokens.specs.Numerals.{integer_of};
 ghost use Rattle.gp_syntax.specs.declared.expression.Expr.TheVariants as e;
 ghost use Rattle.gp_syntax.specs.declared.expression.SumSign.TheVariants as sums;
 ghost use Rattle.gp_syntax.specs.declared.expression.ProductSign.TheVariants as products;
@@ -16,7 +16,7 @@ ghost use Rattle.gp_expressions.specs.inside.Rows.{signed_row};
 use crate::chain::{Links, linked};
 use crate::ranged::{Ranged, join, whole};
 use crate::rows::{Row, read_rows};
-use gp_grammar::{Numeral, ReadError, Tokens, Want};
+use gp_tokens::{Numeral, ReadError, Tokens, Want};
 use gp_syntax::{Boxed, Expr, Items, Name, ProductSign, Signed, SumSign};
 use gp_tokens::{Keyword, Kind};
 use std::alloc::Global;

@@ -2,7 +2,7 @@
 
 ghost use Rattle.gp_expressions.specs.Laws.{ConditionsFit, ListsFit, NoTokensAreBoth};
 
-/// Expressions and conditions are read without a doubt, so that what `gp_grammar::laws::grammars_are_read` says holds of
+/// Expressions and conditions are read without a doubt, so that what `gp_tokens::laws::grammars_are_read` says holds of
 /// their grammars: what is read is a tree, and each tree is read.
 pub fn expressions_are_read()
     ensures lists { ListsFit }

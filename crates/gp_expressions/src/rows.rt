@@ -2,11 +2,11 @@
 
 ghost use Rattle.std.specs.Prelude.{◌≡◌, List, Option};
 ghost use Rattle.gp_tokens.specs.declared.token.Token.{Token};
-ghost use Rattle.gp_grammar.specs.Cursor.{Reads, ReadsAs, IsReading};
-ghost use Rattle.gp_grammar.specs.Reading.{made, separated};
+ghost use Rattle.gp_tokens.specs.Cursor.{Reads, ReadsAs, IsReading};
+ghost use Rattle.gp_tokens.specs.Reading.{made, separated};
 ghost use Rattle.gp_expressions.specs.inside.Rows.{IsMaking};
 
-use gp_grammar::{ReadError, Tokens, Want, separated_by};
+use gp_tokens::{ReadError, Tokens, Want, separated_by};
 use std::alloc::{AllocError, Global};
 
 /// The rows: the sign between their parts, how a part is read inside what is given, and what is made of a row.

@@ -10,11 +10,11 @@ use Rattle.gp_tokens.specs.declared.token.Token.{Token}
 use Rattle.gp_tokens.specs.Cut.{IsStuck, bad_byte, bad_byte_in_string, open_string, open_comment, number_too_long, IsFaultFrom, here, later}
 use Rattle.gp_tokens.specs.Lexed.{tokens_of}
 use Rattle.gp_tokens.proofs.Cuts.{fault_of}
-use Rattle.gp_grammar.specs.Grammar.{shape_of}
-use Rattle.gp_grammar.specs.Numerals.{signed}
-use Rattle.gp_grammar.specs.Shape.{Is, ◌then◌, Made, Many, one, other, none, more, second_of}
-use Rattle.gp_grammar.specs.Signs.{colon}
-use Rattle.gp_grammar.proofs.Shapes.{bind_some, some_is}
+use Rattle.gp_tokens.specs.Grammar.{shape_of}
+use Rattle.gp_tokens.specs.Numerals.{signed}
+use Rattle.gp_tokens.specs.Shape.{Is, ◌then◌, Made, Many, one, other, none, more, second_of}
+use Rattle.gp_tokens.specs.SignWants.{colon}
+use Rattle.gp_tokens.proofs.Shapes.{bind_some, some_is}
 use Rattle.gp_values.specs.declared.atom.Atom.{Atom}
 use Rattle.gp_values.specs.declared.atom.Atom.TheVariants.{Int, Str}
 use Rattle.gp_values.specs.Atoms.{IsAtom, AreAtoms}

@@ -6,12 +6,12 @@ use Rattle.gp_tokens.specs.declared.fault.LexFault.{LexFault}
 use Rattle.gp_tokens.specs.declared.token.Token.{Token}
 use Rattle.gp_tokens.specs.Lexed.{tokens_of}
 use Rattle.gp_tokens.specs.Lines.{token_line}
-use Rattle.gp_grammar.specs.Grammar.{Made, At, ◌followed_by◌, shape_of}
-use Rattle.gp_grammar.specs.Shape.{one, other, second_of}
-use Rattle.gp_grammar.specs.Signs.{less}
-use Rattle.gp_grammar.specs.Ahead.{◌>>=◌}
-use Rattle.gp_grammar.specs.Reading.{reader_of}
-use Rattle.gp_grammar.proofs.Shapes.{bind_some, some_is}
+use Rattle.gp_tokens.specs.Grammar.{Made, At, ◌followed_by◌, shape_of}
+use Rattle.gp_tokens.specs.Shape.{one, other, second_of}
+use Rattle.gp_tokens.specs.SignWants.{less}
+use Rattle.gp_tokens.specs.Ahead.{◌>>=◌}
+use Rattle.gp_tokens.specs.Reading.{reader_of}
+use Rattle.gp_tokens.proofs.Shapes.{bind_some, some_is}
 use Rattle.gp_values.specs.Graph.{Graph, IsGraph, empty_graph, with_node, with_edge}
 use Rattle.gp_values.specs.Names.{Name, place_of}
 use Rattle.gp_values.proofs.Graphs.{IsGraph-empty, IsGraph-with_node, IsGraph-with_edge}

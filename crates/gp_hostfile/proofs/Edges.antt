@@ -1,8 +1,8 @@
 -- Nodes and edges are what is read in parts.
 use Rattle.std.proofs.Common.{◌≡◌, List, Option, Some, None, refl}
 use Rattle.gp_tokens.specs.declared.token.Token.{Token}
-use Rattle.gp_grammar.specs.Ahead.{◌>>=◌}
-use Rattle.gp_grammar.specs.Reading.{reader_of}
+use Rattle.gp_tokens.specs.Ahead.{◌>>=◌}
+use Rattle.gp_tokens.specs.Reading.{reader_of}
 use Rattle.gp_hostfile.specs.Grammar.{node, edge}
 use Rattle.gp_hostfile.specs.inside.Edges.{item, placed_label, node_in_parts, last_label, edge_in_parts}
 

@@ -2,18 +2,18 @@
 use Rattle.std.proofs.Common.{◌≡◌, Bool, true, false, List, [], ◌∷◌, refl, ◌∙◌}
 use Rattle.gp_tokens.specs.declared.token.Token.{Token}
 use Rattle.gp_tokens.specs.Kinds.{same_kind}
-use Rattle.gp_grammar.specs.Wants.{excludes, meets}
-use Rattle.gp_grammar.specs.Shape.{Is, Many, none, more, ◌then◌}
-use Rattle.gp_grammar.specs.Grammar.{One, Made, ◌followed_by◌, shape_of}
-use Rattle.gp_grammar.specs.Shape.{second_of}
-use Rattle.gp_grammar.specs.Fits.{Fits, NoneOf, Avoids, Lacks, Answers}
-use Rattle.gp_grammar.specs.Laws.{Again, Sound}
-use Rattle.gp_grammar.specs.Signs.{bar, close_bracket}
-use Rattle.gp_grammar.specs.Ahead.{stands_before}
-use Rattle.gp_grammar.specs.Reading.{begins, reader_of}
-use Rattle.gp_grammar.proofs.Complete.{all_again, strong}
-use Rattle.gp_grammar.proofs.Passing.{passes, want_met, stop_met}
-use Rattle.gp_grammar.proofs.Sound.{all_sound}
+use Rattle.gp_tokens.specs.Wants.{excludes, meets}
+use Rattle.gp_tokens.specs.Shape.{Is, Many, none, more, ◌then◌}
+use Rattle.gp_tokens.specs.Grammar.{One, Made, ◌followed_by◌, shape_of}
+use Rattle.gp_tokens.specs.Shape.{second_of}
+use Rattle.gp_tokens.specs.Fits.{Fits, NoneOf, Avoids, Lacks, Answers}
+use Rattle.gp_tokens.specs.GrammarLaws.{Again, Sound}
+use Rattle.gp_tokens.specs.SignWants.{bar, close_bracket}
+use Rattle.gp_tokens.specs.Ahead.{stands_before}
+use Rattle.gp_tokens.specs.Reading.{begins, reader_of}
+use Rattle.gp_tokens.proofs.Complete.{all_again, strong}
+use Rattle.gp_tokens.proofs.Passing.{passes, want_met, stop_met}
+use Rattle.gp_tokens.proofs.Sound.{all_sound}
 use Rattle.gp_hostfile.specs.declared.tree.NodeTree.{NodeTree}
 use Rattle.gp_hostfile.specs.Grammar.{coord, position, place, root, atom, atom_list, mark, label, node, edge, nodes, edges, HostTree, body, two_bars, barred, host}
 

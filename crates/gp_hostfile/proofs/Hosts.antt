@@ -5,9 +5,9 @@ use Rattle.gp_tokens.specs.declared.token.Token.{Token}
 use Rattle.gp_tokens.specs.declared.fault.LexFault.{LexFault}
 use Rattle.gp_tokens.specs.declared.fault.LexFault.TheVariants as lex_faults
 use Rattle.gp_tokens.specs.Lexed.{tokens_of, Fails as LexFails}
-use Rattle.gp_grammar.specs.Ahead.{◌>>=◌}
-use Rattle.gp_grammar.specs.Reading.{reader_of}
-use Rattle.gp_grammar.proofs.Shapes.{bind_some, some_is}
+use Rattle.gp_tokens.specs.Ahead.{◌>>=◌}
+use Rattle.gp_tokens.specs.Reading.{reader_of}
+use Rattle.gp_tokens.proofs.Shapes.{bind_some, some_is}
 use Rattle.gp_values.specs.Names.{Name}
 use Rattle.gp_values.specs.Graph.{Node, Edge, Graph, IsGraph, node_at, edge_at, empty_graph}
 use Rattle.gp_values.proofs.Graphs.{same_graph}

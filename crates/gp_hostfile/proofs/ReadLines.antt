@@ -3,12 +3,12 @@ use Rattle.std.proofs.Common.{◌≡◌, ℕ, ◌+◌, ◌^◌, ◌<◌, ◌≤�
 use Rattle.gp_tokens.specs.declared.token.Kind.TheVariants as k
 use Rattle.gp_tokens.specs.Kinds.{same_kind}
 use Rattle.gp_tokens.proofs.Steps.{token}
-use Rattle.gp_grammar.specs.declared.want.Want.TheVariants as wants
-use Rattle.gp_grammar.specs.Wants.{meets}
-use Rattle.gp_grammar.specs.Shape.{Is, ◌then◌, Many, second_of}
-use Rattle.gp_grammar.specs.Grammar.{shape_of}
-use Rattle.gp_grammar.specs.Signs as signs
-use Rattle.gp_grammar.specs.Signs.{root_word, open_bracket, close_bracket}
+use Rattle.gp_tokens.specs.declared.want.Want.TheVariants as wants
+use Rattle.gp_tokens.specs.Wants.{meets}
+use Rattle.gp_tokens.specs.Shape.{Is, ◌then◌, Many, second_of}
+use Rattle.gp_tokens.specs.Grammar.{shape_of}
+use Rattle.gp_tokens.specs.SignWants as signs
+use Rattle.gp_tokens.specs.SignWants.{root_word, open_bracket, close_bracket}
 use Rattle.gp_values.specs.Atoms.{AreAtoms}
 use Rattle.gp_values.specs.Graph.{Node, Edge}
 use Rattle.gp_hostfile.specs.declared.tree.NodeTree.{NodeTree}

@@ -1,13 +1,13 @@
 -- The grammar of hosts.
 use Rattle.std.specs.Prelude.{ℕ, Bool, true, false, ◌&&◌, List, [], ◌∷◌, Option, Some, None}
 use Rattle.gp_tokens.specs.declared.token.Token.{Token}
-use Rattle.gp_grammar.specs.declared.want.Want.{Want}
-use Rattle.gp_grammar.specs.declared.want.Want.TheVariants as wants
-use Rattle.gp_grammar.specs.Grammar.{Grammar, One, NumberAt, String, Made, At, If, Absent, Repeated, Separated, ◌followed_by◌, shape_of}
-use Rattle.gp_grammar.specs.Shape.{Shape, dropped, second_of}
-use Rattle.gp_grammar.specs.Signs.{number_sign, any_word, open_sign, close_sign, open_bracket, close_bracket, less, greater, comma, colon, dot, minus, hash, bar, empty, root_word}
-use Rattle.gp_grammar.specs.Wants.{meets}
-use Rattle.gp_grammar.specs.Ahead.{stands_before}
+use Rattle.gp_tokens.specs.declared.want.Want.{Want}
+use Rattle.gp_tokens.specs.declared.want.Want.TheVariants as wants
+use Rattle.gp_tokens.specs.Grammar.{Grammar, One, NumberAt, String, Made, At, If, Absent, Repeated, Separated, ◌followed_by◌, shape_of}
+use Rattle.gp_tokens.specs.Shape.{Shape, dropped, second_of}
+use Rattle.gp_tokens.specs.SignWants.{number_sign, any_word, open_sign, close_sign, open_bracket, close_bracket, less, greater, comma, colon, dot, minus, hash, bar, empty, root_word}
+use Rattle.gp_tokens.specs.Wants.{meets}
+use Rattle.gp_tokens.specs.Ahead.{stands_before}
 use Rattle.gp_values.specs.Names.{Name}
 use Rattle.gp_hostfile.specs.declared.tree.AtomTree.{AtomTree}
 use Rattle.gp_hostfile.specs.declared.tree.AtomTree.TheVariants as atoms

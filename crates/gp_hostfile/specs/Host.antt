@@ -6,8 +6,8 @@ use Rattle.gp_tokens.specs.declared.fault.LexFault.TheVariants as lex_faults
 use Rattle.gp_tokens.specs.declared.token.Token.{Token}
 use Rattle.gp_tokens.specs.Lexed.{tokens_of}
 use Rattle.gp_tokens.specs.Lines.{token_line}
-use Rattle.gp_grammar.specs.Numerals.{signed}
-use Rattle.gp_grammar.specs.Ahead.{◌>>=◌}
+use Rattle.gp_tokens.specs.Numerals.{signed}
+use Rattle.gp_tokens.specs.Ahead.{◌>>=◌}
 use Rattle.gp_values.specs.declared.atom.Atom.{Atom}
 use Rattle.gp_values.specs.declared.atom.Atom.TheVariants.{Int, Str}
 use Rattle.gp_values.specs.declared.marks.NodeMark.{NodeMark}

@@ -2,7 +2,7 @@
 
 ghost use Rattle.std.specs.Prelude.{◌≡◌, map, IfOk, option_map};
 ghost use Rattle.std.specs.Option.{option_or};
-ghost use Rattle.gp_grammar.specs.Numerals.{signed};
+ghost use Rattle.gp_tokens.specs.Numerals.{signed};
 ghost use Rattle.gp_values.specs.Names.{place_of, first_doubled, same_name};
 ghost use Rattle.gp_hostfile.specs.Host.{node_mark, edge_mark, first_found, first_fault, first_out_of_range, first_wrong_mark, node_names};
 ghost use Rattle.gp_hostfile.specs.inside.Stages.{Checks, Finds, tree_in, atom_fault, label_fault, ends_fault, node_mark_fault, edge_mark_fault};
@@ -12,7 +12,7 @@ ghost use Rattle.gp_hostfile.specs.declared.tree.EdgeTree.{EdgeTree};
 
 use crate::fault::HostFault;
 use crate::tree::{AtomTree, EdgeTree, HostTree, NodeTree};
-use gp_grammar::Numeral;
+use gp_tokens::Numeral;
 use gp_tokens::Slice;
 use gp_values::{EdgeMark, NameTable, NodeMark};
 use std::alloc::Global;

@@ -1,14 +1,14 @@
 //! Reads the tokens of hosts into trees, one function for each line of the grammar.
 
 ghost use Rattle.std.specs.Prelude.{◌≡◌};
-ghost use Rattle.gp_grammar.specs.Cursor.{Reads, ReadsAs};
-ghost use Rattle.gp_grammar.specs.Reading.{reader_of};
+ghost use Rattle.gp_tokens.specs.Cursor.{Reads, ReadsAs};
+ghost use Rattle.gp_tokens.specs.Reading.{reader_of};
 ghost use Rattle.gp_hostfile.specs.Grammar as spec;
 ghost use Rattle.gp_hostfile.specs.inside.Edges.{item, placed_label, last_label};
 ghost use Rattle.gp_hostfile.specs.inside.Passing.{Passes};
 
 use crate::tree::{AtomTree, AtomTrees, EdgeTree, HostTree, NodeTree};
-use gp_grammar::{ReadError, Tokens, Want, repeated_by, separated_by, stands_before};
+use gp_tokens::{ReadError, Tokens, Want, repeated_by, separated_by, stands_before};
 use gp_tokens::{Keyword, Kind, Slice, Token};
 
 const OPEN: Want = Want::Kind(Kind::OpenParenthesis);

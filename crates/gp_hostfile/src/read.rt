@@ -8,7 +8,7 @@ use crate::check::check;
 use crate::fault::HostFault;
 use crate::grammar::read_host_tree;
 use crate::tree::HostTree;
-use gp_grammar::{ReadError, Tokens};
+use gp_tokens::{ReadError, Tokens};
 use gp_graph::Graph;
 use gp_tokens::{Token, lex, line_of_token};
 use std::alloc::Global;

@@ -1,11 +1,11 @@
 -- Commands are read without a doubt.
 use Rattle.std.proofs.Common.{◌≡◌, ℕ, zero, suc, false, List, [], ◌∷◌, refl}
 use Rattle.gp_tokens.specs.Kinds.{same_kind}
-use Rattle.gp_grammar.specs.declared.want.Want.{Want}
-use Rattle.gp_grammar.specs.Wants.{excludes, meets}
-use Rattle.gp_grammar.specs.Grammar.{Grammar, One}
-use Rattle.gp_grammar.specs.Fits.{Fits, Avoids, AllAvoid, enders, nullable}
-use Rattle.gp_grammar.specs.Signs.{exclamation, semicolon, close_sign, open_bracket}
+use Rattle.gp_tokens.specs.declared.want.Want.{Want}
+use Rattle.gp_tokens.specs.Wants.{excludes, meets}
+use Rattle.gp_tokens.specs.Grammar.{Grammar, One}
+use Rattle.gp_tokens.specs.Fits.{Fits, Avoids, AllAvoid, enders, nullable}
+use Rattle.gp_tokens.specs.SignWants.{exclamation, semicolon, close_sign, open_bracket}
 use Rattle.gp_expressions.specs.Signs.{or_word, if_word, then_word, else_word, try_word}
 use Rattle.gp_expressions.specs.Expressions.{name}
 use Rattle.gp_program.specs.Commands.{rule_names, bang, repeatable, simple_in, block, part, command, sequence, simple, commands_of}

@@ -1,8 +1,8 @@
 -- A command is what is read behind its first word.
 use Rattle.std.proofs.Common.{◌≡◌, true, false, List, [], ◌∷◌, refl}
 use Rattle.gp_tokens.specs.declared.token.Token.{Token}
-use Rattle.gp_grammar.specs.Grammar.{Grammar}
-use Rattle.gp_grammar.specs.Reading.{reader_of, begins, behind}
+use Rattle.gp_tokens.specs.Grammar.{Grammar}
+use Rattle.gp_tokens.specs.Reading.{reader_of, begins, behind}
 use Rattle.gp_syntax.specs.declared.tree.CommandTree.{CommandTree}
 use Rattle.gp_expressions.specs.Signs.{if_word, try_word}
 use Rattle.gp_program.proofs.Turns.{in_turn}

@@ -2,7 +2,7 @@
 use Rattle.std.proofs.Common.{◌≡◌, ◌≢◌, ℕ, List, [], ◌∷◌, length, Option, Some, None, Ok, Err, refl, ap, subst, arith}
 use Rattle.std.specs.Prelude.{Result}
 use Rattle.gp_tokens.specs.declared.token.Token.{Token}
-use Rattle.gp_grammar.specs.Reading.{reader_of}
+use Rattle.gp_tokens.specs.Reading.{reader_of}
 use Rattle.gp_program.specs.Depth.{IsShallow, FindsDepth, outside}
 use Rattle.gp_program.specs.inside.Deep.{too_deep_from}
 use Rattle.gp_program.proofs.Depths.{finds}

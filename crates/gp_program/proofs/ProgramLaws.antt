@@ -2,16 +2,16 @@
 use Rattle.std.proofs.Common.{◌≡◌, ℕ, zero, suc, ◌⊎◌, inl, inr, Bool, true, false, List, [], ◌∷◌, ◌++◌, Some, refl}
 use Rattle.gp_tokens.specs.declared.token.Token.{Token}
 use Rattle.gp_tokens.specs.Kinds.{same_kind}
-use Rattle.gp_grammar.specs.declared.want.Want.{Want}
-use Rattle.gp_grammar.specs.declared.want.Want.TheVariants as wants
-use Rattle.gp_grammar.specs.Wants.{excludes, meets}
-use Rattle.gp_grammar.specs.Grammar.{Grammar, One, Made, Repeated, shape_of}
-use Rattle.gp_grammar.specs.Fits.{Fits, Avoids, AllAvoid, NoneOf, BeginsBy, enders, nullable}
-use Rattle.gp_grammar.specs.Laws.{Sound}
-use Rattle.gp_grammar.specs.Signs.{close_bracket}
-use Rattle.gp_grammar.specs.Reading.{reader_of}
-use Rattle.gp_grammar.proofs.Complete.{all_again}
-use Rattle.gp_grammar.proofs.Sound.{all_sound}
+use Rattle.gp_tokens.specs.declared.want.Want.{Want}
+use Rattle.gp_tokens.specs.declared.want.Want.TheVariants as wants
+use Rattle.gp_tokens.specs.Wants.{excludes, meets}
+use Rattle.gp_tokens.specs.Grammar.{Grammar, One, Made, Repeated, shape_of}
+use Rattle.gp_tokens.specs.Fits.{Fits, Avoids, AllAvoid, NoneOf, BeginsBy, enders, nullable}
+use Rattle.gp_tokens.specs.GrammarLaws.{Sound}
+use Rattle.gp_tokens.specs.SignWants.{close_bracket}
+use Rattle.gp_tokens.specs.Reading.{reader_of}
+use Rattle.gp_tokens.proofs.Complete.{all_again}
+use Rattle.gp_tokens.proofs.Sound.{all_sound}
 use Rattle.gp_syntax.specs.declared.tree.Ast.{Ast}
 use Rattle.gp_syntax.specs.declared.tree.Decl.{Decl}
 use Rattle.gp_expressions.specs.declared.ranged.Ranged.{Ranged}

@@ -1,8 +1,8 @@
 -- The end of a rule is what is read in two parts.
 use Rattle.std.proofs.Common.{◌≡◌, List}
 use Rattle.gp_tokens.specs.declared.token.Token.{Token}
-use Rattle.gp_grammar.specs.Grammar.{Grammar}
-use Rattle.gp_grammar.specs.Reading.{reader_of, made}
+use Rattle.gp_tokens.specs.Grammar.{Grammar}
+use Rattle.gp_tokens.specs.Reading.{reader_of, made}
 use Rattle.gp_expressions.specs.declared.ranged.Ranged.{Ranged}
 use Rattle.gp_expressions.specs.Conditions.{CondTree}
 use Rattle.gp_program.specs.declared.rule.Sides.{Sides}

@@ -2,15 +2,15 @@
 use Rattle.std.proofs.Common.{◌≡◌, true, false, List, [], ◌∷◌, ◌++◌, refl, ◌∙◌}
 use Rattle.gp_tokens.specs.declared.token.Token.{Token}
 use Rattle.gp_tokens.specs.Kinds.{same_kind}
-use Rattle.gp_grammar.specs.Wants.{excludes, meets}
-use Rattle.gp_grammar.specs.Shape.{Is, Many, none, more, ◌then◌, second_of}
-use Rattle.gp_grammar.specs.Grammar.{Grammar, One, Made, ◌followed_by◌, shape_of}
-use Rattle.gp_grammar.specs.Fits.{Fits, Avoids, AllAvoid, Lacks, Answers, BeginsBy, enders, nullable}
-use Rattle.gp_grammar.specs.Signs.{bar, less, open_sign, close_bracket}
-use Rattle.gp_grammar.specs.Ahead.{stands_before}
-use Rattle.gp_grammar.specs.Reading.{begins}
-use Rattle.gp_grammar.proofs.Complete.{strong}
-use Rattle.gp_grammar.proofs.Passing.{passes, want_met, stop_met}
+use Rattle.gp_tokens.specs.Wants.{excludes, meets}
+use Rattle.gp_tokens.specs.Shape.{Is, Many, none, more, ◌then◌, second_of}
+use Rattle.gp_tokens.specs.Grammar.{Grammar, One, Made, ◌followed_by◌, shape_of}
+use Rattle.gp_tokens.specs.Fits.{Fits, Avoids, AllAvoid, Lacks, Answers, BeginsBy, enders, nullable}
+use Rattle.gp_tokens.specs.SignWants.{bar, less, open_sign, close_bracket}
+use Rattle.gp_tokens.specs.Ahead.{stands_before}
+use Rattle.gp_tokens.specs.Reading.{begins}
+use Rattle.gp_tokens.proofs.Complete.{strong}
+use Rattle.gp_tokens.proofs.Passing.{passes, want_met, stop_met}
 use Rattle.gp_syntax.specs.declared.tree.NodeDecl.{NodeDecl}
 use Rattle.gp_syntax.specs.declared.tree.GraphDecl.{GraphDecl}
 use Rattle.gp_expressions.specs.declared.ranged.Ranged.{Ranged}

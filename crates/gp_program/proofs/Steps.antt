@@ -1,8 +1,8 @@
 -- A part that was read stands before the rest.
 use Rattle.std.proofs.Common.{◌≡◌, List, Option, Some, None, refl, ◌∙◌}
 use Rattle.gp_tokens.specs.declared.token.Token.{Token}
-use Rattle.gp_grammar.specs.Ahead.{◌>>=◌}
-use Rattle.gp_grammar.specs.Reading.{Reader, ◌and◌, made}
+use Rattle.gp_tokens.specs.Ahead.{◌>>=◌}
+use Rattle.gp_tokens.specs.Reading.{Reader, ◌and◌, made}
 
 pub step : {A B C : Type 0} (f : A × B → C) (r : Reader A) (s : Reader B) (tokens rest : List Token) (x : A) → r tokens ≡ Some (x, rest) → made f (r and s) tokens ≡ made (λ y. f (x, y)) s rest
 step {B = B} {C = C} f r s tokens rest x e = rw e (behind (s rest))

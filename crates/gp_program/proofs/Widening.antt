@@ -1,16 +1,16 @@
 -- A tree at some room is a tree at each room that is no less than the number of tokens.
 use Rattle.std.proofs.Common.{◌≡◌, ℕ, zero, suc, ◌<◌, ◌≤◌, false, List, [], length, refl, arith}
 use Rattle.gp_tokens.specs.declared.token.Token.{Token}
-use Rattle.gp_grammar.specs.declared.want.Want.{Want}
-use Rattle.gp_grammar.specs.declared.want.Want.TheVariants as wants
-use Rattle.gp_grammar.specs.Grammar.{Grammar, One, Made, ◌followed_by◌, shape_of}
-use Rattle.gp_grammar.specs.Fits.{nullable}
-use Rattle.gp_grammar.specs.Laws.{Keeps}
-use Rattle.gp_grammar.specs.Shape.{Shape, Is, ◌then◌, one, other, none, more, list_of, second_of}
-use Rattle.gp_grammar.specs.Shape as s
-use Rattle.gp_grammar.specs.Signs.{open_sign, close_sign, open_bracket, open_brace, comma, colon, semicolon, dot, plus, minus, star, slash, bar, arrow, equal, root_word}
-use Rattle.gp_grammar.proofs.Complete.{keeps, shrinks}
-use Rattle.gp_grammar.proofs.Shapes.{token_shrinks}
+use Rattle.gp_tokens.specs.declared.want.Want.{Want}
+use Rattle.gp_tokens.specs.declared.want.Want.TheVariants as wants
+use Rattle.gp_tokens.specs.Grammar.{Grammar, One, Made, ◌followed_by◌, shape_of}
+use Rattle.gp_tokens.specs.Fits.{nullable}
+use Rattle.gp_tokens.specs.GrammarLaws.{Keeps}
+use Rattle.gp_tokens.specs.Shape.{Shape, Is, ◌then◌, one, other, none, more, list_of, second_of}
+use Rattle.gp_tokens.specs.Shape as s
+use Rattle.gp_tokens.specs.SignWants.{open_sign, close_sign, open_bracket, open_brace, comma, colon, semicolon, dot, plus, minus, star, slash, bar, arrow, equal, root_word}
+use Rattle.gp_tokens.proofs.Complete.{keeps, shrinks}
+use Rattle.gp_tokens.proofs.Shapes.{token_shrinks}
 use Rattle.gp_syntax.specs.declared.kinds.VariableType.{VariableType}
 use Rattle.gp_syntax.specs.declared.kinds.VariableType.TheVariants as types
 use Rattle.gp_syntax.specs.declared.expression.SumSign.TheVariants as sums

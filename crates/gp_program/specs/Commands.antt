@@ -1,10 +1,10 @@
 -- The grammar of commands.
 use Rattle.std.specs.Prelude.{ℕ, zero, suc, Bool, true, false, List, [], ◌∷◌}
 use Rattle.gp_tokens.specs.declared.token.Token.{Token}
-use Rattle.gp_grammar.specs.declared.want.Want.{Want}
-use Rattle.gp_grammar.specs.declared.want.Want.TheVariants as wants
-use Rattle.gp_grammar.specs.Grammar.{Grammar, One, Made, At, Absent, Separated, Never, ◌followed_by◌}
-use Rattle.gp_grammar.specs.Signs.{open_sign, close_sign, open_brace, close_brace, comma, semicolon, exclamation}
+use Rattle.gp_tokens.specs.declared.want.Want.{Want}
+use Rattle.gp_tokens.specs.declared.want.Want.TheVariants as wants
+use Rattle.gp_tokens.specs.Grammar.{Grammar, One, Made, At, Absent, Separated, Never, ◌followed_by◌}
+use Rattle.gp_tokens.specs.SignWants.{open_sign, close_sign, open_brace, close_brace, comma, semicolon, exclamation}
 use Rattle.gp_values.specs.Names.{Name}
 use Rattle.gp_syntax.specs.declared.tree.CommandTree.{CommandTree}
 use Rattle.gp_syntax.specs.declared.tree.CommandTree.TheVariants as commands

@@ -5,7 +5,7 @@ use Rattle.gp_syntax.specs.declared.tree.Ast.{Ast}
 use Rattle.gp_expressions.specs.declared.ranged.Ranged.{Ranged}
 use Rattle.gp_program.specs.declared.parse.ParseFault.{ParseFault}
 use Rattle.gp_program.specs.declared.parse.ParseFault.TheVariants as faults
-use Rattle.gp_grammar.specs.Grammar.{shape_of}
+use Rattle.gp_tokens.specs.Grammar.{shape_of}
 use Rattle.gp_program.specs.Programs.{program}
 use Rattle.gp_program.specs.Program.{IsProgram, ParsesProgram}
 

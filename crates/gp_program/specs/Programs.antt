@@ -1,9 +1,9 @@
 -- The grammar of declarations and of programs.
 use Rattle.std.specs.Prelude.{ℕ, zero, suc, List, [], ◌∷◌}
 use Rattle.gp_tokens.specs.declared.token.Token.{Token}
-use Rattle.gp_grammar.specs.declared.want.Want.TheVariants as wants
-use Rattle.gp_grammar.specs.Grammar.{Grammar, One, Made, At, Absent, Repeated, Never, ◌followed_by◌}
-use Rattle.gp_grammar.specs.Signs.{open_bracket, close_bracket, equal}
+use Rattle.gp_tokens.specs.declared.want.Want.TheVariants as wants
+use Rattle.gp_tokens.specs.Grammar.{Grammar, One, Made, At, Absent, Repeated, Never, ◌followed_by◌}
+use Rattle.gp_tokens.specs.SignWants.{open_bracket, close_bracket, equal}
 use Rattle.gp_values.specs.Names.{Name}
 use Rattle.gp_syntax.specs.declared.tree.Ast.{Ast}
 use Rattle.gp_syntax.specs.declared.tree.CommandTree.{CommandTree}

@@ -2,13 +2,13 @@
 use Rattle.std.specs.Prelude.{ℕ, Bool, true, false, ◌&&◌, List, [], ◌∷◌, Option, Some, None}
 use Rattle.std.specs.Option.{option_or}
 use Rattle.gp_tokens.specs.declared.token.Token.{Token}
-use Rattle.gp_grammar.specs.declared.want.Want.{Want}
-use Rattle.gp_grammar.specs.declared.want.Want.TheVariants as wants
-use Rattle.gp_grammar.specs.Grammar.{Grammar, One, Made, At, If, Absent, Repeated, Separated, ◌followed_by◌}
-use Rattle.gp_grammar.specs.Shape.{dropped, second_of}
-use Rattle.gp_grammar.specs.Signs.{number_sign, open_sign, close_sign, open_bracket, close_bracket, open_brace, close_brace, less, greater, comma, semicolon, colon, dot, minus, bar, equal, arrow, root_word}
-use Rattle.gp_grammar.specs.Wants.{meets}
-use Rattle.gp_grammar.specs.Ahead.{stands_before}
+use Rattle.gp_tokens.specs.declared.want.Want.{Want}
+use Rattle.gp_tokens.specs.declared.want.Want.TheVariants as wants
+use Rattle.gp_tokens.specs.Grammar.{Grammar, One, Made, At, If, Absent, Repeated, Separated, ◌followed_by◌}
+use Rattle.gp_tokens.specs.Shape.{dropped, second_of}
+use Rattle.gp_tokens.specs.SignWants.{number_sign, open_sign, close_sign, open_bracket, close_bracket, open_brace, close_brace, less, greater, comma, semicolon, colon, dot, minus, bar, equal, arrow, root_word}
+use Rattle.gp_tokens.specs.Wants.{meets}
+use Rattle.gp_tokens.specs.Ahead.{stands_before}
 use Rattle.gp_values.specs.Names.{Name}
 use Rattle.gp_syntax.specs.declared.kinds.VariableType.{VariableType}
 use Rattle.gp_syntax.specs.declared.kinds.VariableType.TheVariants as types

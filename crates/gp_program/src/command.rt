@@ -1,8 +1,8 @@
 //! Reads commands, one function for each line of the grammar.
 
 ghost use Rattle.std.specs.Prelude.{◌≡◌, MatchResult};
-ghost use Rattle.gp_grammar.specs.Cursor.{Reads};
-ghost use Rattle.gp_grammar.specs.Reading.{reader_of};
+ghost use Rattle.gp_tokens.specs.Cursor.{Reads};
+ghost use Rattle.gp_tokens.specs.Reading.{reader_of};
 ghost use Rattle.gp_program.specs.Commands as spec;
 ghost use Rattle.gp_program.specs.inside.Branches.{part_of, branches_behind};
 ghost use Rattle.gp_program.specs.inside.Calls.{call};
@@ -10,7 +10,7 @@ ghost use Rattle.gp_program.specs.inside.Groups.{group_of, branches_of};
 
 use crate::rule::read_names;
 use gp_expressions::read_name;
-use gp_grammar::{ReadError, Tokens, Want, separated_by};
+use gp_tokens::{ReadError, Tokens, Want, separated_by};
 use gp_syntax::{Boxed, CommandTree, Items, Name};
 use gp_tokens::{Keyword, Kind};
 use std::alloc::Global;

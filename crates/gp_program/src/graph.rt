@@ -1,15 +1,15 @@
 //! Reads the sides of rules, one function for each line of the grammar.
 
 ghost use Rattle.std.specs.Prelude.{◌≡◌};
-ghost use Rattle.gp_grammar.specs.Cursor.{Reads};
-ghost use Rattle.gp_grammar.specs.Reading.{reader_of};
+ghost use Rattle.gp_tokens.specs.Cursor.{Reads};
+ghost use Rattle.gp_tokens.specs.Reading.{reader_of};
 ghost use Rattle.gp_expressions.specs.Expressions.{list};
 ghost use Rattle.gp_program.specs.Rules as spec;
 ghost use Rattle.gp_program.specs.inside.EdgeParts.{edge_ends};
 ghost use Rattle.gp_program.specs.inside.Passing.{Passes};
 
 use gp_expressions::{Ranged, gather, read_label, read_name};
-use gp_grammar::{ReadError, Tokens, Want, repeated_by, stands_before};
+use gp_tokens::{ReadError, Tokens, Want, repeated_by, stands_before};
 use gp_syntax::{EdgeDecl, GraphDecl, Items, Name, NodeDecl};
 use gp_tokens::{Keyword, Kind, Token};
 

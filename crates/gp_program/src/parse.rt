@@ -7,7 +7,7 @@ ghost use Rattle.gp_program.specs.inside.Stages.{ReadsTree};
 use crate::depth::first_too_deep;
 use crate::program::read_ast;
 use gp_expressions::Ranged;
-use gp_grammar::{ReadError, Tokens};
+use gp_tokens::{ReadError, Tokens};
 use gp_memory::NoMemory as Refused;
 use gp_syntax::Ast;
 use gp_tokens::Token;

@@ -1,16 +1,16 @@
 //! Reads declarations and programs, one function for each line of the grammar.
 
 ghost use Rattle.std.specs.Prelude.{◌≡◌, MatchResult};
-ghost use Rattle.gp_grammar.specs.Grammar.{Made};
-ghost use Rattle.gp_grammar.specs.Cursor.{Reads};
-ghost use Rattle.gp_grammar.specs.Reading.{reader_of};
+ghost use Rattle.gp_tokens.specs.Grammar.{Made};
+ghost use Rattle.gp_tokens.specs.Cursor.{Reads};
+ghost use Rattle.gp_tokens.specs.Reading.{reader_of};
 ghost use Rattle.gp_program.specs.Rules.{rule};
 ghost use Rattle.gp_program.specs.Programs as spec;
 
 use crate::command::read_commands;
 use crate::rule::read_rule;
 use gp_expressions::{Ranged, gather, join, read_name, whole};
-use gp_grammar::{ReadError, Tokens, Want, repeated_by};
+use gp_tokens::{ReadError, Tokens, Want, repeated_by};
 use gp_syntax::{Ast, Decl, Items};
 use gp_tokens::Kind;
 use std::alloc::Global;

@@ -1,9 +1,9 @@
 //! Reads rules, one function for each line of the grammar.
 
 ghost use Rattle.std.specs.Prelude.{◌≡◌};
-ghost use Rattle.gp_grammar.specs.Cursor.{Reads};
-ghost use Rattle.gp_grammar.specs.Reading.{reader_of};
-ghost use Rattle.gp_grammar.specs.Signs.{comma};
+ghost use Rattle.gp_tokens.specs.Cursor.{Reads};
+ghost use Rattle.gp_tokens.specs.Reading.{reader_of};
+ghost use Rattle.gp_tokens.specs.SignWants.{comma};
 ghost use Rattle.gp_expressions.specs.Conditions.{condition};
 ghost use Rattle.gp_expressions.specs.Expressions.{behind, name as name_of, list};
 ghost use Rattle.gp_program.specs.Rules as spec;
@@ -12,7 +12,7 @@ ghost use Rattle.gp_program.specs.inside.RuleParts.{whole_rule, interface_part, 
 
 use crate::graph::read_graph;
 use gp_expressions::{CondTree, Ranged, read_condition, read_name, whole};
-use gp_grammar::{ReadError, Tokens, Want, repeated_by, separated_by};
+use gp_tokens::{ReadError, Tokens, Want, repeated_by, separated_by};
 use gp_syntax::{GraphDecl, Items, Name, RuleDecl, VariableGroup, VariableType};
 use gp_tokens::{Keyword, Kind};
 

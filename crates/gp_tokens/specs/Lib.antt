@@ -9,4 +9,14 @@ pub mod Cut
 pub mod Lines
 pub mod FaultText
 pub mod Laws
+pub mod Wants
+pub mod SignWants
+pub mod Shape
+pub mod Grammar
+pub mod Fits
+pub mod GrammarLaws
+pub mod Numerals
+pub mod Reading
+pub mod Cursor
+pub mod Ahead
 pub mod inside

@@ -1,1 +1,2 @@
 pub mod FaultParts
+pub mod More

@@ -1,6 +1,6 @@
 -- Functions of names, which end the list of leaves.
-use Rattle.gp_grammar.specs.declared.want.Want.TheVariants as wants
-use Rattle.gp_grammar.specs.Grammar.{Grammar, One, Made, At, ◌followed_by◌}
+use Rattle.gp_tokens.specs.declared.want.Want.TheVariants as wants
+use Rattle.gp_tokens.specs.Grammar.{Grammar, One, Made, At, ◌followed_by◌}
 use Rattle.gp_syntax.specs.declared.expression.Expr.TheVariants as e
 use Rattle.gp_expressions.specs.declared.ranged.Ranged.{Ranged}
 use Rattle.gp_expressions.specs.Signs.{indegree_word, outdegree_word, length_word}

@@ -1,7 +1,7 @@
 -- What is made of rows of parts.
 use Rattle.std.specs.Prelude.{◌≡◌, List, map, MatchResult, Result}
-use Rattle.gp_grammar.specs.declared.error.ReadError.{ReadError}
-use Rattle.gp_grammar.specs.declared.error.ReadError.TheVariants as error
+use Rattle.gp_tokens.specs.declared.error.ReadError.{ReadError}
+use Rattle.gp_tokens.specs.declared.error.ReadError.TheVariants as error
 use Rattle.gp_syntax.specs.declared.expression.Signed.{Signed}
 use Rattle.gp_expressions.specs.declared.ranged.Ranged.{Ranged}
 use Rattle.gp_expressions.specs.Expressions.{Tree, headed, signed_by}

@@ -6,12 +6,12 @@ use Rattle.gp_tokens.specs.declared.token.Kind.TheVariants as k
 use Rattle.gp_tokens.specs.declared.keyword.Keyword.{Keyword}
 use Rattle.gp_tokens.specs.declared.keyword.Keyword.TheVariants as words
 use Rattle.gp_values.specs.Names.{Name}
-use Rattle.gp_grammar.specs.declared.want.Want.{Want}
-use Rattle.gp_grammar.specs.declared.want.Want.TheVariants as wants
-use Rattle.gp_grammar.specs.Grammar.{Grammar, shape_of}
-use Rattle.gp_grammar.specs.Fits.{AllExcluded}
-use Rattle.gp_grammar.specs.Shape.{Shape, Is, ◌then◌, one, other, Absent, absent}
-use Rattle.gp_grammar.specs.Signs.{open_sign, close_sign, open_brace, close_brace, comma, semicolon, exclamation}
+use Rattle.gp_tokens.specs.declared.want.Want.{Want}
+use Rattle.gp_tokens.specs.declared.want.Want.TheVariants as wants
+use Rattle.gp_tokens.specs.Grammar.{Grammar, shape_of}
+use Rattle.gp_tokens.specs.Fits.{AllExcluded}
+use Rattle.gp_tokens.specs.Shape.{Shape, Is, ◌then◌, one, other, Absent, absent}
+use Rattle.gp_tokens.specs.SignWants.{open_sign, close_sign, open_brace, close_brace, comma, semicolon, exclamation}
 use Rattle.gp_syntax.specs.declared.tree.CommandTree.{CommandTree}
 use Rattle.gp_syntax.specs.declared.tree.CommandTree.TheVariants as commands
 use Rattle.gp_expressions.specs.Signs.{or_word, if_word, then_word, else_word, try_word, skip_word, fail_word, break_word}

@@ -4,12 +4,12 @@ use Rattle.gp_tokens.specs.declared.token.Token.{Token}
 use Rattle.gp_tokens.specs.declared.token.Kind.TheVariants as k
 use Rattle.gp_tokens.specs.declared.keyword.Keyword.TheVariants as words
 use Rattle.gp_values.specs.Names.{Name}
-use Rattle.gp_grammar.specs.declared.want.Want.{Want}
-use Rattle.gp_grammar.specs.declared.want.Want.TheVariants as wants
-use Rattle.gp_grammar.specs.Grammar.{Grammar, shape_of}
-use Rattle.gp_grammar.specs.Fits.{AllExcluded}
-use Rattle.gp_grammar.specs.Shape.{Shape, Is, ◌then◌, Made, second_of}
-use Rattle.gp_grammar.specs.Signs.{comma, hash, equal, less, greater}
+use Rattle.gp_tokens.specs.declared.want.Want.{Want}
+use Rattle.gp_tokens.specs.declared.want.Want.TheVariants as wants
+use Rattle.gp_tokens.specs.Grammar.{Grammar, shape_of}
+use Rattle.gp_tokens.specs.Fits.{AllExcluded}
+use Rattle.gp_tokens.specs.Shape.{Shape, Is, ◌then◌, Made, second_of}
+use Rattle.gp_tokens.specs.SignWants.{comma, hash, equal, less, greater}
 use Rattle.gp_syntax.specs.declared.kinds.VariableType.{VariableType}
 use Rattle.gp_syntax.specs.declared.kinds.VariableType.TheVariants as types
 use Rattle.gp_syntax.specs.declared.kinds.Comparison.{Comparison}

@@ -4,11 +4,11 @@ use Rattle.std.specs.Prelude.{flat_map}
 use Rattle.gp_tokens.specs.declared.token.Token.{Token}
 use Rattle.gp_tokens.specs.declared.token.Kind.TheVariants as k
 use Rattle.gp_tokens.specs.declared.keyword.Keyword.TheVariants as words
-use Rattle.gp_grammar.specs.declared.want.Want.{Want}
-use Rattle.gp_grammar.specs.declared.want.Want.TheVariants as wants
-use Rattle.gp_grammar.specs.Grammar.{Grammar, shape_of}
-use Rattle.gp_grammar.specs.Shape.{Shape, Is, IsString, IsNumberAt, ◌then◌, Made, Either, one, other}
-use Rattle.gp_grammar.specs.Signs.{number_sign, string_sign, open_sign, close_sign, minus}
+use Rattle.gp_tokens.specs.declared.want.Want.{Want}
+use Rattle.gp_tokens.specs.declared.want.Want.TheVariants as wants
+use Rattle.gp_tokens.specs.Grammar.{Grammar, shape_of}
+use Rattle.gp_tokens.specs.Shape.{Shape, Is, IsString, IsNumberAt, ◌then◌, Made, Either, one, other}
+use Rattle.gp_tokens.specs.SignWants.{number_sign, string_sign, open_sign, close_sign, minus}
 use Rattle.gp_syntax.specs.declared.expression.Signed.{Signed}
 use Rattle.gp_syntax.specs.declared.expression.SumSign.{SumSign}
 use Rattle.gp_syntax.specs.declared.expression.SumSign.TheVariants as sums

@@ -1,10 +1,10 @@
 -- Tokens that neither open nor close nor make a run.
 use Rattle.std.proofs.Common.{refl}
 use Rattle.gp_tokens.specs.Kinds.{same_kind}
-use Rattle.gp_grammar.specs.declared.want.Want.TheVariants as wants
-use Rattle.gp_grammar.specs.Wants.{excludes, meets}
-use Rattle.gp_grammar.specs.Fits.{AllExcluded}
-use Rattle.gp_grammar.specs.Signs.{number_sign, string_sign, comma, semicolon, colon, dot, plus, star, slash, hash, bar, arrow, exclamation, equal, less, greater, empty, root_word}
+use Rattle.gp_tokens.specs.declared.want.Want.TheVariants as wants
+use Rattle.gp_tokens.specs.Wants.{excludes, meets}
+use Rattle.gp_tokens.specs.Fits.{AllExcluded}
+use Rattle.gp_tokens.specs.SignWants.{number_sign, string_sign, comma, semicolon, colon, dot, plus, star, slash, hash, bar, arrow, exclamation, equal, less, greater, empty, root_word}
 use Rattle.gp_expressions.specs.Signs.{indegree_word, outdegree_word, length_word, not_equal, less_equal, greater_equal, int_word, char_word, string_word, atom_word, list_word, edge_word, and_word, or_word, where_word, interface_word, bidirectional_word, if_word, then_word, else_word, try_word, skip_word, fail_word, break_word}
 use Rattle.gp_fmt.proofs.Deep.Roles.{loud}
 

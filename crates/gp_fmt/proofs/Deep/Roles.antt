@@ -9,12 +9,12 @@ use Rattle.gp_tokens.specs.declared.token.Kind.TheVariants as k
 use Rattle.gp_tokens.specs.declared.token.Token.{Token}
 use Rattle.gp_tokens.specs.Kinds.{same_kind}
 use Rattle.gp_tokens.specs.Words.{keyword_text, is_word, is_free_word, is_reserved}
-use Rattle.gp_grammar.specs.declared.want.Want.{Want}
-use Rattle.gp_grammar.specs.declared.want.Want.TheVariants as wants
-use Rattle.gp_grammar.specs.Wants.{meets}
-use Rattle.gp_grammar.specs.Fits.{AllExcluded}
-use Rattle.gp_grammar.specs.Signs.{open_sign, close_sign, open_bracket, close_bracket, open_brace, close_brace, minus, any_word}
-use Rattle.gp_grammar.proofs.Wants.{kind_true, excluded}
+use Rattle.gp_tokens.specs.declared.want.Want.{Want}
+use Rattle.gp_tokens.specs.declared.want.Want.TheVariants as wants
+use Rattle.gp_tokens.specs.Wants.{meets}
+use Rattle.gp_tokens.specs.Fits.{AllExcluded}
+use Rattle.gp_tokens.specs.SignWants.{open_sign, close_sign, open_bracket, close_bracket, open_brace, close_brace, minus, any_word}
+use Rattle.gp_tokens.proofs.Wants.{kind_true, excluded}
 use Rattle.gp_expressions.specs.Signs.{not_word}
 use Rattle.gp_program.specs.declared.depth.Role.{Role}
 use Rattle.gp_program.specs.declared.depth.Role.TheVariants as role

@@ -6,12 +6,12 @@ use Rattle.gp_tokens.specs.declared.token.Kind.{Kind}
 use Rattle.gp_tokens.specs.declared.token.Kind.TheVariants as k
 use Rattle.gp_tokens.specs.declared.keyword.Keyword.{Keyword}
 use Rattle.gp_tokens.specs.declared.keyword.Keyword.TheVariants as words
-use Rattle.gp_grammar.specs.declared.want.Want.{Want}
-use Rattle.gp_grammar.specs.declared.want.Want.TheVariants as wants
-use Rattle.gp_grammar.specs.Grammar.{Grammar, shape_of}
-use Rattle.gp_grammar.specs.Fits.{AllExcluded}
-use Rattle.gp_grammar.specs.Shape.{◌then◌, Made, Either, one, other, dropped, second_of}
-use Rattle.gp_grammar.specs.Signs.{number_sign, less, greater, comma, semicolon, colon, dot, bar, equal, arrow, root_word}
+use Rattle.gp_tokens.specs.declared.want.Want.{Want}
+use Rattle.gp_tokens.specs.declared.want.Want.TheVariants as wants
+use Rattle.gp_tokens.specs.Grammar.{Grammar, shape_of}
+use Rattle.gp_tokens.specs.Fits.{AllExcluded}
+use Rattle.gp_tokens.specs.Shape.{◌then◌, Made, Either, one, other, dropped, second_of}
+use Rattle.gp_tokens.specs.SignWants.{number_sign, less, greater, comma, semicolon, colon, dot, bar, equal, arrow, root_word}
 use Rattle.gp_syntax.specs.declared.kinds.VariableType.TheVariants as types
 use Rattle.gp_syntax.specs.declared.tree.VariableGroup.{VariableGroup}
 use Rattle.gp_syntax.specs.declared.tree.NodeDecl.{NodeDecl}

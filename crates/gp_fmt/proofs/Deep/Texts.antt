@@ -5,13 +5,13 @@ use Rattle.std.proofs.lemmas.List.Elements.{All-head, All-rest}
 use Rattle.gp_tokens.specs.declared.token.Kind.{Kind}
 use Rattle.gp_tokens.specs.declared.token.Kind.TheVariants as k
 use Rattle.gp_tokens.specs.declared.token.Token.{Token}
-use Rattle.gp_grammar.specs.declared.want.Want.{Want}
-use Rattle.gp_grammar.specs.declared.want.Want.TheVariants as wants
-use Rattle.gp_grammar.specs.Fits.{AllExcluded}
-use Rattle.gp_grammar.specs.Grammar.{shape_of}
-use Rattle.gp_grammar.proofs.Wants.{kind_same}
-use Rattle.gp_grammar.specs.Shape.{Shape, Is, ◌then◌, Made, Either, one, other, Absent, absent, Many, none, more, Separated, second_of}
-use Rattle.gp_grammar.specs.Signs.{minus, any_word}
+use Rattle.gp_tokens.specs.declared.want.Want.{Want}
+use Rattle.gp_tokens.specs.declared.want.Want.TheVariants as wants
+use Rattle.gp_tokens.specs.Fits.{AllExcluded}
+use Rattle.gp_tokens.specs.Grammar.{shape_of}
+use Rattle.gp_tokens.proofs.Wants.{kind_same}
+use Rattle.gp_tokens.specs.Shape.{Shape, Is, ◌then◌, Made, Either, one, other, Absent, absent, Many, none, more, Separated, second_of}
+use Rattle.gp_tokens.specs.SignWants.{minus, any_word}
 use Rattle.gp_expressions.specs.Signs.{not_word}
 use Rattle.gp_expressions.specs.Expressions.{name}
 use Rattle.gp_program.specs.declared.depth.Role.{Role}

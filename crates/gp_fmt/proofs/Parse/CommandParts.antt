@@ -8,11 +8,11 @@ use Rattle.gp_tokens.specs.declared.token.Kind.TheVariants as k
 use Rattle.gp_tokens.specs.declared.token.Token.{Token}
 use Rattle.gp_tokens.specs.Kinds.{same_kind}
 use Rattle.gp_values.specs.Names.{Name}
-use Rattle.gp_grammar.specs.declared.want.Want.TheVariants as wants
-use Rattle.gp_grammar.specs.Wants.{meets}
-use Rattle.gp_grammar.specs.Grammar.{Grammar, shape_of}
-use Rattle.gp_grammar.specs.Shape.{other, absent, second_of}
-use Rattle.gp_grammar.specs.Signs.{open_brace, close_brace, semicolon}
+use Rattle.gp_tokens.specs.declared.want.Want.TheVariants as wants
+use Rattle.gp_tokens.specs.Wants.{meets}
+use Rattle.gp_tokens.specs.Grammar.{Grammar, shape_of}
+use Rattle.gp_tokens.specs.Shape.{other, absent, second_of}
+use Rattle.gp_tokens.specs.SignWants.{open_brace, close_brace, semicolon}
 use Rattle.gp_syntax.specs.declared.tree.CommandTree.{CommandTree}
 use Rattle.gp_syntax.specs.declared.tree.CommandTree.TheVariants as commands
 use Rattle.gp_syntax.specs.declared.tree.CommandTree.TheOpen.{CommandTree-F}

@@ -2,12 +2,12 @@
 use Rattle.std.proofs.Common.{ℕ, zero, suc, Option, Some, None}
 use Rattle.gp_tokens.specs.declared.token.Token.{Token}
 use Rattle.gp_values.specs.Names.{Name}
-use Rattle.gp_grammar.specs.declared.want.Want.{Want}
-use Rattle.gp_grammar.specs.declared.want.Want.TheVariants as wants
-use Rattle.gp_grammar.specs.Grammar.{Grammar, One, Made, shape_of}
-use Rattle.gp_grammar.specs.Shape.{Is, ◌then◌, second_of}
-use Rattle.gp_grammar.specs.Shape as shape
-use Rattle.gp_grammar.specs.Signs.{open_sign, close_sign, comma, equal, less, greater}
+use Rattle.gp_tokens.specs.declared.want.Want.{Want}
+use Rattle.gp_tokens.specs.declared.want.Want.TheVariants as wants
+use Rattle.gp_tokens.specs.Grammar.{Grammar, One, Made, shape_of}
+use Rattle.gp_tokens.specs.Shape.{Is, ◌then◌, second_of}
+use Rattle.gp_tokens.specs.Shape as shape
+use Rattle.gp_tokens.specs.SignWants.{open_sign, close_sign, comma, equal, less, greater}
 use Rattle.gp_syntax.specs.declared.kinds.VariableType.{VariableType}
 use Rattle.gp_syntax.specs.declared.kinds.VariableType.TheVariants as types
 use Rattle.gp_syntax.specs.declared.kinds.Comparison.{Comparison}

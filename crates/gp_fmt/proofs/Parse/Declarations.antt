@@ -5,11 +5,11 @@ use Rattle.gp_tokens.specs.declared.token.Kind.TheVariants as k
 use Rattle.gp_tokens.specs.declared.token.Token.{Token}
 use Rattle.gp_tokens.specs.Kinds.{same_kind}
 use Rattle.gp_values.specs.Names.{Name}
-use Rattle.gp_grammar.specs.declared.want.Want.TheVariants as wants
-use Rattle.gp_grammar.specs.Wants.{meets}
-use Rattle.gp_grammar.specs.Grammar.{Made, shape_of}
-use Rattle.gp_grammar.specs.Shape.{Many, none, more}
-use Rattle.gp_grammar.specs.Signs.{open_bracket, close_bracket, equal}
+use Rattle.gp_tokens.specs.declared.want.Want.TheVariants as wants
+use Rattle.gp_tokens.specs.Wants.{meets}
+use Rattle.gp_tokens.specs.Grammar.{Made, shape_of}
+use Rattle.gp_tokens.specs.Shape.{Many, none, more}
+use Rattle.gp_tokens.specs.SignWants.{open_bracket, close_bracket, equal}
 use Rattle.gp_syntax.specs.declared.tree.CommandTree.{CommandTree}
 use Rattle.gp_syntax.specs.declared.tree.RuleDecl.{RuleDecl}
 use Rattle.gp_syntax.specs.declared.tree.Decl.{Decl}

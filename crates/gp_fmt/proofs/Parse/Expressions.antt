@@ -6,11 +6,11 @@ use Rattle.gp_tokens.specs.declared.token.Kind.TheVariants as k
 use Rattle.gp_tokens.specs.declared.token.Token.{Token}
 use Rattle.gp_values.specs.Names.{Name}
 use Rattle.gp_values.specs.Texts.{IsText}
-use Rattle.gp_grammar.specs.declared.want.Want.{Want}
-use Rattle.gp_grammar.specs.declared.want.Want.TheVariants as wants
-use Rattle.gp_grammar.specs.Grammar.{Grammar, One, shape_of, ◌followed_by◌}
-use Rattle.gp_grammar.specs.Shape.{Shape, IsNumberAt, IsString, Made, Separated, second_of}
-use Rattle.gp_grammar.specs.Signs.{open_sign, close_sign, minus, plus, star, slash, dot, colon, empty}
+use Rattle.gp_tokens.specs.declared.want.Want.{Want}
+use Rattle.gp_tokens.specs.declared.want.Want.TheVariants as wants
+use Rattle.gp_tokens.specs.Grammar.{Grammar, One, shape_of, ◌followed_by◌}
+use Rattle.gp_tokens.specs.Shape.{Shape, IsNumberAt, IsString, Made, Separated, second_of}
+use Rattle.gp_tokens.specs.SignWants.{open_sign, close_sign, minus, plus, star, slash, dot, colon, empty}
 use Rattle.gp_syntax.specs.declared.expression.Signed.{Signed}
 use Rattle.gp_syntax.specs.declared.expression.SumSign.{SumSign}
 use Rattle.gp_syntax.specs.declared.expression.SumSign.TheVariants as sums

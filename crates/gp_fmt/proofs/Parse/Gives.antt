@@ -2,11 +2,11 @@
 use Rattle.std.proofs.Common.{◌≡◌, true, List, [], ◌∷◌, subst, sym}
 use Rattle.std.specs.List.{AllByRecursion}
 use Rattle.gp_tokens.specs.declared.token.Token.{Token}
-use Rattle.gp_grammar.specs.declared.want.Want.{Want}
-use Rattle.gp_grammar.specs.Wants.{meets}
-use Rattle.gp_grammar.specs.Grammar.{Grammar, shape_of}
-use Rattle.gp_grammar.specs.Grammar as grammar
-use Rattle.gp_grammar.specs.Shape.{Shape, Is, ◌then◌, Made, Either, one, other, Absent, absent, Many, none, more, Separated, second_of, list_of}
+use Rattle.gp_tokens.specs.declared.want.Want.{Want}
+use Rattle.gp_tokens.specs.Wants.{meets}
+use Rattle.gp_tokens.specs.Grammar.{Grammar, shape_of}
+use Rattle.gp_tokens.specs.Grammar as grammar
+use Rattle.gp_tokens.specs.Shape.{Shape, Is, ◌then◌, Made, Either, one, other, Absent, absent, Many, none, more, Separated, second_of, list_of}
 use Rattle.gp_fmt.specs.inside.Spelled.{IsSpelledToken}
 use Rattle.gp_fmt.proofs.Parse.Printed.{Anything}
 

@@ -12,12 +12,12 @@ use Rattle.gp_tokens.specs.Numbers.{number_of, checked_number}
 use Rattle.gp_tokens.proofs.Numerals.{decimal_value}
 use Rattle.gp_values.specs.Names.{Name}
 use Rattle.gp_values.specs.Texts.{IsCharacter, IsText}
-use Rattle.gp_grammar.specs.declared.want.Want.{Want}
-use Rattle.gp_grammar.specs.declared.want.Want.TheVariants as wants
-use Rattle.gp_grammar.specs.Wants.{meets}
-use Rattle.gp_grammar.specs.Grammar.{shape_of}
-use Rattle.gp_grammar.specs.Signs.{open_sign, close_sign}
-use Rattle.gp_grammar.specs.Shape.{Is, IsNumberAt, IsString, ◌then◌, Made}
+use Rattle.gp_tokens.specs.declared.want.Want.{Want}
+use Rattle.gp_tokens.specs.declared.want.Want.TheVariants as wants
+use Rattle.gp_tokens.specs.Wants.{meets}
+use Rattle.gp_tokens.specs.Grammar.{shape_of}
+use Rattle.gp_tokens.specs.SignWants.{open_sign, close_sign}
+use Rattle.gp_tokens.specs.Shape.{Is, IsNumberAt, IsString, ◌then◌, Made}
 use Rattle.gp_syntax.specs.declared.expression.Expr.TheVariants as e
 use Rattle.gp_expressions.specs.Ranges.{whole}
 use Rattle.gp_expressions.specs.Expressions.{Tree, positive, negative, nested, operand, list, argument, inner, of_name}

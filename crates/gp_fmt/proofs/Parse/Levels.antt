@@ -1,8 +1,8 @@
 -- The grammar at each level: what binds tighter is also looser.
 use Rattle.std.proofs.Common.{◌≡◌, ℕ, zero, suc, ◌+◌, ◌-◌, ◌≤◌, List, [], ◌∷◌, refl, subst, arith}
 use Rattle.gp_tokens.specs.declared.token.Token.{Token}
-use Rattle.gp_grammar.specs.Grammar.{Grammar, shape_of}
-use Rattle.gp_grammar.specs.Signs.{slash, star, plus, minus, dot, colon}
+use Rattle.gp_tokens.specs.Grammar.{Grammar, shape_of}
+use Rattle.gp_tokens.specs.SignWants.{slash, star, plus, minus, dot, colon}
 use Rattle.gp_syntax.specs.declared.expression.SumSign.TheVariants as sums
 use Rattle.gp_syntax.specs.declared.expression.ProductSign.TheVariants as products
 use Rattle.gp_expressions.specs.declared.ranged.Ranged.{Ranged}

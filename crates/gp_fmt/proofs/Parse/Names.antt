@@ -7,13 +7,13 @@ use Rattle.gp_tokens.specs.declared.token.Token.{Token}
 use Rattle.gp_tokens.specs.Kinds.{same_kind}
 use Rattle.gp_tokens.specs.Words.{is_free_word, is_reserved}
 use Rattle.gp_values.specs.Names.{Name}
-use Rattle.gp_grammar.specs.declared.want.Want.{Want}
-use Rattle.gp_grammar.specs.declared.want.Want.TheVariants as wants
-use Rattle.gp_grammar.specs.Wants.{meets}
-use Rattle.gp_grammar.specs.Signs.{any_word}
-use Rattle.gp_grammar.specs.Shape.{Is, ◌then◌}
-use Rattle.gp_grammar.specs.Grammar.{shape_of}
-use Rattle.gp_grammar.proofs.Wants.{kind_true}
+use Rattle.gp_tokens.specs.declared.want.Want.{Want}
+use Rattle.gp_tokens.specs.declared.want.Want.TheVariants as wants
+use Rattle.gp_tokens.specs.Wants.{meets}
+use Rattle.gp_tokens.specs.SignWants.{any_word}
+use Rattle.gp_tokens.specs.Shape.{Is, ◌then◌}
+use Rattle.gp_tokens.specs.Grammar.{shape_of}
+use Rattle.gp_tokens.proofs.Wants.{kind_true}
 use Rattle.gp_expressions.specs.Expressions.{name, text_of}
 use Rattle.gp_fmt.specs.declared.piece.Piece.TheVariants as p
 use Rattle.gp_fmt.specs.Pieces.{kind_of}

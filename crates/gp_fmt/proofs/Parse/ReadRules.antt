@@ -4,11 +4,11 @@ use Rattle.std.specs.Option.{option_or}
 use Rattle.std.specs.List.{AllByRecursion}
 use Rattle.gp_tokens.specs.declared.token.Token.{Token}
 use Rattle.gp_values.specs.Names.{Name}
-use Rattle.gp_grammar.specs.declared.want.Want.{Want}
-use Rattle.gp_grammar.specs.declared.want.Want.TheVariants as wants
-use Rattle.gp_grammar.specs.Grammar.{shape_of}
-use Rattle.gp_grammar.specs.Shape.{second_of}
-use Rattle.gp_grammar.specs.Signs.{open_sign, close_sign, open_bracket, close_bracket, open_brace, close_brace, comma, semicolon, colon, bar, equal, arrow, root_word}
+use Rattle.gp_tokens.specs.declared.want.Want.{Want}
+use Rattle.gp_tokens.specs.declared.want.Want.TheVariants as wants
+use Rattle.gp_tokens.specs.Grammar.{shape_of}
+use Rattle.gp_tokens.specs.Shape.{second_of}
+use Rattle.gp_tokens.specs.SignWants.{open_sign, close_sign, open_bracket, close_bracket, open_brace, close_brace, comma, semicolon, colon, bar, equal, arrow, root_word}
 use Rattle.gp_syntax.specs.declared.kinds.VariableType.{VariableType}
 use Rattle.gp_syntax.specs.declared.tree.NodeDecl.{NodeDecl}
 use Rattle.gp_syntax.specs.declared.tree.EdgeDecl.{EdgeDecl}

@@ -7,11 +7,11 @@ use Rattle.gp_tokens.specs.declared.token.Kind.TheVariants as k
 use Rattle.gp_tokens.specs.declared.token.Token.{Token}
 use Rattle.gp_tokens.specs.Kinds.{same_kind}
 use Rattle.gp_values.specs.Names.{Name}
-use Rattle.gp_grammar.specs.declared.want.Want.TheVariants as wants
-use Rattle.gp_grammar.specs.Wants.{meets}
-use Rattle.gp_grammar.specs.Grammar.{shape_of}
-use Rattle.gp_grammar.specs.Shape.{Is, ◌then◌}
-use Rattle.gp_grammar.specs.Signs.{open_sign, close_sign, open_brace, close_brace, equal, arrow}
+use Rattle.gp_tokens.specs.declared.want.Want.TheVariants as wants
+use Rattle.gp_tokens.specs.Wants.{meets}
+use Rattle.gp_tokens.specs.Grammar.{shape_of}
+use Rattle.gp_tokens.specs.Shape.{Is, ◌then◌}
+use Rattle.gp_tokens.specs.SignWants.{open_sign, close_sign, open_brace, close_brace, equal, arrow}
 use Rattle.gp_syntax.specs.declared.tree.VariableGroup.{VariableGroup}
 use Rattle.gp_syntax.specs.declared.tree.GraphDecl.{GraphDecl}
 use Rattle.gp_syntax.specs.declared.tree.RuleDecl.{RuleDecl}

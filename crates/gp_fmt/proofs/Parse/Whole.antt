@@ -4,9 +4,9 @@ use Rattle.std.specs.List.{AllByRecursion}
 use Rattle.std.proofs.lemmas.List.Elements.{recursion_from_All, All-from_recursion}
 use Rattle.gp_tokens.specs.declared.token.Token.{Token}
 use Rattle.gp_values.specs.Names.{Name}
-use Rattle.gp_grammar.specs.declared.want.Want.TheVariants as wants
-use Rattle.gp_grammar.specs.Grammar.{Grammar, shape_of}
-use Rattle.gp_grammar.specs.Signs.{open_bracket, close_bracket, equal}
+use Rattle.gp_tokens.specs.declared.want.Want.TheVariants as wants
+use Rattle.gp_tokens.specs.Grammar.{Grammar, shape_of}
+use Rattle.gp_tokens.specs.SignWants.{open_bracket, close_bracket, equal}
 use Rattle.gp_syntax.specs.declared.tree.Ast.{Ast}
 use Rattle.gp_syntax.specs.declared.tree.CommandTree.{CommandTree}
 use Rattle.gp_syntax.specs.declared.tree.Decl.{Decl}

@@ -1,11 +1,11 @@
 -- Nodes and edges, read in parts.
 use Rattle.std.specs.Prelude.{Bool, List, Option}
 use Rattle.gp_tokens.specs.declared.token.Token.{Token}
-use Rattle.gp_grammar.specs.declared.want.Want.{Want}
-use Rattle.gp_grammar.specs.declared.want.Want.TheVariants as wants
-use Rattle.gp_grammar.specs.Grammar.{Grammar, One, Made, ◌followed_by◌}
-use Rattle.gp_grammar.specs.Shape.{second_of}
-use Rattle.gp_grammar.specs.Signs.{open_sign, close_sign, comma}
+use Rattle.gp_tokens.specs.declared.want.Want.{Want}
+use Rattle.gp_tokens.specs.declared.want.Want.TheVariants as wants
+use Rattle.gp_tokens.specs.Grammar.{Grammar, One, Made, ◌followed_by◌}
+use Rattle.gp_tokens.specs.Shape.{second_of}
+use Rattle.gp_tokens.specs.SignWants.{open_sign, close_sign, comma}
 use Rattle.gp_values.specs.Names.{Name}
 use Rattle.gp_hostfile.specs.declared.tree.AtomTree.{AtomTree}
 use Rattle.gp_hostfile.specs.declared.tree.NodeTree.{NodeTree}

@@ -3,8 +3,8 @@ use Rattle.std.specs.Prelude.{◌≡◌, ℕ, ◌<◌, List, [], ◌∷◌, leng
 use Rattle.gp_tokens.specs.declared.token.Token.{Token}
 use Rattle.gp_tokens.specs.declared.fault.LexFault.{LexFault}
 use Rattle.gp_tokens.specs.declared.fault.LexFault.TheVariants as lex_faults
-use Rattle.gp_grammar.specs.Ahead.{◌>>=◌}
-use Rattle.gp_grammar.specs.Reading.{reader_of}
+use Rattle.gp_tokens.specs.Ahead.{◌>>=◌}
+use Rattle.gp_tokens.specs.Reading.{reader_of}
 use Rattle.gp_tokens.specs.Lexed.{tokens_of}
 use Rattle.gp_values.specs.Names.{Name, place_of}
 use Rattle.gp_values.specs.Graph.{Graph, node_at, empty_graph, with_node, with_edge}

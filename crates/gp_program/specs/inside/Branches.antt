@@ -1,7 +1,7 @@
 -- The branches of a command, read behind its first word.
 use Rattle.std.specs.Prelude.{Bool, true, false, not}
-use Rattle.gp_grammar.specs.declared.want.Want.{Want}
-use Rattle.gp_grammar.specs.Grammar.{Grammar, Made, ◌followed_by◌}
+use Rattle.gp_tokens.specs.declared.want.Want.{Want}
+use Rattle.gp_tokens.specs.Grammar.{Grammar, Made, ◌followed_by◌}
 use Rattle.gp_syntax.specs.declared.tree.CommandTree.{CommandTree}
 use Rattle.gp_expressions.specs.Signs.{then_word, else_word}
 use Rattle.gp_expressions.specs.Expressions.{behind}

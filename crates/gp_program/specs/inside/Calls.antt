@@ -1,7 +1,7 @@
 -- Calls of rules and procedures.
-use Rattle.gp_grammar.specs.declared.want.Want.TheVariants as wants
-use Rattle.gp_grammar.specs.Grammar.{Grammar, One, Made, At, ◌followed_by◌}
-use Rattle.gp_grammar.specs.Signs.{open_brace, close_brace}
+use Rattle.gp_tokens.specs.declared.want.Want.TheVariants as wants
+use Rattle.gp_tokens.specs.Grammar.{Grammar, One, Made, At, ◌followed_by◌}
+use Rattle.gp_tokens.specs.SignWants.{open_brace, close_brace}
 use Rattle.gp_syntax.specs.declared.tree.CommandTree.{CommandTree}
 use Rattle.gp_expressions.specs.Expressions.{name, inner}
 use Rattle.gp_program.specs.Commands.{rule_names, call_of, call_of_one, procedure_call}

@@ -1,9 +1,9 @@
 -- Edges, read from behind their names on.
 use Rattle.std.specs.Prelude.{Bool, Option}
 use Rattle.gp_tokens.specs.declared.token.Token.{Token}
-use Rattle.gp_grammar.specs.declared.want.Want.TheVariants as wants
-use Rattle.gp_grammar.specs.Grammar.{Grammar, One, Made, ◌followed_by◌}
-use Rattle.gp_grammar.specs.Signs.{close_sign, comma}
+use Rattle.gp_tokens.specs.declared.want.Want.TheVariants as wants
+use Rattle.gp_tokens.specs.Grammar.{Grammar, One, Made, ◌followed_by◌}
+use Rattle.gp_tokens.specs.SignWants.{close_sign, comma}
 use Rattle.gp_values.specs.Names.{Name}
 use Rattle.gp_syntax.specs.declared.tree.EdgeDecl.{EdgeDecl}
 use Rattle.gp_expressions.specs.declared.ranged.Ranged.{Ranged}

@@ -2,8 +2,8 @@
 use Rattle.std.specs.Prelude.{List, Option}
 use Rattle.std.specs.Option.{option_or}
 use Rattle.gp_tokens.specs.declared.token.Token.{Token}
-use Rattle.gp_grammar.specs.Grammar.{Grammar, One, Made, ◌followed_by◌}
-use Rattle.gp_grammar.specs.Signs.{open_brace, close_brace, equal, arrow}
+use Rattle.gp_tokens.specs.Grammar.{Grammar, One, Made, ◌followed_by◌}
+use Rattle.gp_tokens.specs.SignWants.{open_brace, close_brace, equal, arrow}
 use Rattle.gp_values.specs.Names.{Name}
 use Rattle.gp_syntax.specs.declared.tree.VariableGroup.{VariableGroup}
 use Rattle.gp_syntax.specs.declared.tree.GraphDecl.{GraphDecl}

@@ -1,7 +1,7 @@
 //! Cursors over tokens, what they may want next, and integers of numerals.
 
 use crate::samples::tokens_of;
-use gp_grammar::{Numeral, ReadError, Tokens, Want, repeated_by, separated_by, stands_before};
+use gp_tokens::{Numeral, ReadError, Tokens, Want, repeated_by, separated_by, stands_before};
 use gp_rows::{Answer, Wrong, field};
 use gp_tokens::{Keyword, Kind};
 use std::alloc::Global;

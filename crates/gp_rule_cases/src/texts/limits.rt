@@ -2,7 +2,7 @@
 
 use crate::samples::tokens_of;
 use gp_expressions::read_list;
-use gp_grammar::Tokens;
+use gp_tokens::Tokens;
 use gp_program::first_too_deep;
 use gp_rows::{Answer, field};
 use std::alloc::Global;

@@ -1,5 +1,5 @@
 use Rattle.std.proofs.Common.{rules}
-use Rattle.gp_grammar.specs.Reading.{reader_of}
+use Rattle.gp_tokens.specs.Reading.{reader_of}
 use Rattle.gp_syntax.specs.declared.expression.Cond.TheVariants as c
 use Rattle.gp_expressions.proofs.Negations.{negation_more}
 use Rattle.gp_expressions.proofs.RowLaws.{conjunction_is}

@@ -1,8 +1,8 @@
 use Rattle.std.proofs.Common.{rules, ◌≡◌, true, Some}
 use Rattle.std.proofs.lemmas.Result.{err_from_is_err_and}
-use Rattle.gp_grammar.specs.Reading.{reader_of, token, begins, made, ◌and◌}
-use Rattle.gp_grammar.specs.Shape.{second_of}
-use Rattle.gp_grammar.specs.Signs.{comma}
+use Rattle.gp_tokens.specs.Reading.{reader_of, token, begins, made, ◌and◌}
+use Rattle.gp_tokens.specs.Shape.{second_of}
+use Rattle.gp_tokens.specs.SignWants.{comma}
 use Rattle.gp_expressions.specs.Expressions.{list}
 use Rattle.gp_expressions.specs.Conditions.{label, edge_label}
 use Rattle.gp_expressions.proofs.Readings.{part_fails, sign_fails}

@@ -1,8 +1,8 @@
 use Rattle.std.proofs.Common.{rules, ◌≡◌, true}
 use Rattle.std.proofs.lemmas.Result.{err_from_is_err_and}
-use Rattle.gp_grammar.specs.declared.want.Want.TheVariants as wants
-use Rattle.gp_grammar.specs.Reading.{reader_of, token, begins, ◌and◌}
-use Rattle.gp_grammar.specs.Signs.{open_sign, close_sign, comma, root_word}
+use Rattle.gp_tokens.specs.declared.want.Want.TheVariants as wants
+use Rattle.gp_tokens.specs.Reading.{reader_of, token, begins, ◌and◌}
+use Rattle.gp_tokens.specs.SignWants.{open_sign, close_sign, comma, root_word}
 use Rattle.gp_expressions.specs.Expressions.{list, name}
 use Rattle.gp_expressions.specs.Conditions.{label}
 use Rattle.gp_expressions.proofs.Readings.{part_fails, first_fails, later_fails, sign_fails}

@@ -1,10 +1,10 @@
 use Rattle.std.proofs.Common.{List, Option, sym, subst}
 use Rattle.gp_tokens.specs.declared.token.Token.{Token}
-use Rattle.gp_grammar.specs.Cursor.{Reads}
-use Rattle.gp_grammar.specs.Reading.{reader_of, token}
-use Rattle.gp_grammar.specs.declared.want.Want.TheVariants as wants
-use Rattle.gp_grammar.specs.Grammar.{One, ◌followed_by◌}
-use Rattle.gp_grammar.specs.Signs.{open_sign, close_sign, arrow}
+use Rattle.gp_tokens.specs.Cursor.{Reads}
+use Rattle.gp_tokens.specs.Reading.{reader_of, token}
+use Rattle.gp_tokens.specs.declared.want.Want.TheVariants as wants
+use Rattle.gp_tokens.specs.Grammar.{One, ◌followed_by◌}
+use Rattle.gp_tokens.specs.SignWants.{open_sign, close_sign, arrow}
 use Rattle.gp_syntax.specs.declared.tree.RuleDecl.{RuleDecl}
 use Rattle.gp_expressions.specs.declared.ranged.Ranged.{Ranged}
 use Rattle.gp_expressions.specs.Expressions.{list, name}

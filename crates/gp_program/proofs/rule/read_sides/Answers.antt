@@ -1,8 +1,8 @@
 use Rattle.std.proofs.Common.{List, Option, sym, subst, ◌∙◌}
 use Rattle.gp_tokens.specs.declared.token.Token.{Token}
-use Rattle.gp_grammar.specs.Cursor.{Reads}
-use Rattle.gp_grammar.specs.Reading.{reader_of, token}
-use Rattle.gp_grammar.specs.Signs.{arrow}
+use Rattle.gp_tokens.specs.Cursor.{Reads}
+use Rattle.gp_tokens.specs.Reading.{reader_of, token}
+use Rattle.gp_tokens.specs.SignWants.{arrow}
 use Rattle.gp_syntax.specs.declared.tree.RuleDecl.{RuleDecl}
 use Rattle.gp_expressions.specs.declared.ranged.Ranged.{Ranged}
 use Rattle.gp_expressions.specs.Expressions.{list}

@@ -1,9 +1,0 @@
-use Rattle.std.proofs.Common.{◌-◌}
-use Rattle.gp_grammar.specs.Reading.{separated}
-use Rattle.gp_grammar.proofs.Loops.{next_of}
-use Rattle.gp_grammar.specs.Cursor.{IsReading}
-use Rattle.gp_grammar.proofs.Loops.{GoesOn}
-use Rattle.gp_grammar.proofs.many.separated_by.Given as goal
-
-abbrev pub invariant-each : goal.invariant-each
-invariant-each g l = (one : _) → IsReading (goal.F-post g l.read) l.inside one → GoesOn l.sign (next_of l.sign one) (separated l.sign one l.fn.tokens) l.found.items (l.end - l.counter) l.tokens
