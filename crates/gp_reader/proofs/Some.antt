@@ -19,7 +19,7 @@ use Rattle.gp_program.specs.Program.{ParsesProgram}
 use Rattle.gp_program.specs.Laws.{TokensHaveAnAnswer}
 use Rattle.gp_scope.specs.Outline.{outline}
 use Rattle.gp_scope.specs.Resolved.{program_with}
-use Rattle.gp_resolve.specs.Resolution.{IsFaultless}
+use Rattle.gp_reader.specs.Resolution.{IsFaultless}
 use Rattle.gp_check.specs.declared.fault.RuleFault.TheVariants as rule_faults
 use Rattle.gp_check.specs.Answer.{Refuses}
 use Rattle.gp_reader.specs.declared.fault.ProgramFault.{ProgramFault}

@@ -20,8 +20,8 @@ use Rattle.gp_scope.specs.Outline.{Outline, outline}
 use Rattle.gp_scope.specs.Resolved.{program_with}
 use Rattle.gp_scope.specs.Fault.{IsFault, told}
 use Rattle.gp_scope.specs.Fault as scoping
-use Rattle.gp_resolve.specs.declared.scoped.ScopedParts.{ScopedParts}
-use Rattle.gp_resolve.specs.Resolution.{IsResolved}
+use Rattle.gp_reader.specs.declared.scoped.ScopedParts.{ScopedParts}
+use Rattle.gp_reader.specs.Resolution.{IsResolved}
 use Rattle.gp_reader.specs.declared.fault.ProgramFault.{ProgramFault}
 use Rattle.gp_reader.specs.declared.fault.ProgramFault.TheVariants as faults
 use Rattle.gp_reader.specs.Program.{HasTree, IsScopedText, IsProgramText, IsTreeRefusal, IsRefusal, ReadsProgram, ReadsRules, declared_rules}

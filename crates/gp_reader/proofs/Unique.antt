@@ -20,7 +20,7 @@ use Rattle.gp_scope.specs.Outline.{outline}
 use Rattle.gp_scope.specs.Resolved.{program_with}
 use Rattle.gp_scope.specs.Fault.{IsFault, told}
 use Rattle.gp_scope.specs.Fault as scoping
-use Rattle.gp_resolve.specs.Laws.{OneFault}
+use Rattle.gp_reader.specs.ResolutionLaws.{OneFault}
 use Rattle.gp_check.specs.declared.fault.RuleFault.{RuleFault}
 use Rattle.gp_check.specs.declared.fault.RuleFault.TheVariants as rule_faults
 use Rattle.gp_check.specs.Answer.{Refuses}

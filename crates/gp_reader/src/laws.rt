@@ -1,9 +1,10 @@
-//! What holds of program texts. Each function calls laws alone: its contract is the law.
+//! What holds of program texts, of their faults, whoever tells them, and of names, whoever puts numbers in their place.
+//! Each function calls laws alone, if anything: its contract is the law.
 
 ghost use Rattle.gp_reader.specs.Laws.{TextsHaveATreeOrAFault, TextsHaveAnAnswer, TextsHaveNoFault, TextsHaveOneFault, TextsHaveOneProgram, TextsHaveOneTree, TreesHaveNoFault};
+ghost use Rattle.gp_reader.specs.ResolutionLaws.{OneFault, FaultlessTextsArePrograms, ProgramsHaveNoFault, NumbersArePlaces, RulesAreInOrder, ProgramsCallWhatIsVisible};
 
 use gp_program::laws::{tokens_have_an_answer, tokens_have_one_tree};
-use gp_resolve::laws::fault_is_unique;
 use gp_tokens::laws::tokens_are_the_cut;
 
 /// A text has a tree, or a fault of tokens, nesting, syntax or numerals.
@@ -45,3 +46,18 @@ pub fn texts_have_one_fault()
     tokens_have_one_tree();
     fault_is_unique();
 }
+
+/// A program text has no more than one fault, and none just where it stands for a program.
+pub fn fault_is_unique()
+    ensures one { OneFault }
+    ensures faultless { FaultlessTextsArePrograms }
+    ensures none { ProgramsHaveNoFault }
+{}
+
+/// The number that a name becomes is that of the declaration that is visible there, by the place where it stands; and a
+/// program calls what is visible where its text calls it.
+pub fn names_become_places()
+    ensures numbers { NumbersArePlaces }
+    ensures rules { RulesAreInOrder }
+    ensures program { ProgramsCallWhatIsVisible }
+{}

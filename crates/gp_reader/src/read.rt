@@ -5,9 +5,10 @@ ghost use Rattle.gp_reader.specs.Program.{ReadsProgram, ReadsRules, ReadsTree};
 ghost use Rattle.gp_reader.specs.inside.Stages.{IsParsed, ReadsScoped, with_line};
 
 use crate::fault::ProgramFault;
+use crate::resolving::resolve;
 use crate::rules::checked_rules;
+use crate::scoped::Scoped;
 use gp_program::{ParseFault, parse_program};
-use gp_resolve::{Scoped, resolve};
 use gp_syntax::{Ast, Items, Program, Rule};
 use gp_tokens::{Token, lex, line_of_token};
 use std::alloc::Global;

@@ -4,7 +4,7 @@
 //! outer one of the same name. `check_names` tells the first fault of names: no Main or two, a name twice among the same
 //! declarations, or a name that is called and is not visible there. `bodies_of` then puts numbers in place of names: rules
 //! and procedures are numbered in the order in which their declarations begin, each call of a rule set has a number of its
-//! own, and Main has none. Whether procedures reach themselves, and where `break` strays, gp_resolve decides of the bodies.
+//! own, and Main has none. Whether procedures reach themselves, and where `break` strays, gp_reader decides of the bodies.
 #![tactic(auto)]
 
 mod bodies;

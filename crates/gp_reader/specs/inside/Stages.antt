@@ -17,8 +17,8 @@ use Rattle.gp_program.specs.declared.parse.ParseFault.TheVariants as parse_fault
 use Rattle.gp_scope.specs.declared.fault.ScopeFault.{ScopeFault}
 use Rattle.gp_scope.specs.declared.fault.ScopeFault.TheVariants as scope_faults
 use Rattle.gp_scope.specs.Outline.{outline}
-use Rattle.gp_resolve.specs.declared.scoped.ScopedParts.{ScopedParts}
-use Rattle.gp_resolve.specs.Resolution.{IsResolved}
+use Rattle.gp_reader.specs.declared.scoped.ScopedParts.{ScopedParts}
+use Rattle.gp_reader.specs.Resolution.{IsResolved}
 use Rattle.gp_check.specs.declared.fault.RuleFault.{RuleFault}
 use Rattle.gp_check.specs.declared.fault.RuleFault.TheVariants as rule_faults
 use Rattle.gp_check.specs.Answer.{Refuses}

@@ -1,5 +1,0 @@
-use Rattle.gp_resolve.proofs.Called.{MarksUpTo}
-use Rattle.gp_resolve.proofs.calls.one_call_more.Given as goal
-
-abbrev pub invariant-loop-called : goal.invariant-loop-called
-invariant-loop-called l = MarksUpTo l.callees l.marks l.called-index l.longer.items

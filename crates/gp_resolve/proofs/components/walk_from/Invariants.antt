@@ -1,5 +1,0 @@
-use Rattle.std.proofs.Common.{◌≡◌, length}
-use Rattle.gp_resolve.proofs.components.walk_from.Given as goal
-
-abbrev pub invariant-loop : goal.invariant-loop
-invariant-loop l = length l.walk.ranks.items ≡ length l.fn.walk.ranks.items

@@ -1,6 +1,0 @@
-use Rattle.std.proofs.Common.{ℕ, ◌<◌, ◌≤◌, get_or}
-use Rattle.gp_resolve.specs.inside.Visits.{rank_of}
-use Rattle.gp_resolve.proofs.recursion.leads_down.Given as goal
-
-abbrev pub invariant-loop-j : goal.invariant-loop-j
-invariant-loop-j l = (i : ℕ) → i < l.j-index → rank_of l.ranks (get_or l.j-items i 0) < rank_of l.ranks l.k

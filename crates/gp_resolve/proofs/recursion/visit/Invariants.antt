@@ -1,6 +1,0 @@
-use Rattle.std.proofs.Common.{take}
-use Rattle.gp_resolve.specs.inside.Visits.{Visited}
-use Rattle.gp_resolve.proofs.recursion.visit.Given as goal
-
-abbrev pub invariant-loop-next : goal.invariant-loop-next
-invariant-loop-next l = Visited (take l.next-index l.found) l.fn.seen.items l.seen.items l.fn.left.items l.left.items

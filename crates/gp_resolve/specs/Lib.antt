@@ -1,4 +1,0 @@
-pub mod Resolution
-pub mod Places
-pub mod Laws
-pub mod inside

@@ -1,5 +1,0 @@
-pub mod Procedures
-pub mod Visits
-pub mod Judged
-pub mod Named
-pub mod Taken
