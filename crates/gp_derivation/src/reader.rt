@@ -4,8 +4,8 @@ ghost use Rattle.std.specs.Prelude.{◌≡◌, ◌==◌, ◌<◌, ◌∷◌, len
 ghost use Rattle.gp_derivation.specs.Script.{word_of, lines_of, IsScript, HasFault};
 ghost use Rattle.gp_derivation.specs.inside.Words.{IsNoWord};
 
-use crate::script_fault::ScriptFault;
 use crate::line::Line;
+use crate::script_fault::ScriptFault;
 use std::alloc::Global;
 
 /// The lines of the text of a script. Any other text is answered with the first line that is none of the three words.

@@ -4,8 +4,8 @@ ghost use Rattle.std.specs.Prelude.{◌≡◌, MatchResult};
 ghost use Rattle.gp_expressions.specs.inside.Chains as spec;
 
 use crate::ranged::{Ranged, gather};
-use gp_tokens::ReadError;
 use gp_syntax::{Boxed, Items};
+use gp_tokens::ReadError;
 use std::alloc::Global;
 
 /// What a chain is made of: its first tree, and the further ones.

@@ -12,9 +12,8 @@ use crate::chain::{Links, linked};
 use crate::expression::{read_list, read_name};
 use crate::ranged::{Ranged, whole};
 use crate::rows::{Row, read_rows};
-use gp_tokens::{ReadError, Tokens, Want};
 use gp_syntax::{Boxed, Comparison, Cond, Expr, Name, VariableType};
-use gp_tokens::{Keyword, Kind, Token};
+use gp_tokens::{Keyword, Kind, ReadError, Token, Tokens, Want};
 use std::alloc::Global;
 
 /// A condition of a declaration.

@@ -16,9 +16,8 @@ ghost use Rattle.gp_expressions.specs.inside.Rows.{signed_row};
 use crate::chain::{Links, linked};
 use crate::ranged::{Ranged, join, whole};
 use crate::rows::{Row, read_rows};
-use gp_tokens::{Numeral, ReadError, Tokens, Want};
 use gp_syntax::{Boxed, Expr, Items, Name, ProductSign, Signed, SumSign};
-use gp_tokens::{Keyword, Kind};
+use gp_tokens::{Keyword, Kind, Numeral, ReadError, Tokens, Want};
 use std::alloc::Global;
 
 const OPEN: Want = Want::Kind(Kind::OpenParenthesis);

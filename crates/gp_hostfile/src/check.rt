@@ -12,8 +12,7 @@ ghost use Rattle.gp_hostfile.specs.declared.tree.EdgeTree.{EdgeTree};
 
 use crate::fault::HostFault;
 use crate::tree::{AtomTree, EdgeTree, HostTree, NodeTree};
-use gp_tokens::Numeral;
-use gp_tokens::Slice;
+use gp_tokens::{Numeral, Slice};
 use gp_values::{EdgeMark, NameTable, NodeMark};
 use std::alloc::Global;
 

@@ -8,8 +8,9 @@ ghost use Rattle.gp_hostfile.specs.inside.Edges.{item, placed_label, last_label}
 ghost use Rattle.gp_hostfile.specs.inside.Passing.{Passes};
 
 use crate::tree::{AtomTree, AtomTrees, EdgeTree, HostTree, NodeTree};
-use gp_tokens::{ReadError, Tokens, Want, repeated_by, separated_by, stands_before};
-use gp_tokens::{Keyword, Kind, Slice, Token};
+use gp_tokens::{
+    Keyword, Kind, ReadError, Slice, Token, Tokens, Want, repeated_by, separated_by, stands_before,
+};
 
 const OPEN: Want = Want::Kind(Kind::OpenParenthesis);
 

@@ -8,9 +8,8 @@ use crate::check::check;
 use crate::fault::HostFault;
 use crate::grammar::read_host_tree;
 use crate::tree::HostTree;
-use gp_tokens::{ReadError, Tokens};
 use gp_graph::Graph;
-use gp_tokens::{Token, lex, line_of_token};
+use gp_tokens::{ReadError, Token, Tokens, lex, line_of_token};
 use std::alloc::Global;
 
 /// The graph of a host text: nodes and edges get their numbers in the order of the text. Any other text is answered

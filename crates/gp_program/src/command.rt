@@ -10,9 +10,8 @@ ghost use Rattle.gp_program.specs.inside.Groups.{group_of, branches_of};
 
 use crate::rule::read_names;
 use gp_expressions::read_name;
-use gp_tokens::{ReadError, Tokens, Want, separated_by};
 use gp_syntax::{Boxed, CommandTree, Items, Name};
-use gp_tokens::{Keyword, Kind};
+use gp_tokens::{Keyword, Kind, ReadError, Tokens, Want, separated_by};
 use std::alloc::Global;
 
 const OPEN: Want = Want::Kind(Kind::OpenParenthesis);

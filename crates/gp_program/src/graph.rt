@@ -9,9 +9,8 @@ ghost use Rattle.gp_program.specs.inside.EdgeParts.{edge_ends};
 ghost use Rattle.gp_program.specs.inside.Passing.{Passes};
 
 use gp_expressions::{Ranged, gather, read_label, read_name};
-use gp_tokens::{ReadError, Tokens, Want, repeated_by, stands_before};
 use gp_syntax::{EdgeDecl, GraphDecl, Items, Name, NodeDecl};
-use gp_tokens::{Keyword, Kind, Token};
+use gp_tokens::{Keyword, Kind, ReadError, Token, Tokens, Want, repeated_by, stands_before};
 
 const OPEN: Want = Want::Kind(Kind::OpenParenthesis);
 

@@ -10,9 +10,8 @@ ghost use Rattle.gp_program.specs.Programs as spec;
 use crate::command::read_commands;
 use crate::rule::read_rule;
 use gp_expressions::{Ranged, gather, join, read_name, whole};
-use gp_tokens::{ReadError, Tokens, Want, repeated_by};
 use gp_syntax::{Ast, Decl, Items};
-use gp_tokens::Kind;
+use gp_tokens::{Kind, ReadError, Tokens, Want, repeated_by};
 use std::alloc::Global;
 
 fn read_rule_declaration(tokens: &mut Tokens<'_, '_>, room: u64) -> Result<Ranged<Decl>, ReadError>

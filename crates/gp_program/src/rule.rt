@@ -12,9 +12,8 @@ ghost use Rattle.gp_program.specs.inside.RuleParts.{whole_rule, interface_part, 
 
 use crate::graph::read_graph;
 use gp_expressions::{CondTree, Ranged, read_condition, read_name, whole};
-use gp_tokens::{ReadError, Tokens, Want, repeated_by, separated_by};
 use gp_syntax::{GraphDecl, Items, Name, RuleDecl, VariableGroup, VariableType};
-use gp_tokens::{Keyword, Kind};
+use gp_tokens::{Keyword, Kind, ReadError, Tokens, Want, repeated_by, separated_by};
 
 const COMMA: Want = Want::Kind(Kind::Comma);
 

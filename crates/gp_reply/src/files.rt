@@ -7,9 +7,9 @@ ghost use Rattle.gp_reply.specs.Said.{said_of};
 
 use crate::parsed::{host_of, program_of, script_of, trace_of, tree_of};
 use crate::said::{Said, Stop};
+use gp_derivation::Line;
 use gp_graph::Graph;
 use gp_io::{Files, ReadRefusal};
-use gp_derivation::Line;
 use gp_syntax::{Ast, Item, Program};
 use gp_trace::Version;
 use std::alloc::Global;

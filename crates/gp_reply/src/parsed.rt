@@ -5,10 +5,10 @@ ghost use Rattle.gp_reply.specs.Loads.{TellsOrFaults, TreesOrFaults, HostsOrFaul
 
 use crate::refused::{host_refused, program_refused, script_refused, trace_refused};
 use crate::said::Stop;
+use gp_derivation::{Line, read_script};
 use gp_graph::Graph;
 use gp_hostfile::read_host;
 use gp_reader::{read_program, read_tree};
-use gp_derivation::{Line, read_script};
 use gp_syntax::{Ast, Item, Program};
 use gp_trace::{Version, read_trace};
 use std::alloc::Global;

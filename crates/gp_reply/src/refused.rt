@@ -4,9 +4,9 @@ ghost use Rattle.std.specs.Prelude.{◌≡◌};
 ghost use Rattle.gp_reply.specs.Said.{program_refused, host_refused, trace_refused, script_refused};
 
 use crate::said::{Said, Stop};
+use gp_derivation::ScriptFault;
 use gp_hostfile::HostFault;
 use gp_reader::ProgramFault;
-use gp_derivation::ScriptFault;
 use gp_trace::TraceFault;
 
 /// What is answered where a program is refused so.

@@ -7,12 +7,12 @@ ghost use Rattle.gp_reply.specs.declared.said.Stop.TheVariants.{NoMemory as no_m
 ghost use Rattle.gp_reply.specs.Texts.{of_demo_run};
 ghost use Rattle.gp_reply.specs.Said.{said_of, IsAnswer, or_stopped, HasJournal, WalksSaid};
 
+use gp_derivation::{Line, walk};
 use gp_gen::Kind;
 use gp_hostfile::HostFault;
 use gp_journal::Journal;
 use gp_memory::NoMemory;
 use gp_reader::ProgramFault;
-use gp_derivation::{Line, walk};
 use gp_syntax::{Name, NumberKind, Rule};
 use gp_words::DemoCommand;
 use std::alloc::Global;

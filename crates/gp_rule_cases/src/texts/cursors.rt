@@ -1,9 +1,10 @@
 //! Cursors over tokens, what they may want next, and integers of numerals.
 
 use crate::samples::tokens_of;
-use gp_tokens::{Numeral, ReadError, Tokens, Want, repeated_by, separated_by, stands_before};
 use gp_rows::{Answer, Wrong, field};
-use gp_tokens::{Keyword, Kind};
+use gp_tokens::{
+    Keyword, Kind, Numeral, ReadError, Tokens, Want, repeated_by, separated_by, stands_before,
+};
 use std::alloc::Global;
 
 /// What a cursor over the tokens of a text gives from the front on, step by step.

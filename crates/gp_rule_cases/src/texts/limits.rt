@@ -2,9 +2,9 @@
 
 use crate::samples::tokens_of;
 use gp_expressions::read_list;
-use gp_tokens::Tokens;
 use gp_program::first_too_deep;
 use gp_rows::{Answer, field};
+use gp_tokens::Tokens;
 use std::alloc::Global;
 
 /// The first token of a text that is nested too deep.

@@ -6,12 +6,12 @@ ghost use Rattle.gp_derivation.specs.Stepper.{IsStepperOf};
 
 use crate::runs::random::{below, note_more};
 use crate::runs::replay::{are_alike, go, rules_of};
+use gp_derivation::{Moved, Stepper};
 use gp_graph::Graph;
 use gp_hostfile::read_host;
 use gp_journal::{Journal, Trail};
 use gp_memory::NoMemory;
 use gp_rows::{Answer, Wrong, field, number};
-use gp_derivation::{Moved, Stepper};
 use gp_syntax::{Item, Rule};
 use rand_core::SeedableRng;
 use rand_pcg::Lcg64Xsh32;
