@@ -1,6 +1,6 @@
 //! Integers, and lists of one atom.
 
-ghost use Rattle.std.specs.Prelude.{◌≡◌, true, ℤ, [], ◌∷◌, ◌++◌, IfOk};
+ghost use Rattle.std.specs.Prelude.{◌≡◌, ℤ, [], ◌∷◌, ◌++◌, IfOk, IfSome};
 ghost use Rattle.std.specs.Prelude.{FitsSigned, IfErr};
 ghost use Rattle.gp_values.specs.declared.atom.Atom.TheVariants.{Str};
 ghost use Rattle.gp_eval.specs.declared.valued.Missing.TheVariants as missing;
@@ -42,11 +42,14 @@ pub fn integer(list: &List) -> i128
     }
 }
 
-/// Whether a list is one of an integer alone.
-pub fn is_integer(list: &List) -> bool
-    ensures { result ≡ true → list.now ≡ number (integer list.now) }
+/// The integer of a list that has nothing else.
+pub fn only_integer(list: &List) -> Option<i128>
+    ensures { IfSome result (λ z. list.now ≡ number z) }
 {
-    matches!(list.atoms(), [Atom::Int(_)])
+    match list.atoms() {
+        [Atom::Int(z)] => Some(*z),
+        _ => None,
+    }
 }
 
 /// A list of one string as its characters, another as none.
@@ -94,7 +97,10 @@ fn in_range(checked: Option<i128>) -> Result<i128, Missing>
 pub fn negated(x: Result<i128, Missing>) -> Result<i128, Missing>
     ensures { (v : Valued ℤ) → Gives x v → Gives result (opposite v) }
 {
-    in_range(x?.checked_neg())
+    match x {
+        Ok(x) => in_range(x.checked_neg()),
+        Err(missing) => Err(missing),
+    }
 }
 
 /// The sum or the difference of two integers, if there are both.
@@ -105,10 +111,12 @@ pub fn added(
 ) -> Result<i128, Missing>
     ensures { (v w : Valued ℤ) → Gives x v → Gives y w → Gives result (by_integers (added sign) v w) }
 {
-    let (x, y) = (x?, y?);
-    match sign {
-        SumSign::Plus => in_range(x.checked_add(y)),
-        SumSign::Minus => in_range(x.checked_sub(y)),
+    match (x, y) {
+        (Ok(x), Ok(y)) => match sign {
+            SumSign::Plus => in_range(x.checked_add(y)),
+            SumSign::Minus => in_range(x.checked_sub(y)),
+        },
+        (Err(missing), _) | (_, Err(missing)) => Err(missing),
     }
 }
 
@@ -120,10 +128,12 @@ pub fn multiplied(
 ) -> Result<i128, Missing>
     ensures { (v w : Valued ℤ) → Gives x v → Gives y w → Gives result (by_integers (multiplied sign) v w) }
 {
-    let (x, y) = (x?, y?);
-    match sign {
-        ProductSign::Times => in_range(x.checked_mul(y)),
-        ProductSign::Over => quotient(x, y),
+    match (x, y) {
+        (Ok(x), Ok(y)) => match sign {
+            ProductSign::Times => in_range(x.checked_mul(y)),
+            ProductSign::Over => quotient(x, y),
+        },
+        (Err(missing), _) | (_, Err(missing)) => Err(missing),
     }
 }
 

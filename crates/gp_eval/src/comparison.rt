@@ -1,18 +1,18 @@
 //! Comparisons of expressions. Integers are compared without their lists.
 
-ghost use Rattle.std.specs.Prelude.{◌≡◌, ℕ, ℤ, true, length};
+ghost use Rattle.std.specs.Prelude.{◌≡◌, ℤ, true, length};
 ghost use Rattle.gp_syntax.specs.Tree.{expression_of};
 ghost use Rattle.gp_syntax.specs.Truth.{compared};
 ghost use Rattle.gp_syntax.specs.Value.{Valued, value_of};
 ghost use Rattle.gp_syntax.specs.WellFormed.{IsWithin};
 ghost use Rattle.gp_syntax.specs.Assigned.{IsWhole};
 ghost use Rattle.gp_eval.specs.Answer.{setting, AreNodes};
-ghost use Rattle.gp_eval.specs.inside.Chains.{Gives};
-ghost use Rattle.gp_eval.specs.inside.Compared.{compared_values, compared_integers, IsNumber, AreByIntegers};
+ghost use Rattle.gp_eval.specs.inside.Chains.{Values, Gives};
+ghost use Rattle.gp_eval.specs.inside.Compared.{compared_values, compared_integers, IsByIntegers};
 
-use crate::arithmetic::{integer, is_integer};
+use crate::arithmetic::integer;
 use crate::expression::{eval, eval_integer};
-use crate::leaf::value_at;
+use crate::leaf::read;
 use crate::valued::Missing;
 use gp_graph::Graph;
 use gp_syntax::{Assignment, Comparison, Expr};
@@ -35,53 +35,40 @@ pub fn compare(
     ensures { Gives result (compared_values comparison (value_of (expression_of sides.entry.0.now) (setting assignment.now nodes.now graph.now.graph)) (value_of (expression_of sides.entry.1.now) (setting assignment.now nodes.now graph.now.graph))) }
 {
     let (d, e) = sides;
-    if are_by_integers(comparison, d, e, assignment) {
+    if are_by_integers(comparison, d, e, assignment, nodes, graph) {
         let x = eval_integer(alloc, d, assignment, nodes, graph);
         let y = eval_integer(alloc, e, assignment, nodes, graph);
-        return compared_integers(comparison, x, y);
+        compared_integers(comparison, x, y)
+    } else {
+        let x = eval(alloc, d, assignment, nodes, graph);
+        let y = eval(alloc, e, assignment, nodes, graph);
+        compared_lists(comparison, x, y)
     }
-    let first = eval(alloc, d, assignment, nodes, graph)?;
-    let second = eval(alloc, e, assignment, nodes, graph)?;
-    Ok(compared(comparison, &first, &second))
 }
 
-// Whether the integers of two expressions tell how they compare.
+// Whether the integers of two expressions tell how they compare: those of an order always, others where both are read as
+// integers.
 fn are_by_integers(
     comparison: Comparison,
     d: &Expr<u32>,
     e: &Expr<u32>,
     assignment: &Assignment,
+    nodes: &[u64],
+    graph: &Graph,
 ) -> bool
-    requires first { (n : ℕ) × IsWithin (length assignment.now.types) n (expression_of d.now) }
-    requires second { (n : ℕ) × IsWithin (length assignment.now.types) n (expression_of e.now) }
+    requires first { IsWithin (length assignment.now.types) (length nodes.now) (expression_of d.now) }
+    requires second { IsWithin (length assignment.now.types) (length nodes.now) (expression_of e.now) }
     requires whole { IsWhole assignment.now }
-    ensures { result ≡ true → AreByIntegers comparison assignment.now (expression_of d.now) (expression_of e.now) }
+    requires nodes { AreNodes graph.now.graph nodes.now }
+    ensures { result ≡ true → IsByIntegers comparison (value_of (expression_of d.now) (setting assignment.now nodes.now graph.now.graph)) (value_of (expression_of e.now) (setting assignment.now nodes.now graph.now.graph)) }
 {
     match comparison {
         Comparison::Equal | Comparison::NotEqual => {
-            is_number(d, assignment) && is_number(e, assignment)
+            let x = read(d, assignment, nodes, graph);
+            let y = read(e, assignment, nodes, graph);
+            matches!((x, y), (Some(_), Some(_)))
         }
         _ => true,
-    }
-}
-
-// Whether the value of an expression, if it has one, is a list of one integer, as its form tells or the value of its
-// variable.
-fn is_number(e: &Expr<u32>, assignment: &Assignment) -> bool
-    requires within { (n : ℕ) × IsWithin (length assignment.now.types) n (expression_of e.now) }
-    requires whole { IsWhole assignment.now }
-    ensures { result ≡ true → IsNumber assignment.now (expression_of e.now) }
-{
-    match e {
-        Expr::Number(_) => true,
-        Expr::InDegree(_) => true,
-        Expr::OutDegree(_) => true,
-        Expr::Length(_) => true,
-        Expr::Negated(_) => true,
-        Expr::Variable(x) => is_integer(value_at(assignment, *x)),
-        Expr::Sum(_, rest) => !rest.is_empty(),
-        Expr::Product(_, rest) => !rest.is_empty(),
-        _ => false,
     }
 }
 
@@ -93,18 +80,34 @@ fn compared_integers(
 ) -> Result<bool, Missing>
     ensures { (v w : Valued ℤ) → Gives x v → Gives y w → Gives result (compared_integers comparison v w) }
 {
-    let (x, y) = (x?, y?);
-    Ok(match comparison {
-        Comparison::Equal => x == y,
-        Comparison::NotEqual => x != y,
-        Comparison::Less => x < y,
-        Comparison::LessEqual => x <= y,
-        Comparison::Greater => y < x,
-        Comparison::GreaterEqual => y <= x,
-    })
+    match (x, y) {
+        (Ok(x), Ok(y)) => Ok(match comparison {
+            Comparison::Equal => x == y,
+            Comparison::NotEqual => x != y,
+            Comparison::Less => x < y,
+            Comparison::LessEqual => x <= y,
+            Comparison::Greater => y < x,
+            Comparison::GreaterEqual => y <= x,
+        }),
+        (Err(missing), _) | (_, Err(missing)) => Err(missing),
+    }
 }
 
-// How two lists compare: `=` and `!=` as lists, the others as integers.
+// How two lists compare, if there are both: `=` and `!=` as lists, the others as integers.
+fn compared_lists(
+    comparison: Comparison,
+    x: Result<List, Missing>,
+    y: Result<List, Missing>,
+) -> Result<bool, Missing>
+    ensures { (v w : Values) → Gives x v → Gives y w → Gives result (compared_values comparison v w) }
+{
+    match (x, y) {
+        (Ok(x), Ok(y)) => Ok(compared(comparison, &x, &y)),
+        (Err(missing), _) | (_, Err(missing)) => Err(missing),
+    }
+}
+
+// How two lists compare.
 fn compared(comparison: Comparison, v: &List, w: &List) -> bool
     ensures { result ≡ compared comparison v.now w.now }
 {

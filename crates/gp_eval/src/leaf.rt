@@ -4,20 +4,20 @@ ghost use Rattle.std.specs.Prelude.{◌≡◌, ◌<◌, ℕ, pos, length, slice_
 ghost use Rattle.gp_values.specs.Graph.{in_degree, out_degree};
 ghost use Rattle.gp_syntax.specs.Assigned.{IsWhole, assigned_of, declared_type};
 ghost use Rattle.gp_syntax.specs.Tree.{expression_of};
-ghost use Rattle.gp_syntax.specs.Value.{Value, value_of, length_by};
+ghost use Rattle.gp_syntax.specs.Value.{Value, value_of, length_by, number};
 ghost use Rattle.gp_syntax.specs.WellFormed.{IsWithin};
 ghost use Rattle.gp_eval.specs.Answer.{AreNodes, setting};
-ghost use Rattle.gp_eval.specs.inside.Chains.{Gives, counted};
+ghost use Rattle.gp_eval.specs.inside.Chains.{Gives};
 
-use crate::arithmetic::{characters, integer};
+use crate::arithmetic::{characters, only_integer};
 use crate::valued::Missing;
 use gp_graph::Graph;
 use gp_syntax::{Assignment, Expr, VariableType};
 use gp_values::{Atom, List};
 use std::alloc::Global;
 
-/// The value of a variable.
-pub fn value_at(assignment: &Assignment, x: u32) -> &List
+// The value of a variable.
+fn value_at(assignment: &Assignment, x: u32) -> &List
     requires known { x < length assignment.now.types }
     requires whole { IsWhole assignment.now }
     ensures { result.now ≡ slice_index_or (assigned_of assignment.now) x [] }
@@ -79,16 +79,16 @@ pub fn out_degree_of(nodes: &[u64], graph: &Graph, n: u32) -> i128
     count as i128
 }
 
-/// The integer of a number, a degree or a length, or of the value of a variable, read where it stands.
+/// The integer that is the value of a number, a degree, a length or a variable, read where it stands.
 pub fn read(e: &Expr<u32>, assignment: &Assignment, nodes: &[u64], graph: &Graph) -> Option<i128>
     requires within { IsWithin (length assignment.now.types) (length nodes.now) (expression_of e.now) }
     requires whole { IsWhole assignment.now }
     requires nodes { AreNodes graph.now.graph nodes.now }
-    ensures { IfSome result (λ z. counted (value_of (expression_of e.now) (setting assignment.now nodes.now graph.now.graph)) ≡ Value z) }
+    ensures { IfSome result (λ z. value_of (expression_of e.now) (setting assignment.now nodes.now graph.now.graph) ≡ Value (number z)) }
 {
     match e {
         Expr::Number(z) => Some(*z),
-        Expr::Variable(x) => Some(integer(value_at(assignment, *x))),
+        Expr::Variable(x) => only_integer(value_at(assignment, *x)),
         Expr::InDegree(n) => Some(in_degree_of(nodes, graph, *n)),
         Expr::OutDegree(n) => Some(out_degree_of(nodes, graph, *n)),
         Expr::Length(x) => Some(length_of(assignment, *x)),

@@ -1,21 +1,13 @@
 -- Comparisons of integers.
-use Rattle.std.specs.Prelude.{◌≡◌, ℕ, ℤ, Bool, List}
-use Rattle.gp_values.specs.Graph.{Graph}
+use Rattle.std.specs.Prelude.{◌≡◌, ℤ, Bool}
 use Rattle.gp_syntax.specs.declared.kinds.Comparison.{Comparison}
-use Rattle.gp_syntax.specs.Expression.{Expression}
 use Rattle.gp_syntax.specs.Truth.{compared}
-use Rattle.gp_syntax.specs.Value.{Valued, Value, ◌>>=◌, value_of, number}
-use Rattle.gp_syntax.specs.Assigned.{PartialAssignment}
-use Rattle.gp_eval.specs.Answer.{setting}
+use Rattle.gp_syntax.specs.Value.{Valued, Value, ◌>>=◌, number}
 use Rattle.gp_eval.specs.inside.Chains.{Values, counted, listed}
 
 -- a list of one integer, if there is a value
 abbrev pub IsListed : Values → Type 0
 IsListed v = v ≡ listed (counted v)
-
--- by these values of the variables that is the expression's value, wherever it is asked
-abbrev pub IsNumber : PartialAssignment → Expression ℕ → Type 0
-IsNumber a e = (ns : List ℕ) (g : Graph) → IsListed (value_of e (setting a ns g))
 
 -- how two values compare
 abbrev pub compared_values : Comparison → Values → Values → Valued Bool
@@ -27,6 +19,3 @@ compared_integers op v w = v >>= λ x. w >>= λ y. Value (compared op (number x)
 -- the integers tell it
 abbrev pub IsByIntegers : Comparison → Values → Values → Type 0
 IsByIntegers op v w = compared_values op v w ≡ compared_integers op (counted v) (counted w)
-
-abbrev pub AreByIntegers : Comparison → PartialAssignment → Expression ℕ → Expression ℕ → Type 0
-AreByIntegers op a d e = (ns : List ℕ) (g : Graph) → IsByIntegers op (value_of d (setting a ns g)) (value_of e (setting a ns g))
