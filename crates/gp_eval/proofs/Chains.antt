@@ -1,5 +1,6 @@
 -- Chains, operand by operand, and their sizes.
-use Rattle.std.proofs.Common.{◌≡◌, ℕ, zero, suc, ◌+◌, ◌<◌, ◌≤◌, List, [], ◌∷◌, ◌++◌, length, map, drop, fold, get_or, All, refl, sym, ap, subst, ◌∙◌, arith, Result, Ok, Err, IsErrAnd, Bool, true, false, ◌==◌}
+use Rattle.std.proofs.Common.{◌≡◌, ℕ, zero, suc, ℤ, pos, negsuc, neg_ℤ, if◌then◌else◌, ◌+◌, ◌<◌, ◌≤◌, List, [], ◌∷◌, ◌++◌, length, map, drop, fold, get_or, All, refl, sym, ap, subst, ◌∙◌, arith, Result, Ok, Err, IsErrAnd, Bool, true, false, ◌==◌}
+use Rattle.std.specs.Prelude.{◌↔◌, IsTrue, Option, Some, None, IfSome, ◌+ℤ◌, ◌-ℤ◌, ◌*ℤ◌, int_div}
 use Rattle.std.proofs.lemmas.Bool.Decides.{Decides-eqb}
 use Rattle.gp_values.specs.declared.atom.Atom.{Atom}
 use Rattle.gp_values.specs.declared.atom.Atom.TheVariants.{Str}
@@ -14,15 +15,14 @@ use Rattle.gp_syntax.specs.declared.expression.ProductSign.{ProductSign}
 use Rattle.gp_syntax.specs.declared.expression.ProductSign.TheVariants as products
 use Rattle.gp_syntax.specs.Expression.{Expression, Dot, Join}
 use Rattle.gp_syntax.specs.Tree.{expression_of, operands_of, sum as summed, product, dots, joins, added as plus, multiplied as times}
-use Rattle.gp_syntax.specs.Value.{Setting, Valued, Value, NoValue, ◌>>=◌, value_of, integer, characters}
+use Rattle.gp_syntax.specs.Value.{Setting, Valued, Value, NoValue, ◌>>=◌, value_of, ranged, quotient, integer, characters, number}
+use Rattle.gp_syntax.specs.declared.kinds.NumberKind.TheVariants.{PastBits}
+use Rattle.gp_eval.specs.inside.Compared.{IsListed}
 use Rattle.gp_syntax.specs.WellFormed.{IsWithin}
 use Rattle.gp_eval.specs.declared.valued.Missing.{Missing}
 use Rattle.gp_eval.specs.declared.valued.Missing.TheVariants as missing
-use Rattle.gp_eval.specs.inside.Chains.{Lacks, Gives, added, multiplied, sum_step, product_step, dot_step, join_step}
+use Rattle.gp_eval.specs.inside.Chains.{Values, Lacks, Gives, counted, listed, opposite, by_integers, added, multiplied, sum_step, product_step, dot_step, join_step}
 use Rattle.gp_eval.specs.inside.Size.{total, size_step, size, sizes, operand_sizes}
-
-abbrev Values : Type 0
-Values = Valued (List Atom)
 
 module _ {X : Type 0} (val : X → Values) (f : X → List Atom → List Atom → Values) where
   abbrev pub step : Values → X → Values
@@ -132,17 +132,17 @@ pub size-Negated : (e : Expr ℕ) → size (tree.Negated e) ≡ 2 + size e
 unfolding size
 size-Negated e = ap size (sym (tree.rolls-Negated e)) ∙ fold-roll-Expr ℕ ℕ size_step (Expr-F.Negated e)
 
-pub size-Sum : (e : Expr ℕ) (ts : List (Signed SumSign (Expr ℕ))) → size (tree.Sum e ts) ≡ 2 + size e + operand_sizes ts
+pub size-Sum : (e : Expr ℕ) (ts : List (Signed SumSign (Expr ℕ))) → size (tree.Sum e ts) ≡ 3 + size e + operand_sizes ts
 unfolding size
-size-Sum e ts = ap size (sym (tree.rolls-Sum e ts)) ∙ fold-roll-Expr ℕ ℕ size_step (Expr-F.Sum e ts) ∙ ap (λ n. 2 + size e + total n) (twice ts)
+size-Sum e ts = ap size (sym (tree.rolls-Sum e ts)) ∙ fold-roll-Expr ℕ ℕ size_step (Expr-F.Sum e ts) ∙ ap (λ n. 3 + size e + total n) (twice ts)
   where
     twice : (ts : List (Signed SumSign (Expr ℕ))) → map (λ (t : Signed SumSign ℕ). t.operand) (map (λ (t : Signed SumSign (Expr ℕ)). record { sign = t.sign; operand = size t.operand }) ts) ≡ map (λ (t : Signed SumSign (Expr ℕ)). size t.operand) ts
     twice [] = refl
     twice (t ∷ ts) = λ i. size t.operand ∷ twice ts i
 
-pub size-Product : (e : Expr ℕ) (ts : List (Signed ProductSign (Expr ℕ))) → size (tree.Product e ts) ≡ 2 + size e + operand_sizes ts
+pub size-Product : (e : Expr ℕ) (ts : List (Signed ProductSign (Expr ℕ))) → size (tree.Product e ts) ≡ 3 + size e + operand_sizes ts
 unfolding size
-size-Product e ts = ap size (sym (tree.rolls-Product e ts)) ∙ fold-roll-Expr ℕ ℕ size_step (Expr-F.Product e ts) ∙ ap (λ n. 2 + size e + total n) (twice ts)
+size-Product e ts = ap size (sym (tree.rolls-Product e ts)) ∙ fold-roll-Expr ℕ ℕ size_step (Expr-F.Product e ts) ∙ ap (λ n. 3 + size e + total n) (twice ts)
   where
     twice : (ts : List (Signed ProductSign (Expr ℕ))) → map (λ (t : Signed ProductSign ℕ). t.operand) (map (λ (t : Signed ProductSign (Expr ℕ)). record { sign = t.sign; operand = size t.operand }) ts) ≡ map (λ (t : Signed ProductSign (Expr ℕ)). size t.operand) ts
     twice [] = refl
@@ -189,15 +189,94 @@ ended f v m (suc i) [] l h = sym h
 ended f v m zero (x ∷ xs) l h = absurd (omega arith)
 ended f v m (suc i) (x ∷ xs) l h = ended f v m i xs (omega arith) h
 
--- ---- sums and products
+-- ---- sums and products, of which the integers are kept
 
-pub sum_on : (s : Setting) (total y w : List Atom) (i : ℕ) (x : Signed SumSign (Expr ℕ)) (xs : List (Signed SumSign (Expr ℕ))) (m : Values) → i < length xs → x ≡ get_or xs i x → value_of (expression_of x.operand) s ≡ Value y
-    → added x.sign (integer total) (integer y) ≡ Value w → fold (sum_step s) (Value total) (drop i xs) ≡ m → fold (sum_step s) (Value w) (drop (i + 1) xs) ≡ m
-sum_on s total y w i x xs m l e v h k = chain_on (λ t. value_of (expression_of t.operand) s) (λ t x y. added t.sign (integer x) (integer y)) total y w i x xs m l (sym e) v h k
+module _ {X : Type 0} (val : X → Values) (op : X → ℤ → ℤ → Values) where
+  abbrev by_lists : X → List Atom → List Atom → Values
+  by_lists x a b = op x (integer a) (integer b)
 
-pub product_on : (s : Setting) (total y w : List Atom) (i : ℕ) (x : Signed ProductSign (Expr ℕ)) (xs : List (Signed ProductSign (Expr ℕ))) (m : Values) → i < length xs → x ≡ get_or xs i x → value_of (expression_of x.operand) s ≡ Value y
-    → multiplied x.sign (integer total) (integer y) ≡ Value w → fold (product_step s) (Value total) (drop i xs) ≡ m → fold (product_step s) (Value w) (drop (i + 1) xs) ≡ m
-product_on s total y w i x xs m l e v h k = chain_on (λ t. value_of (expression_of t.operand) s) (λ t x y. multiplied t.sign (integer x) (integer y)) total y w i x xs m l (sym e) v h k
+  abbrev pub count : Values → X → Values
+  count = step val by_lists
+
+  -- a step by integers
+  counted_step : (v : Values) (x : X) → counted (count v x) ≡ by_integers (op x) (counted v) (counted (val x))
+  counted_step v x = by v (val x)
+    where
+      by : (v w : Values) → counted (v >>= λ a. w >>= λ b. by_lists x a b) ≡ by_integers (op x) (counted v) (counted w)
+      by (NoValue k) w = refl
+      by (Value a) (NoValue k) = refl
+      by (Value a) (Value b) = refl
+
+  -- an integer that is given for what is valued so far
+  pub record IsSoFar (r : Result ℤ Missing) (i : ℕ) (xs : List X) (m : Valued ℤ) : Type 0 where
+    pub value : Values
+    pub given : Gives r (counted value)
+    pub rest : counted (fold count value (drop i xs)) ≡ m
+
+  pub one_more : (r u : Result ℤ Missing) (i : ℕ) (x : X) (xs : List X) (m : Valued ℤ) → i < length xs → x ≡ get_or xs i x → IsSoFar r i xs m → ((v : Valued ℤ) → Gives r v → Gives u (by_integers (op x) v (counted (val x)))) → IsSoFar u (i + 1) xs m
+  one_more r u i x xs m l e h k = record {
+    value = count h.value x;
+    given = subst (Gives u) (sym (counted_step h.value x)) (k (counted h.value) h.given);
+    rest = let n : suc i ≡ i + 1 = omega arith in subst (λ j. counted (fold count (count h.value x) (drop j xs)) ≡ m) n (ap counted (goes_on val by_lists h.value (count h.value x) i x xs l (sym e) refl _ refl) ∙ h.rest);
+  }
+
+  -- past the last operand
+  pub none_left : (r : Result ℤ Missing) (i : ℕ) (xs : List X) (m : Valued ℤ) → length xs ≤ i → IsSoFar r i xs m → Gives r m
+  none_left r i xs m l h = subst (Gives r) (sym (ap counted (ended count h.value _ i xs l refl)) ∙ h.rest) h.given
+
+  -- the value of a chain with a further operand is a list of one integer
+  chain_listed : ((x : X) (a b : ℤ) → IsListed (op x a b)) → (v : Values) (xs : List X) → (xs ≡ [] → ⊥) → IsListed (fold count v xs)
+  chain_listed h v [] d = absurd (d refl)
+  chain_listed h v (x ∷ xs) d = onwards (count v x) xs (one v (val x) x)
+    where
+      one : (v w : Values) (x : X) → IsListed (v >>= λ a. w >>= λ b. by_lists x a b)
+      one (NoValue k) w x = refl
+      one (Value a) (NoValue k) x = refl
+      one (Value a) (Value b) x = h x (integer a) (integer b)
+
+      onwards : (v : Values) (xs : List X) → IsListed v → IsListed (fold count v xs)
+      onwards v [] e = e
+      onwards v (x ∷ xs) e = onwards (count v x) xs (one v (val x) x)
+
+ranged_listed : (z : ℤ) → IsListed (ranged z)
+ranged_listed z = by _
+  where
+    by : (b : Bool) → IsListed (if b then Value (number z) else NoValue PastBits)
+    by true = refl
+    by false = refl
+
+quotient_listed : (x y : ℤ) → IsListed (quotient x y)
+quotient_listed x (pos zero) = refl
+quotient_listed x (pos (suc n)) = ranged_listed (int_div x (pos (suc n)))
+quotient_listed x (negsuc n) = ranged_listed (int_div x (negsuc n))
+
+pub quotient_is : (x y : ℤ) → (y ≡ pos 0 → ⊥) → quotient x y ≡ ranged (int_div x y)
+quotient_is x (pos zero) n = absurd (n refl)
+quotient_is x (pos (suc n)) h = refl
+quotient_is x (negsuc n) h = refl
+
+added_listed : (sign : SumSign) (x y : ℤ) → IsListed (added sign x y)
+added_listed sums.Plus x y = ranged_listed (x +ℤ y)
+added_listed sums.Minus x y = ranged_listed (x -ℤ y)
+
+multiplied_listed : (sign : ProductSign) (x y : ℤ) → IsListed (multiplied sign x y)
+multiplied_listed products.Times x y = ranged_listed (x *ℤ y)
+multiplied_listed products.Over x y = quotient_listed x y
+
+pub sum_listed : (s : Setting) (v : Values) (ts : List (Signed SumSign (Expr ℕ))) → (ts ≡ [] → ⊥) → IsListed (fold (sum_step s) v ts)
+sum_listed s v ts d = chain_listed (λ t. value_of (expression_of t.operand) s) (λ t x y. added t.sign x y) (λ t a b. added_listed t.sign a b) v ts d
+
+pub product_listed : (s : Setting) (v : Values) (ts : List (Signed ProductSign (Expr ℕ))) → (ts ≡ [] → ⊥) → IsListed (fold (product_step s) v ts)
+product_listed s v ts d = chain_listed (λ t. value_of (expression_of t.operand) s) (λ t x y. multiplied t.sign x y) (λ t a b. multiplied_listed t.sign a b) v ts d
+
+-- minus an integer
+pub negated_counted : (v : Values) → counted (v >>= λ x. ranged (neg_ℤ (integer x))) ≡ opposite (counted v)
+negated_counted (Value x) = refl
+negated_counted (NoValue k) = refl
+
+pub negated_listed : (v : Values) → IsListed (v >>= λ x. ranged (neg_ℤ (integer x)))
+negated_listed (Value x) = ranged_listed (neg_ℤ (integer x))
+negated_listed (NoValue k) = refl
 
 -- ---- strings and lists
 
@@ -221,3 +300,12 @@ empty_fold f v w (x ∷ xs) b e t h = let l : length (x ∷ xs) ≡ 0 = (Decides
 
 pub not_empty : {X : Type 0} (xs : List X) (b : Bool) → b ≡ (length xs == 0) → b ≡ false → xs ≡ [] → ⊥
 not_empty xs b e f s = let t : (length xs == 0) ≡ true = (Decides-eqb (length xs) 0).1 (ap length s) in absurd (let d : false ≡ true = sym f ∙ e ∙ t in cc)
+
+-- a chain with further operands, where the list of them was asked
+pub some_left : {X : Type 0} (xs : List X) (b : Bool) → IsTrue b ↔ (xs ≡ []) → b ≡ false → xs ≡ [] → ⊥
+some_left xs b is f e = absurd (let d : false ≡ true = sym f ∙ is.1 e in cc)
+
+-- what an integer that is found tells
+pub some_as : {X : Type 0} (o : Option X) (P Q : X → Type 0) → ((x : X) → P x → Q x) → IfSome o P → IfSome o Q
+some_as None P Q f h = h
+some_as (Some x) P Q f h = f x h

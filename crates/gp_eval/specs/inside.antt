@@ -2,3 +2,4 @@ pub mod Chains
 pub mod Size
 pub mod Between
 pub mod Early
+pub mod Compared

@@ -1,14 +1,14 @@
 //! Integers, and lists of one atom.
 
-ghost use Rattle.std.specs.Prelude.{◌≡◌, ℤ, neg_ℤ, [], ◌∷◌, ◌++◌, IfOk};
+ghost use Rattle.std.specs.Prelude.{◌≡◌, ℤ, [], ◌∷◌, ◌++◌, IfOk, IfSome};
 ghost use Rattle.std.specs.Prelude.{FitsSigned, IfErr};
 ghost use Rattle.gp_values.specs.declared.atom.Atom.TheVariants.{Str};
 ghost use Rattle.gp_eval.specs.declared.valued.Missing.TheVariants as missing;
 ghost use Rattle.std.specs.Int.{w128};
 ghost use Rattle.std.specs.Option.{SomeIff};
 ghost use Rattle.gp_values.specs.Texts.{IsText};
-ghost use Rattle.gp_syntax.specs.Value.{Value, ranged, quotient, integer, characters, number};
-ghost use Rattle.gp_eval.specs.inside.Chains.{Gives, added, multiplied};
+ghost use Rattle.gp_syntax.specs.Value.{Valued, Value, ranged, quotient, integer, characters, number};
+ghost use Rattle.gp_eval.specs.inside.Chains.{Values, Gives, counted, listed, opposite, by_integers, added, multiplied};
 
 use crate::valued::Missing;
 use gp_memory::NoMemory;
@@ -42,6 +42,16 @@ pub fn integer(list: &List) -> i128
     }
 }
 
+/// The integer of a list that has nothing else.
+pub fn only_integer(list: &List) -> Option<i128>
+    ensures { IfSome result (λ z. list.now ≡ number z) }
+{
+    match list.atoms() {
+        [Atom::Int(z)] => Some(*z),
+        _ => None,
+    }
+}
+
 /// A list of one string as its characters, another as none.
 pub fn characters(list: &List) -> &[u8]
     ensures value { result.now ≡ characters list.now }
@@ -53,50 +63,87 @@ pub fn characters(list: &List) -> &[u8]
     }
 }
 
-// The list of this integer, where it is one of 128 bits.
-fn in_range(alloc: Global, checked: Option<i128>) -> Result<List, Missing>
-    ensures { (z : ℤ) → SomeIff checked (FitsSigned w128 z) z → Gives result (ranged z) }
+/// The list of an integer, if there is one.
+pub fn listed(alloc: Global, z: Result<i128, Missing>) -> Result<List, Missing>
+    ensures { (m : Valued ℤ) → Gives z m → Gives result (listed m) }
+{
+    match z {
+        Ok(z) => number(alloc, &z),
+        Err(missing) => Err(missing),
+    }
+}
+
+/// The integer of a list, if there is one.
+pub fn counted(list: Result<List, Missing>) -> Result<i128, Missing>
+    ensures { (m : Values) → Gives list m → Gives result (counted m) }
+{
+    match list {
+        Ok(list) => Ok(integer(&list)),
+        Err(missing) => Err(missing),
+    }
+}
+
+// This integer, where it is one of 128 bits.
+fn in_range(checked: Option<i128>) -> Result<i128, Missing>
+    ensures { (z : ℤ) → SomeIff checked (FitsSigned w128 z) z → Gives result (counted (ranged z)) }
 {
     match checked {
-        Some(z) => Ok(single(alloc, Atom::Int(z))?),
+        Some(z) => Ok(z),
         None => Err(Missing::NoValue(NumberKind::PastBits)),
     }
 }
 
-/// Minus the integer of a list.
-pub fn negated(alloc: Global, x: &List) -> Result<List, Missing>
-    ensures { Gives result (ranged (neg_ℤ (integer x.now))) }
+/// Minus an integer, if there is one.
+pub fn negated(x: Result<i128, Missing>) -> Result<i128, Missing>
+    ensures { (v : Valued ℤ) → Gives x v → Gives result (opposite v) }
 {
-    in_range(alloc, integer(x).checked_neg())
+    match x {
+        Ok(x) => in_range(x.checked_neg()),
+        Err(missing) => Err(missing),
+    }
 }
 
-/// The sum or the difference of the integers of two lists.
-pub fn added(alloc: Global, sign: SumSign, x: &List, y: &List) -> Result<List, Missing>
-    ensures { Gives result (added sign (integer x.now) (integer y.now)) }
+/// The sum or the difference of two integers, if there are both.
+pub fn added(
+    sign: SumSign,
+    x: Result<i128, Missing>,
+    y: Result<i128, Missing>,
+) -> Result<i128, Missing>
+    ensures { (v w : Valued ℤ) → Gives x v → Gives y w → Gives result (by_integers (added sign) v w) }
 {
-    match sign {
-        SumSign::Plus => in_range(alloc, integer(x).checked_add(integer(y))),
-        SumSign::Minus => in_range(alloc, integer(x).checked_sub(integer(y))),
+    match (x, y) {
+        (Ok(x), Ok(y)) => match sign {
+            SumSign::Plus => in_range(x.checked_add(y)),
+            SumSign::Minus => in_range(x.checked_sub(y)),
+        },
+        (Err(missing), _) | (_, Err(missing)) => Err(missing),
     }
 }
 
 /// Their product or their quotient, which is truncated towards zero.
-pub fn multiplied(alloc: Global, sign: ProductSign, x: &List, y: &List) -> Result<List, Missing>
-    ensures { Gives result (multiplied sign (integer x.now) (integer y.now)) }
+pub fn multiplied(
+    sign: ProductSign,
+    x: Result<i128, Missing>,
+    y: Result<i128, Missing>,
+) -> Result<i128, Missing>
+    ensures { (v w : Valued ℤ) → Gives x v → Gives y w → Gives result (by_integers (multiplied sign) v w) }
 {
-    match sign {
-        ProductSign::Times => in_range(alloc, integer(x).checked_mul(integer(y))),
-        ProductSign::Over => quotient(alloc, integer(x), integer(y)),
+    match (x, y) {
+        (Ok(x), Ok(y)) => match sign {
+            ProductSign::Times => in_range(x.checked_mul(y)),
+            ProductSign::Over => quotient(x, y),
+        },
+        (Err(missing), _) | (_, Err(missing)) => Err(missing),
     }
 }
 
-fn quotient(alloc: Global, x: i128, y: i128) -> Result<List, Missing>
-    ensures { Gives result (quotient x y) }
+fn quotient(x: i128, y: i128) -> Result<i128, Missing>
+    ensures { Gives result (counted (quotient x y)) }
 {
     if y == 0 {
         return Err(Missing::NoValue(NumberKind::ZeroDivisor));
     }
-    in_range(alloc, x.checked_div(y))
+    in_range(x.checked_div(y))
 }
 
 /// The list of a string.

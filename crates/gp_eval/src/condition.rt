@@ -2,19 +2,19 @@
 
 ghost use Rattle.std.specs.Prelude.{◌≡◌, length, fold, All};
 ghost use Rattle.gp_syntax.specs.Tree.{condition_of, pattern_of};
-ghost use Rattle.gp_syntax.specs.Truth.{truth_of, compared};
+ghost use Rattle.gp_syntax.specs.Truth.{truth_of};
 ghost use Rattle.gp_syntax.specs.WellFormed.{IsConditionWithin};
 ghost use Rattle.gp_syntax.specs.Assigned.{IsWhole};
 ghost use Rattle.gp_eval.specs.Answer.{Tells, setting, AreNodes};
 ghost use Rattle.gp_eval.specs.inside.Chains.{Gives, and_step, or_step};
 
-use crate::arithmetic::integer;
+use crate::comparison::compare;
 use crate::edges::{has_edge, has_edge_with};
 use crate::expression::eval;
 use crate::valued::{Missing, Valued};
 use gp_graph::Graph;
-use gp_syntax::{Assignment, Comparison, Cond, MarkPattern, is_of};
-use gp_values::{EdgeMark, List};
+use gp_syntax::{Assignment, Cond, MarkPattern, is_of};
+use gp_values::EdgeMark;
 use std::alloc::Global;
 
 /// The truth of a condition of a checked rule, where every variable has its value and `nodes` are the images of the
@@ -64,9 +64,7 @@ fn truth(
             Ok(has_edge_with(graph, source, target, &list, *mark))
         }
         Cond::Compared(comparison, d, e) => {
-            let first = eval(alloc, d, assignment, nodes, graph)?;
-            let second = eval(alloc, e, assignment, nodes, graph)?;
-            Ok(compared(*comparison, &first, &second))
+            compare(alloc, *comparison, (d, e), assignment, nodes, graph)
         }
         Cond::Not(part) => Ok(!truth(alloc, part.get(), assignment, nodes, graph)?),
         Cond::And(first, rest) => {
@@ -142,18 +140,4 @@ fn some_true(
         holds = truth(alloc, part, assignment, nodes, graph)?;
     }
     Ok(holds)
-}
-
-// How two lists compare: `=` and `!=` as lists, the others as integers.
-fn compared(comparison: Comparison, v: &List, w: &List) -> bool
-    ensures { result ≡ compared comparison v.now w.now }
-{
-    match comparison {
-        Comparison::Equal => *v == *w,
-        Comparison::NotEqual => *v != *w,
-        Comparison::Less => integer(v) < integer(w),
-        Comparison::LessEqual => integer(v) <= integer(w),
-        Comparison::Greater => integer(w) < integer(v),
-        Comparison::GreaterEqual => integer(w) <= integer(v),
-    }
 }

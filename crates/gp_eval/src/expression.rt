@@ -2,17 +2,17 @@
 
 ghost use Rattle.std.specs.Prelude.{◌≡◌, length, fold, All};
 ghost use Rattle.gp_syntax.specs.Tree.{expression_of};
-ghost use Rattle.gp_syntax.specs.Expression.{Negated};
 ghost use Rattle.gp_syntax.specs.Value.{value_of};
 ghost use Rattle.gp_syntax.specs.WellFormed.{IsWithin};
 ghost use Rattle.gp_syntax.specs.Assigned.{IsWhole};
-ghost use Rattle.gp_eval.specs.Answer.{Tells, setting, AreNodes};
-ghost use Rattle.gp_eval.specs.inside.Chains.{Gives, sum_step, product_step, dot_step, join_step};
+ghost use Rattle.gp_eval.specs.Answer.{Tells, presence, setting, AreNodes};
+ghost use Rattle.gp_eval.specs.inside.Chains.{Gives, counted, sum_step, product_step, dot_step, join_step};
 
 use crate::arithmetic::{
-    add_text, added, begin_text, end_text, joined, multiplied, negated, number, string,
+    add_text, added, begin_text, counted, end_text, joined, listed, multiplied, negated, number,
+    string,
 };
-use crate::leaf::{assigned, in_degree_of, length_of, out_degree_of};
+use crate::leaf::{assigned, in_degree_of, length_of, out_degree_of, read};
 use crate::valued::{Missing, Valued};
 use gp_graph::Graph;
 use gp_syntax::{Assignment, Expr, ProductSign, Signed, SumSign};
@@ -40,7 +40,31 @@ pub fn value(
     }
 }
 
-/// The same, for `?`.
+/// Whether an expression has a value, as `value` says it, without the value: of arithmetic only integers are made.
+pub fn has_value(
+    alloc: Global,
+    e: &Expr<u32>,
+    assignment: &Assignment,
+    nodes: &[u64],
+    graph: &Graph,
+) -> Valued<()>
+    requires within { IsWithin (length assignment.now.types) (length nodes.now) (expression_of e.now) }
+    requires whole { IsWhole assignment.now }
+    requires nodes { AreNodes graph.now.graph nodes.now }
+    ensures { Tells result (presence (value_of (expression_of e.now) (setting assignment.now nodes.now graph.now.graph))) }
+{
+    match e {
+        Expr::Text(_) => Valued::Value(()),
+        Expr::Empty => Valued::Value(()),
+        _ => match eval_integer(alloc, e, assignment, nodes, graph) {
+            Ok(_) => Valued::Value(()),
+            Err(Missing::NoValue(kind)) => Valued::NoValue(kind),
+            Err(Missing::NoMemory) => Valued::NoMemory,
+        },
+    }
+}
+
+/// The value, for `?`.
 #[cycle(eval)]
 pub fn eval(
     alloc: Global,
@@ -58,30 +82,37 @@ pub fn eval(
         Expr::Number(z) => number(alloc, z),
         Expr::Text(text) => string(alloc, text),
         Expr::Variable(x) => assigned(alloc, assignment, *x),
-        Expr::InDegree(n) => in_degree_of(alloc, nodes, graph, *n),
-        Expr::OutDegree(n) => out_degree_of(alloc, nodes, graph, *n),
-        Expr::Length(x) => length_of(alloc, assignment, *x),
+        Expr::InDegree(n) => number(alloc, &in_degree_of(nodes, graph, *n)),
+        Expr::OutDegree(n) => number(alloc, &out_degree_of(nodes, graph, *n)),
+        Expr::Length(x) => number(alloc, &length_of(assignment, *x)),
         Expr::Empty => Ok(List::new(alloc)),
-        Expr::Negated(operand) => eval_negated(alloc, operand.get(), assignment, nodes, graph),
+        Expr::Negated(operand) => {
+            let x = eval_integer(alloc, operand.get(), assignment, nodes, graph);
+            listed(alloc, negated(x))
+        }
         Expr::Sum(first, rest) => {
-            eval_sum(
-                alloc,
-                first.get(),
-                rest.as_slice(),
-                assignment,
-                nodes,
-                graph,
-            )
+            let first = first.get();
+            if rest.is_empty() {
+                eval(alloc, first, assignment, nodes, graph)
+            } else {
+                let rest = rest.as_slice();
+                listed(
+                    alloc,
+                    eval_sum(alloc, first, rest, assignment, nodes, graph),
+                )
+            }
         }
         Expr::Product(first, rest) => {
-            eval_product(
-                alloc,
-                first.get(),
-                rest.as_slice(),
-                assignment,
-                nodes,
-                graph,
-            )
+            let first = first.get();
+            if rest.is_empty() {
+                eval(alloc, first, assignment, nodes, graph)
+            } else {
+                let rest = rest.as_slice();
+                listed(
+                    alloc,
+                    eval_product(alloc, first, rest, assignment, nodes, graph),
+                )
+            }
         }
         Expr::Dot(first, rest) => {
             eval_dot(
@@ -106,23 +137,52 @@ pub fn eval(
     }
 }
 
+/// The integer of the value, without its list where it is a number.
 #[cycle(eval)]
-fn eval_negated(
+pub fn eval_integer(
     alloc: Global,
-    operand: &Expr<u32>,
+    e: &Expr<u32>,
     assignment: &Assignment,
     nodes: &[u64],
     graph: &Graph,
-) -> Result<List, Missing>
-    requires within { IsWithin (length assignment.now.types) (length nodes.now) (expression_of operand.now) }
+) -> Result<i128, Missing>
+    requires within { IsWithin (length assignment.now.types) (length nodes.now) (expression_of e.now) }
     requires whole { IsWhole assignment.now }
     requires nodes { AreNodes graph.now.graph nodes.now }
-    ensures { Gives result (value_of (Negated (expression_of operand.now)) (setting assignment.now nodes.now graph.now.graph)) }
+    ensures { Gives result (counted (value_of (expression_of e.now) (setting assignment.now nodes.now graph.now.graph))) }
 {
-    let x = eval(alloc, operand, assignment, nodes, graph)?;
-    negated(alloc, &x)
+    if let Some(z) = read(e, assignment, nodes, graph) {
+        return Ok(z);
+    }
+    match e {
+        Expr::Negated(operand) => {
+            negated(eval_integer(alloc, operand.get(), assignment, nodes, graph))
+        }
+        Expr::Sum(first, rest) => {
+            eval_sum(
+                alloc,
+                first.get(),
+                rest.as_slice(),
+                assignment,
+                nodes,
+                graph,
+            )
+        }
+        Expr::Product(first, rest) => {
+            eval_product(
+                alloc,
+                first.get(),
+                rest.as_slice(),
+                assignment,
+                nodes,
+                graph,
+            )
+        }
+        _ => counted(eval(alloc, e, assignment, nodes, graph)),
+    }
 }
 
+// The integer of a sum.
 #[cycle(eval)]
 fn eval_sum(
     alloc: Global,
@@ -131,21 +191,22 @@ fn eval_sum(
     assignment: &Assignment,
     nodes: &[u64],
     graph: &Graph,
-) -> Result<List, Missing>
+) -> Result<i128, Missing>
     requires first { IsWithin (length assignment.now.types) (length nodes.now) (expression_of first.now) }
     requires rest { All (λ t. IsWithin (length assignment.now.types) (length nodes.now) (expression_of t.operand)) rest.now }
     requires whole { IsWhole assignment.now }
     requires nodes { AreNodes graph.now.graph nodes.now }
-    ensures { Gives result (fold (sum_step (setting assignment.now nodes.now graph.now.graph)) (value_of (expression_of first.now) (setting assignment.now nodes.now graph.now.graph)) rest.now) }
+    ensures { Gives result (counted (fold (sum_step (setting assignment.now nodes.now graph.now.graph)) (value_of (expression_of first.now) (setting assignment.now nodes.now graph.now.graph)) rest.now)) }
 {
-    let mut total = eval(alloc, first, assignment, nodes, graph)?;
+    let mut total = eval_integer(alloc, first, assignment, nodes, graph);
     'terms: for term in rest {
-        let y = eval(alloc, &term.operand, assignment, nodes, graph)?;
-        total = added(alloc, term.sign, &total, &y)?;
+        let y = eval_integer(alloc, &term.operand, assignment, nodes, graph);
+        total = added(term.sign, total, y);
     }
-    Ok(total)
+    total
 }
 
+// The integer of a product.
 #[cycle(eval)]
 fn eval_product(
     alloc: Global,
@@ -154,19 +215,19 @@ fn eval_product(
     assignment: &Assignment,
     nodes: &[u64],
     graph: &Graph,
-) -> Result<List, Missing>
+) -> Result<i128, Missing>
     requires first { IsWithin (length assignment.now.types) (length nodes.now) (expression_of first.now) }
     requires rest { All (λ t. IsWithin (length assignment.now.types) (length nodes.now) (expression_of t.operand)) rest.now }
     requires whole { IsWhole assignment.now }
     requires nodes { AreNodes graph.now.graph nodes.now }
-    ensures { Gives result (fold (product_step (setting assignment.now nodes.now graph.now.graph)) (value_of (expression_of first.now) (setting assignment.now nodes.now graph.now.graph)) rest.now) }
+    ensures { Gives result (counted (fold (product_step (setting assignment.now nodes.now graph.now.graph)) (value_of (expression_of first.now) (setting assignment.now nodes.now graph.now.graph)) rest.now)) }
 {
-    let mut total = eval(alloc, first, assignment, nodes, graph)?;
+    let mut total = eval_integer(alloc, first, assignment, nodes, graph);
     'factors: for factor in rest {
-        let y = eval(alloc, &factor.operand, assignment, nodes, graph)?;
-        total = multiplied(alloc, factor.sign, &total, &y)?;
+        let y = eval_integer(alloc, &factor.operand, assignment, nodes, graph);
+        total = multiplied(factor.sign, total, y);
     }
-    Ok(total)
+    total
 }
 
 #[cycle(eval)]

@@ -1,4 +1,5 @@
-//! The value of an expression at a match, and the truth of a condition: `value` and `holds`.
+//! The value of an expression at a match, and the truth of a condition: `value` and `holds`; and whether there is a value:
+//! `has_value`.
 //!
 //! They are given an assignment in which every variable has its value, the images of the left nodes, and the graph
 //! before the step, and answer what `value_of` and `truth_of` of gp_syntax say, which are what a reader believes: a value,
@@ -8,6 +9,7 @@
 #![tactic(auto)]
 
 mod arithmetic;
+mod comparison;
 mod condition;
 mod denied;
 mod edges;
@@ -17,5 +19,5 @@ mod valued;
 
 pub use condition::holds;
 pub use denied::is_denied;
-pub use expression::value;
+pub use expression::{has_value, value};
 pub use valued::Valued;

@@ -8,7 +8,7 @@ ghost use Rattle.gp_syntax.specs.WellFormed.{IsWithin};
 ghost use Rattle.gp_eval.specs.Answer.{AreNodes, setting};
 ghost use Rattle.gp_match.specs.inside.Faults.{Faults};
 
-use gp_eval::{Valued, value};
+use gp_eval::{Valued, has_value};
 use gp_graph::Graph;
 use gp_syntax::{Assignment, RightEdge, RightNode, RuleParts};
 use std::alloc::Global;
@@ -58,7 +58,7 @@ fn node_faults(
     ensures { Faults result (first_fault (map (λ q. expression_of q.label) right.now) (setting assignment.now nodes.now graph.now.graph)) }
 {
     'labels: for node in right {
-        match value(alloc, &node.label, assignment, nodes, graph) {
+        match has_value(alloc, &node.label, assignment, nodes, graph) {
             Valued::Value(_) => {}
             Valued::NoValue(kind) => return Valued::NoValue(kind),
             Valued::NoMemory => return Valued::NoMemory,
@@ -80,7 +80,7 @@ fn edge_faults(
     ensures { Faults result (first_fault (map (λ q. expression_of q.label) right.now) (setting assignment.now nodes.now graph.now.graph)) }
 {
     'labels: for edge in right {
-        match value(alloc, &edge.label, assignment, nodes, graph) {
+        match has_value(alloc, &edge.label, assignment, nodes, graph) {
             Valued::Value(_) => {}
             Valued::NoValue(kind) => return Valued::NoValue(kind),
             Valued::NoMemory => return Valued::NoMemory,

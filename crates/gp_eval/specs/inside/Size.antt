@@ -1,4 +1,5 @@
--- How large an expression is: what recursion over it takes less of at each call.
+-- How large an expression is: what recursion over it takes less of at each call. An operation counts for the functions
+-- that are called one after another for it.
 use Rattle.std.specs.Prelude.{ℕ, ◌+◌, List, [], ◌∷◌, map}
 use Rattle.gp_syntax.specs.declared.expression.Signed.{Signed}
 use Rattle.gp_syntax.specs.declared.expression.Expr.{Expr}
@@ -19,8 +20,8 @@ operand_sum {Sign} ts = total (map (λ (t : Signed Sign ℕ). t.operand) ts)
 
 abbrev pub size_step : Expr-F ℕ ℕ → ℕ
 size_step (Expr-F.Negated e) = 2 + e
-size_step (Expr-F.Sum e ts) = 2 + e + operand_sum ts
-size_step (Expr-F.Product e ts) = 2 + e + operand_sum ts
+size_step (Expr-F.Sum e ts) = 3 + e + operand_sum ts
+size_step (Expr-F.Product e ts) = 3 + e + operand_sum ts
 size_step (Expr-F.Dot e xs) = 2 + e + total xs
 size_step (Expr-F.Join e xs) = 2 + e + total xs
 size_step other = 1

@@ -112,23 +112,13 @@ pub truth-has_edge_with-requires-clause-target : goal.truth-has_edge_with-requir
 truth-has_edge_with-requires-clause-target t c =
     c.requires.nodes c.in-HasEdgeWith.b 0 (subst (IsConditionWithin (length c.args.assignment.now.types) (length c.args.nodes.now)) (ap (condition_of (pattern_of {M = EdgeMark})) c.in-HasEdgeWith.is ∙ condition_of-HasEdgeWith {R = ℕ} (pattern_of {M = EdgeMark}) c.in-HasEdgeWith.a c.in-HasEdgeWith.b c.in-HasEdgeWith.e c.in-HasEdgeWith.mark) c.requires.within).1
 
-pub truth-eval-requires-in-Compared-clause-within : goal.truth-eval-requires-in-Compared-clause-within
-truth-eval-requires-in-Compared-clause-within t c =
+pub truth-compare-requires-clause-first : goal.truth-compare-requires-clause-first
+truth-compare-requires-clause-first t c =
     (subst (IsConditionWithin (length c.args.assignment.now.types) (length c.args.nodes.now)) (ap (condition_of (pattern_of {M = EdgeMark})) c.in-Compared.is ∙ condition_of-Compared {R = ℕ} (pattern_of {M = EdgeMark}) c.in-Compared.comparison c.in-Compared.d c.in-Compared.e) c.requires.within).0
 
-pub truth-returns-in_err-first-in-Compared : goal.truth-returns-in_err-first-in-Compared
-truth-returns-in_err-first-in-Compared t c =
-    let s = setting c.args.assignment.now c.args.nodes.now c.args.graph.now.graph in
-    rw (c.in-Compared.is, condition_of-Compared {R = ℕ} (pattern_of {M = EdgeMark}) c.in-Compared.comparison c.in-Compared.d c.in-Compared.e) (err_given _ _ _ c.from_residual-in_err-first-in-Compared.ensures.1 (bind_lacks c.in_err-first-in-Compared.field-0.0 _ (λ v. value_of (expression_of c.in-Compared.e) s >>= λ w. Value (compared c.in-Compared.comparison v w)) c.in_err-first-in-Compared.ensures))
-
-pub truth-eval-requires-in-Compared-2-clause-within : goal.truth-eval-requires-in-Compared-2-clause-within
-truth-eval-requires-in-Compared-2-clause-within t c =
+pub truth-compare-requires-clause-second : goal.truth-compare-requires-clause-second
+truth-compare-requires-clause-second t c =
     (subst (IsConditionWithin (length c.args.assignment.now.types) (length c.args.nodes.now)) (ap (condition_of (pattern_of {M = EdgeMark})) c.in-Compared.is ∙ condition_of-Compared {R = ℕ} (pattern_of {M = EdgeMark}) c.in-Compared.comparison c.in-Compared.d c.in-Compared.e) c.requires.within).1
-
-pub truth-returns-in_err-second-in-Compared : goal.truth-returns-in_err-second-in-Compared
-truth-returns-in_err-second-in-Compared t c =
-    let s = setting c.args.assignment.now c.args.nodes.now c.args.graph.now.graph in
-    rw (c.in-Compared.is, condition_of-Compared {R = ℕ} (pattern_of {M = EdgeMark}) c.in-Compared.comparison c.in-Compared.d c.in-Compared.e) (err_given _ _ _ c.from_residual-in_err-second-in-Compared.ensures.1 (second_lacks c.in_err-second-in-Compared.field-0.0 _ _ c.in_ok-first-in-Compared.first (λ v w. Value (compared c.in-Compared.comparison v w)) c.in_ok-first-in-Compared.ensures c.in_err-second-in-Compared.ensures))
 
 pub truth-truth-requires : goal.truth-truth-requires
 truth-truth-requires t c =
@@ -186,10 +176,9 @@ truth-returns-in_ok-list-in-HasEdgeWith t c =
     let s = setting c.args.assignment.now c.args.nodes.now c.args.graph.now.graph in
     rw (c.in-HasEdgeWith.is, condition_of-HasEdgeWith {R = ℕ} (pattern_of {M = EdgeMark}) c.in-HasEdgeWith.a c.in-HasEdgeWith.b c.in-HasEdgeWith.e c.in-HasEdgeWith.mark) (one_tested (λ v. has_edge_with s.graph (image_at s c.in-HasEdgeWith.a) (image_at s c.in-HasEdgeWith.b) v (pattern_of c.in-HasEdgeWith.mark)) _ c.in_ok-list-in-HasEdgeWith.list _ c.in_ok-list-in-HasEdgeWith.ensures c.has_edge_with.ensures)
 
-pub truth-returns-in_ok-second-in-Compared : goal.truth-returns-in_ok-second-in-Compared
-truth-returns-in_ok-second-in-Compared t c =
-    let s = setting c.args.assignment.now c.args.nodes.now c.args.graph.now.graph in
-    rw (c.in-Compared.is, condition_of-Compared {R = ℕ} (pattern_of {M = EdgeMark}) c.in-Compared.comparison c.in-Compared.d c.in-Compared.e) (two_tested (compared c.in-Compared.comparison) _ _ c.in_ok-first-in-Compared.first c.in_ok-second-in-Compared.second _ c.in_ok-first-in-Compared.ensures c.in_ok-second-in-Compared.ensures c.compared.ensures)
+pub truth-returns-in-Compared : goal.truth-returns-in-Compared
+truth-returns-in-Compared t c =
+    rw (c.in-Compared.is, condition_of-Compared {R = ℕ} (pattern_of {M = EdgeMark}) c.in-Compared.comparison c.in-Compared.d c.in-Compared.e) c.compare.ensures
 
 pub truth-returns-in_ok-truth-in-Not : goal.truth-returns-in_ok-truth-in-Not
 truth-returns-in_ok-truth-in-Not t c =
