@@ -120,11 +120,11 @@ pub(crate) fn run_command<R, E: Engine<R>, C: Chooser>(
         }
         Command::Proc(procedure) => {
             let body = &calls.procedures[*procedure as usize];
-            let calls = Calls {
+            let deeper = Calls {
                 procedures: calls.procedures,
                 depth: calls.depth - 1,
             };
-            run_command(rt, calls, body, engine, chooser)
+            run_command(rt, deeper, body, engine, chooser)
         }
     }
 }
@@ -172,7 +172,7 @@ fn run_if<R, E: Engine<R>, C: Chooser>(
     requires then { Fits (E.view engine.old).program (Nests (E.view engine.old).program calls.depth) (command_of branches.then.now) }
     requires otherwise { Fits (E.view engine.old).program (Nests (E.view engine.old).program calls.depth) (command_of branches.otherwise.now) }
     requires no_break { MayBreak (E.view engine.old).program (command_of condition.now) → ⊥ }
-    ensures { HasStopped C.answer C.next result (If (command_of condition.now) (command_of branches.then.now) (command_of branches.otherwise.now)) (E.view engine.old) (E.view engine.new) (C.state chooser.old) (C.state chooser.new) }
+    ensures { HasStopped C.answer C.next result (If (command_of condition.now) (command_of branches.entry.then.now) (command_of branches.entry.otherwise.now)) (E.view engine.old) (E.view engine.new) (C.state chooser.old) (C.state chooser.new) }
 {
     engine.replays();
     let before = match engine.mark(rt) {
@@ -207,7 +207,7 @@ fn run_try<R, E: Engine<R>, C: Chooser>(
     requires then { Fits (E.view engine.old).program (Nests (E.view engine.old).program calls.depth) (command_of branches.then.now) }
     requires otherwise { Fits (E.view engine.old).program (Nests (E.view engine.old).program calls.depth) (command_of branches.otherwise.now) }
     requires no_break { MayBreak (E.view engine.old).program (command_of condition.now) → ⊥ }
-    ensures { HasStopped C.answer C.next result (Try (command_of condition.now) (command_of branches.then.now) (command_of branches.otherwise.now)) (E.view engine.old) (E.view engine.new) (C.state chooser.old) (C.state chooser.new) }
+    ensures { HasStopped C.answer C.next result (Try (command_of condition.now) (command_of branches.entry.then.now) (command_of branches.entry.otherwise.now)) (E.view engine.old) (E.view engine.new) (C.state chooser.old) (C.state chooser.new) }
 {
     engine.replays();
     let before = match engine.mark(rt) {

@@ -11,7 +11,6 @@ pub mod laws;
 mod matched;
 mod mismatch;
 mod pieces;
-mod reading;
 mod text;
 mod trail;
 mod unifier;
