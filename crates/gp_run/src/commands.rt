@@ -63,19 +63,32 @@ fn pick_part<'a, C: Chooser>(
     first
 }
 
-/// Runs a command. At most `depth` procedures nest.
+/// The procedures, of which so many nest at most.
+#[derive(Clone, Copy)]
+pub(crate) struct Calls<'a> {
+    pub procedures: &'a [Command],
+    pub depth: u32,
+}
+
+// What a command goes on with behind its condition.
+#[derive(Clone, Copy)]
+struct Branches<'a> {
+    then: &'a Command,
+    otherwise: &'a Command,
+}
+
+/// Runs a command.
 #[cycle(run)]
 pub(crate) fn run_command<R, E: Engine<R>, C: Chooser>(
     rt: &R,
-    procedures: &[Command],
-    depth: u32,
+    calls: Calls<'_>,
     command: &Command,
     engine: &mut E,
     chooser: &mut C,
 ) -> Stop
     requires ready { (e : E) → E.ready e }
-    requires own { map command_of procedures.now ≡ (E.view engine.old).program.procedures }
-    requires fits { Fits (E.view engine.old).program (Nests (E.view engine.old).program depth) (command_of command.now) }
+    requires own { map command_of calls.procedures.now ≡ (E.view engine.old).program.procedures }
+    requires fits { Fits (E.view engine.old).program (Nests (E.view engine.old).program calls.depth) (command_of command.now) }
     ensures { HasStopped C.answer C.next result (command_of command.now) (E.view engine.old) (E.view engine.new) (C.state chooser.old) (C.state chooser.new) }
 {
     match command {
@@ -84,54 +97,34 @@ pub(crate) fn run_command<R, E: Engine<R>, C: Chooser>(
         Command::Break => Stop::Break,
         Command::Call(call) => stop_after_call(engine.call(rt, *call)),
         Command::Seq(first, rest) => {
-            run_sequence(
-                rt,
-                procedures,
-                depth,
-                first.get(),
-                rest.as_slice(),
-                engine,
-                chooser,
-            )
+            run_sequence(rt, calls, first.get(), rest.as_slice(), engine, chooser)
         }
         Command::If(condition, then, otherwise) => {
-            run_if(
-                rt,
-                procedures,
-                depth,
-                condition.get(),
-                then.get(),
-                otherwise.get(),
-                engine,
-                chooser,
-            )
+            let branches = Branches {
+                then: then.get(),
+                otherwise: otherwise.get(),
+            };
+            run_if(rt, calls, condition.get(), branches, engine, chooser)
         }
         Command::Try(condition, then, otherwise) => {
-            run_try(
-                rt,
-                procedures,
-                depth,
-                condition.get(),
-                then.get(),
-                otherwise.get(),
-                engine,
-                chooser,
-            )
+            let branches = Branches {
+                then: then.get(),
+                otherwise: otherwise.get(),
+            };
+            run_try(rt, calls, condition.get(), branches, engine, chooser)
         }
-        Command::Loop(body) => run_loop(rt, procedures, depth, body.get(), engine, chooser),
+        Command::Loop(body) => run_loop(rt, calls, body.get(), engine, chooser),
         Command::Or(first, rest) => {
             let part = pick_part(first.get(), rest.as_slice(), chooser);
-            run_command(rt, procedures, depth, part, engine, chooser)
+            run_command(rt, calls, part, engine, chooser)
         }
         Command::Proc(procedure) => {
-            run_command(
-                rt,
-                procedures,
-                depth - 1,
-                &procedures[*procedure as usize],
-                engine,
-                chooser,
-            )
+            let body = &calls.procedures[*procedure as usize];
+            let deeper = Calls {
+                procedures: calls.procedures,
+                depth: calls.depth - 1,
+            };
+            run_command(rt, deeper, body, engine, chooser)
         }
     }
 }
@@ -139,25 +132,24 @@ pub(crate) fn run_command<R, E: Engine<R>, C: Chooser>(
 #[cycle(run)]
 fn run_sequence<R, E: Engine<R>, C: Chooser>(
     rt: &R,
-    procedures: &[Command],
-    depth: u32,
+    calls: Calls<'_>,
     first: &Command,
     rest: &[Command],
     engine: &mut E,
     chooser: &mut C,
 ) -> Stop
     requires ready { (e : E) → E.ready e }
-    requires own { map command_of procedures.now ≡ (E.view engine.old).program.procedures }
-    requires first { Fits (E.view engine.old).program (Nests (E.view engine.old).program depth) (command_of first.now) }
-    requires rest { EachFits (E.view engine.old).program (Nests (E.view engine.old).program depth) (map command_of rest.now) }
+    requires own { map command_of calls.procedures.now ≡ (E.view engine.old).program.procedures }
+    requires first { Fits (E.view engine.old).program (Nests (E.view engine.old).program calls.depth) (command_of first.now) }
+    requires rest { EachFits (E.view engine.old).program (Nests (E.view engine.old).program calls.depth) (map command_of rest.now) }
     ensures { HasStopped C.answer C.next result (sequence (command_of first.now) (map command_of rest.now)) (E.view engine.old) (E.view engine.new) (C.state chooser.old) (C.state chooser.new) }
 {
-    match run_command(rt, procedures, depth, first, engine, chooser) {
+    match run_command(rt, calls, first, engine, chooser) {
         Stop::Graph => {}
         stop => return stop,
     }
     'parts: for part in rest {
-        match run_command(rt, procedures, depth, part, engine, chooser) {
+        match run_command(rt, calls, part, engine, chooser) {
             Stop::Graph => {}
             stop => return stop,
         }
@@ -168,35 +160,33 @@ fn run_sequence<R, E: Engine<R>, C: Chooser>(
 #[cycle(run)]
 fn run_if<R, E: Engine<R>, C: Chooser>(
     rt: &R,
-    procedures: &[Command],
-    depth: u32,
+    calls: Calls<'_>,
     condition: &Command,
-    then: &Command,
-    otherwise: &Command,
+    branches: Branches<'_>,
     engine: &mut E,
     chooser: &mut C,
 ) -> Stop
     requires ready { (e : E) → E.ready e }
-    requires own { map command_of procedures.now ≡ (E.view engine.old).program.procedures }
-    requires condition { Fits (E.view engine.old).program (Nests (E.view engine.old).program depth) (command_of condition.now) }
-    requires then { Fits (E.view engine.old).program (Nests (E.view engine.old).program depth) (command_of then.now) }
-    requires otherwise { Fits (E.view engine.old).program (Nests (E.view engine.old).program depth) (command_of otherwise.now) }
+    requires own { map command_of calls.procedures.now ≡ (E.view engine.old).program.procedures }
+    requires condition { Fits (E.view engine.old).program (Nests (E.view engine.old).program calls.depth) (command_of condition.now) }
+    requires then { Fits (E.view engine.old).program (Nests (E.view engine.old).program calls.depth) (command_of branches.then.now) }
+    requires otherwise { Fits (E.view engine.old).program (Nests (E.view engine.old).program calls.depth) (command_of branches.otherwise.now) }
     requires no_break { MayBreak (E.view engine.old).program (command_of condition.now) → ⊥ }
-    ensures { HasStopped C.answer C.next result (If (command_of condition.now) (command_of then.now) (command_of otherwise.now)) (E.view engine.old) (E.view engine.new) (C.state chooser.old) (C.state chooser.new) }
+    ensures { HasStopped C.answer C.next result (If (command_of condition.now) (command_of branches.entry.then.now) (command_of branches.entry.otherwise.now)) (E.view engine.old) (E.view engine.new) (C.state chooser.old) (C.state chooser.new) }
 {
     engine.replays();
     let before = match engine.mark(rt) {
         Ok(before) => before,
         Err(NoMemory) => return Stop::NoMemory,
     };
-    match run_command(rt, procedures, depth, condition, engine, chooser) {
+    match run_command(rt, calls, condition, engine, chooser) {
         Stop::Graph => {
             engine.back_to(rt, before);
-            run_command(rt, procedures, depth, then, engine, chooser)
+            run_command(rt, calls, branches.then, engine, chooser)
         }
         Stop::Fail => {
             engine.back_to(rt, before);
-            run_command(rt, procedures, depth, otherwise, engine, chooser)
+            run_command(rt, calls, branches.otherwise, engine, chooser)
         }
         stop => stop,
     }
@@ -205,32 +195,30 @@ fn run_if<R, E: Engine<R>, C: Chooser>(
 #[cycle(run)]
 fn run_try<R, E: Engine<R>, C: Chooser>(
     rt: &R,
-    procedures: &[Command],
-    depth: u32,
+    calls: Calls<'_>,
     condition: &Command,
-    then: &Command,
-    otherwise: &Command,
+    branches: Branches<'_>,
     engine: &mut E,
     chooser: &mut C,
 ) -> Stop
     requires ready { (e : E) → E.ready e }
-    requires own { map command_of procedures.now ≡ (E.view engine.old).program.procedures }
-    requires condition { Fits (E.view engine.old).program (Nests (E.view engine.old).program depth) (command_of condition.now) }
-    requires then { Fits (E.view engine.old).program (Nests (E.view engine.old).program depth) (command_of then.now) }
-    requires otherwise { Fits (E.view engine.old).program (Nests (E.view engine.old).program depth) (command_of otherwise.now) }
+    requires own { map command_of calls.procedures.now ≡ (E.view engine.old).program.procedures }
+    requires condition { Fits (E.view engine.old).program (Nests (E.view engine.old).program calls.depth) (command_of condition.now) }
+    requires then { Fits (E.view engine.old).program (Nests (E.view engine.old).program calls.depth) (command_of branches.then.now) }
+    requires otherwise { Fits (E.view engine.old).program (Nests (E.view engine.old).program calls.depth) (command_of branches.otherwise.now) }
     requires no_break { MayBreak (E.view engine.old).program (command_of condition.now) → ⊥ }
-    ensures { HasStopped C.answer C.next result (Try (command_of condition.now) (command_of then.now) (command_of otherwise.now)) (E.view engine.old) (E.view engine.new) (C.state chooser.old) (C.state chooser.new) }
+    ensures { HasStopped C.answer C.next result (Try (command_of condition.now) (command_of branches.entry.then.now) (command_of branches.entry.otherwise.now)) (E.view engine.old) (E.view engine.new) (C.state chooser.old) (C.state chooser.new) }
 {
     engine.replays();
     let before = match engine.mark(rt) {
         Ok(before) => before,
         Err(NoMemory) => return Stop::NoMemory,
     };
-    match run_command(rt, procedures, depth, condition, engine, chooser) {
-        Stop::Graph => run_command(rt, procedures, depth, then, engine, chooser),
+    match run_command(rt, calls, condition, engine, chooser) {
+        Stop::Graph => run_command(rt, calls, branches.then, engine, chooser),
         Stop::Fail => {
             engine.back_to(rt, before);
-            run_command(rt, procedures, depth, otherwise, engine, chooser)
+            run_command(rt, calls, branches.otherwise, engine, chooser)
         }
         stop => stop,
     }
@@ -239,15 +227,14 @@ fn run_try<R, E: Engine<R>, C: Chooser>(
 #[cycle(run)]
 fn run_loop<R, E: Engine<R>, C: Chooser>(
     rt: &R,
-    procedures: &[Command],
-    depth: u32,
+    calls: Calls<'_>,
     body: &Command,
     engine: &mut E,
     chooser: &mut C,
 ) -> Stop
     requires ready { (e : E) → E.ready e }
-    requires own { map command_of procedures.now ≡ (E.view engine.old).program.procedures }
-    requires fits { Fits (E.view engine.old).program (Nests (E.view engine.old).program depth) (command_of body.now) }
+    requires own { map command_of calls.procedures.now ≡ (E.view engine.old).program.procedures }
+    requires fits { Fits (E.view engine.old).program (Nests (E.view engine.old).program calls.depth) (command_of body.now) }
     ensures { HasStopped C.answer C.next result (Loop (command_of body.now)) (E.view engine.old) (E.view engine.new) (C.state chooser.old) (C.state chooser.new) }
 {
     if let Command::Call(call) = body {
@@ -264,7 +251,7 @@ fn run_loop<R, E: Engine<R>, C: Chooser>(
             Ok(mark) => mark,
             Err(NoMemory) => return Stop::NoMemory,
         };
-        match run_command(rt, procedures, depth, body, engine, chooser) {
+        match run_command(rt, calls, body, engine, chooser) {
             Stop::Graph => {}
             Stop::Fail => {
                 engine.back_to(rt, mark);

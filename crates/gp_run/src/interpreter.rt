@@ -5,7 +5,7 @@ ghost use Rattle.gp_syntax.specs.Tree.{program_of_tree};
 ghost use Rattle.gp_run.specs.Finished.{HasFinished};
 
 use crate::chooser::Chooser;
-use crate::commands::{Stop, run_command};
+use crate::commands::{Calls, Stop, run_command};
 use crate::engine::Engine;
 use gp_syntax::{NumberKind, Program};
 
@@ -38,14 +38,11 @@ pub fn run<R, E: Engine<R>, C: Chooser>(
     ensures { HasFinished C.answer C.next result (E.view engine.old).program.main (E.view engine.old) (E.view engine.new) (C.state chooser.old) (C.state chooser.new) }
 {
     let parts = program.parts();
-    match run_command(
-        rt,
-        parts.procedures.as_slice(),
-        MOST_CALLS,
-        &parts.main,
-        engine,
-        chooser,
-    ) {
+    let calls = Calls {
+        procedures: parts.procedures.as_slice(),
+        depth: MOST_CALLS,
+    };
+    match run_command(rt, calls, &parts.main, engine, chooser) {
         Stop::Graph => Finish::Graph,
         Stop::Fail => Finish::Fail,
         Stop::Break => unreachable!(),

@@ -25,9 +25,9 @@ run_command-returns-in-Call g t c = rw (c.in-Call.is, command_of-Call, c.stop_af
 
 pub run_command-returns-in-Proc : goal.run_command-returns-in-Proc
 run_command-returns-in-Proc g t c =
-    let body = c.index-procedures-procedure.result in
-    let h = nested_part (g.E.Engine.view c.args.engine.now).program c.args.procedures.now c.args.depth c.in-Proc.procedure body c.args.command.now c.requires.own c.in-Proc.is c.requires.fits c.index-procedures-procedure.is in
-    rw (c.in-Proc.is, command_of-Proc) (leads_stopped g.C.Chooser.answer g.C.Chooser.next c.run_command-in-Proc.result (command_of body) (Procedure c.in-Proc.procedure) _ _ _ _ _ _ (procedure_leads g.C.Chooser.answer g.C.Chooser.next c.in-Proc.procedure (command_of body) _ _ h.is_body) c.run_command-in-Proc.ensures)
+    let body = c.index-calls-procedure.result in
+    let h = nested_part (g.E.Engine.view c.args.engine.now).program c.args.calls.procedures.now c.args.calls.depth c.in-Proc.procedure body c.args.command.now c.requires.own c.in-Proc.is c.requires.fits c.index-calls-procedure.is in
+    rw (c.in-Proc.is, command_of-Proc) (leads_stopped g.C.Chooser.answer g.C.Chooser.next c.run_command-in-Proc.result (command_of body) (Procedure c.in-Proc.procedure) _ _ _ _ _ _ (procedure_leads g.C.Chooser.answer g.C.Chooser.next c.in-Proc.procedure (command_of body) _ _ h.is_body) (rw (← c.index-calls-procedure.is) at c.run_command-in-Proc.ensures))
 
 pub run_if-back_to-requires-clause-live : goal.run_if-back_to-requires-clause-live
 run_if-back_to-requires-clause-live g t c =
@@ -39,15 +39,15 @@ run_if-back_to-requires-in-Fail-clause-live g t c =
 
 pub run_if-returns-in-Graph : goal.run_if-returns-in-Graph
 run_if-returns-in-Graph g t c =
-    leads_stopped g.C.Chooser.answer g.C.Chooser.next c.run_command-in-Graph.result (command_of c.args.then.now) (If (command_of c.args.condition.now) (command_of c.args.then.now) (command_of c.args.otherwise.now)) _ _ _ _ _ _ (if_then_leads g.C.Chooser.answer g.C.Chooser.next _ (command_of c.args.condition.now) (command_of c.args.then.now) (command_of c.args.otherwise.now) _ _ _ _ _ _ c.in-Ok.ensures c.in-Graph.ensures c.back_to.ensures c.replays.ensures) c.run_command-in-Graph.ensures
+    leads_stopped g.C.Chooser.answer g.C.Chooser.next c.run_command-in-Graph.result (command_of c.args.branches.then.now) (If (command_of c.args.condition.now) (command_of c.args.branches.then.now) (command_of c.args.branches.otherwise.now)) _ _ _ _ _ _ (if_then_leads g.C.Chooser.answer g.C.Chooser.next _ (command_of c.args.condition.now) (command_of c.args.branches.then.now) (command_of c.args.branches.otherwise.now) _ _ _ _ _ _ c.in-Ok.ensures c.in-Graph.ensures c.back_to.ensures c.replays.ensures) c.run_command-in-Graph.ensures
 
 pub run_if-returns-in-Fail : goal.run_if-returns-in-Fail
 run_if-returns-in-Fail g t c =
-    leads_stopped g.C.Chooser.answer g.C.Chooser.next c.run_command-in-Fail.result (command_of c.args.otherwise.now) (If (command_of c.args.condition.now) (command_of c.args.then.now) (command_of c.args.otherwise.now)) _ _ _ _ _ _ (if_else_leads g.C.Chooser.answer g.C.Chooser.next _ (command_of c.args.condition.now) (command_of c.args.then.now) (command_of c.args.otherwise.now) _ _ _ _ _ _ c.in-Ok.ensures c.in-Fail.ensures c.back_to-in-Fail.ensures c.replays.ensures) c.run_command-in-Fail.ensures
+    leads_stopped g.C.Chooser.answer g.C.Chooser.next c.run_command-in-Fail.result (command_of c.args.branches.otherwise.now) (If (command_of c.args.condition.now) (command_of c.args.branches.then.now) (command_of c.args.branches.otherwise.now)) _ _ _ _ _ _ (if_else_leads g.C.Chooser.answer g.C.Chooser.next _ (command_of c.args.condition.now) (command_of c.args.branches.then.now) (command_of c.args.branches.otherwise.now) _ _ _ _ _ _ c.in-Ok.ensures c.in-Fail.ensures c.back_to-in-Fail.ensures c.replays.ensures) c.run_command-in-Fail.ensures
 
 pub run_if-returns-in_default : goal.run_if-returns-in_default
 run_if-returns-in_default g t c =
-    if_stops g.C.Chooser.answer g.C.Chooser.next c.run_command.result _ (command_of c.args.condition.now) (command_of c.args.then.now) (command_of c.args.otherwise.now) _ _ _ _ _ c.in_default.not-Graph c.in_default.not-Fail c.requires.no_break c.in-Ok.ensures c.run_command.ensures
+    if_stops g.C.Chooser.answer g.C.Chooser.next c.run_command.result _ (command_of c.args.condition.now) (command_of c.args.branches.then.now) (command_of c.args.branches.otherwise.now) _ _ _ _ _ c.in_default.not-Graph c.in_default.not-Fail c.requires.no_break c.in-Ok.ensures c.run_command.ensures
 
 pub run_loop-turns-init : goal.run_loop-turns-init
 run_loop-turns-init g t c = leads_nowhere _ _ _ _ _
@@ -82,26 +82,26 @@ run_try-back_to-requires-clause-live g t c =
 
 pub run_try-returns-in-Graph : goal.run_try-returns-in-Graph
 run_try-returns-in-Graph g t c =
-    leads_stopped g.C.Chooser.answer g.C.Chooser.next c.run_command-in-Graph.result (command_of c.args.then.now) (Try (command_of c.args.condition.now) (command_of c.args.then.now) (command_of c.args.otherwise.now)) _ _ _ _ _ _ (try_then_leads g.C.Chooser.answer g.C.Chooser.next _ (command_of c.args.condition.now) (command_of c.args.then.now) (command_of c.args.otherwise.now) _ _ _ _ _ c.in-Ok.ensures c.in-Graph.ensures) c.run_command-in-Graph.ensures
+    leads_stopped g.C.Chooser.answer g.C.Chooser.next c.run_command-in-Graph.result (command_of c.args.branches.then.now) (Try (command_of c.args.condition.now) (command_of c.args.branches.then.now) (command_of c.args.branches.otherwise.now)) _ _ _ _ _ _ (try_then_leads g.C.Chooser.answer g.C.Chooser.next _ (command_of c.args.condition.now) (command_of c.args.branches.then.now) (command_of c.args.branches.otherwise.now) _ _ _ _ _ c.in-Ok.ensures c.in-Graph.ensures) c.run_command-in-Graph.ensures
 
 pub run_try-returns-in-Fail : goal.run_try-returns-in-Fail
 run_try-returns-in-Fail g t c =
-    leads_stopped g.C.Chooser.answer g.C.Chooser.next c.run_command-in-Fail.result (command_of c.args.otherwise.now) (Try (command_of c.args.condition.now) (command_of c.args.then.now) (command_of c.args.otherwise.now)) _ _ _ _ _ _ (try_else_leads g.C.Chooser.answer g.C.Chooser.next _ (command_of c.args.condition.now) (command_of c.args.then.now) (command_of c.args.otherwise.now) _ _ _ _ _ _ c.in-Ok.ensures c.in-Fail.ensures c.back_to.ensures c.replays.ensures) c.run_command-in-Fail.ensures
+    leads_stopped g.C.Chooser.answer g.C.Chooser.next c.run_command-in-Fail.result (command_of c.args.branches.otherwise.now) (Try (command_of c.args.condition.now) (command_of c.args.branches.then.now) (command_of c.args.branches.otherwise.now)) _ _ _ _ _ _ (try_else_leads g.C.Chooser.answer g.C.Chooser.next _ (command_of c.args.condition.now) (command_of c.args.branches.then.now) (command_of c.args.branches.otherwise.now) _ _ _ _ _ _ c.in-Ok.ensures c.in-Fail.ensures c.back_to.ensures c.replays.ensures) c.run_command-in-Fail.ensures
 
 pub run_try-returns-in_default : goal.run_try-returns-in_default
 run_try-returns-in_default g t c =
-    try_stops g.C.Chooser.answer g.C.Chooser.next c.run_command.result _ (command_of c.args.condition.now) (command_of c.args.then.now) (command_of c.args.otherwise.now) _ _ _ _ _ c.in_default.not-Graph c.in_default.not-Fail c.requires.no_break c.in-Ok.ensures c.run_command.ensures
+    try_stops g.C.Chooser.answer g.C.Chooser.next c.run_command.result _ (command_of c.args.condition.now) (command_of c.args.branches.then.now) (command_of c.args.branches.otherwise.now) _ _ _ _ _ c.in_default.not-Graph c.in_default.not-Fail c.requires.no_break c.in-Ok.ensures c.run_command.ensures
 
 pub run_command-run_sequence-requires : goal.run_command-run_sequence-requires
 run_command-run_sequence-requires g t c =
     let e : c.args.command.now ≡ form.Seq c.get.result.now c.as_slice.result.now = rw (c.get.ensures, c.as_slice.ensures) c.in-Seq.is in
-    let h = seq_parts _ _ (nested_work c.args.procedures.now c.args.depth) c.args.command.now c.get.result.now c.as_slice.result.now e c.requires.fits in
+    let h = seq_parts _ _ (nested_work c.args.calls.procedures.now c.args.calls.depth) c.args.command.now c.get.result.now c.as_slice.result.now e c.requires.fits in
     search rules
 
 pub run_command-run_command-requires : goal.run_command-run_command-requires
 run_command-run_command-requires g t c =
     let e : c.args.command.now ≡ form.Or c.get-in-Or.result.now c.as_slice-in-Or.result.now = rw (c.get-in-Or.ensures, c.as_slice-in-Or.ensures) c.in-Or.is in
-    let h = or_parts _ _ (nested_work c.args.procedures.now c.args.depth) c.args.command.now c.get-in-Or.result.now c.as_slice-in-Or.result.now e c.requires.fits in
+    let h = or_parts _ _ (nested_work c.args.calls.procedures.now c.args.calls.depth) c.args.command.now c.get-in-Or.result.now c.as_slice-in-Or.result.now e c.requires.fits in
     let k = part_of _ _ _ _ _ _ _ h c.pick_part-part.ensures.part in
     search rules
 
@@ -115,12 +115,12 @@ run_command-returns-in-Or g t c =
     let e : c.args.command.now ≡ form.Or c.get-in-Or.result.now c.as_slice-in-Or.result.now = rw (c.get-in-Or.ensures, c.as_slice-in-Or.ensures) c.in-Or.is in
     rw (e, command_of-Or) (leads_stopped g.C.Chooser.answer g.C.Chooser.next c.run_command.result (command_of c.pick_part-part.result.now) _ _ _ _ _ _ _ (picked_leads g.C.Chooser.answer g.C.Chooser.next c.get-in-Or.result.now c.as_slice-in-Or.result.now c.pick_part-part.result.now _ _ _ c.pick_part-part.ensures) c.run_command.ensures)
 
-pub run_command-bounds-procedures-procedure : goal.run_command-bounds-procedures-procedure
-run_command-bounds-procedures-procedure g t c = procedure_index _ c.args.procedures.now c.args.depth c.in-Proc.procedure c.args.command.now c.requires.own c.in-Proc.is c.requires.fits
+pub run_command-bounds-calls-procedure : goal.run_command-bounds-calls-procedure
+run_command-bounds-calls-procedure g t c = procedure_index _ c.args.calls.procedures.now c.args.calls.depth c.in-Proc.procedure c.args.command.now c.requires.own c.in-Proc.is c.requires.fits
 
 pub run_command-run_command-requires-in-Proc : goal.run_command-run_command-requires-in-Proc
 run_command-run_command-requires-in-Proc g t c =
-    let h = nested_part _ c.args.procedures.now c.args.depth c.in-Proc.procedure c.index-procedures-procedure.result c.args.command.now c.requires.own c.in-Proc.is c.requires.fits c.index-procedures-procedure.is in
+    let h = nested_part _ c.args.calls.procedures.now c.args.calls.depth c.in-Proc.procedure c.index-calls-procedure.result c.args.command.now c.requires.own c.in-Proc.is c.requires.fits c.index-calls-procedure.is in
     search rules
 
 pub run_sequence-returns-in_default : goal.run_sequence-returns-in_default
@@ -131,7 +131,7 @@ run_sequence-run_command-requires-in-parts g t c =
     let program : (g.E.Engine.view c.parts.engine).program ≡ (g.E.Engine.view c.args.engine.now).program = c.parts.invariant.0.makes.adds.program in
     let is = c.part-item.is in
     let fits = fits_at _ _ c.args.rest.now c.parts.part-index c.part-item.result c.parts-test.true c.requires.rest in
-    let less = works_at (nested_work c.args.procedures.now c.args.depth) c.args.rest.now c.parts.part-index c.part-item.result c.parts-test.true in
+    let less = works_at (nested_work c.args.calls.procedures.now c.args.calls.depth) c.args.rest.now c.parts.part-index c.part-item.result c.parts-test.true in
     search rules
 
 pub run_sequence-returns-in_default-run_command : goal.run_sequence-returns-in_default-run_command
@@ -145,30 +145,30 @@ run_loop-returns-in-Call g t c = rw (c.in-Call.is, command_of-Call, c.stop_after
 
 pub run_command-run_if-requires : goal.run_command-run_if-requires
 run_command-run_if-requires g t c =
-    let e : c.args.command.now ≡ form.If c.get-in-If.result.now c.get-in-If-2.result.now c.get-in-If-3.result.now = rw (c.get-in-If.ensures, c.get-in-If-2.ensures, c.get-in-If-3.ensures) c.in-If.is in
-    let h = if_parts _ _ (nested_work c.args.procedures.now c.args.depth) c.args.command.now _ _ _ e c.requires.fits in
+    let e : c.args.command.now ≡ form.If c.get-in-If-3.result.now c.get-in-If.result.now c.get-in-If-2.result.now = rw (c.get-in-If-3.ensures, c.get-in-If.ensures, c.get-in-If-2.ensures) c.in-If.is in
+    let h = if_parts _ _ (nested_work c.args.calls.procedures.now c.args.calls.depth) c.args.command.now _ _ _ e c.requires.fits in
     search rules
 
 pub run_command-returns-in-If : goal.run_command-returns-in-If
 run_command-returns-in-If g t c =
-    let e : c.args.command.now ≡ form.If c.get-in-If.result.now c.get-in-If-2.result.now c.get-in-If-3.result.now = rw (c.get-in-If.ensures, c.get-in-If-2.ensures, c.get-in-If-3.ensures) c.in-If.is in
+    let e : c.args.command.now ≡ form.If c.get-in-If-3.result.now c.get-in-If.result.now c.get-in-If-2.result.now = rw (c.get-in-If-3.ensures, c.get-in-If.ensures, c.get-in-If-2.ensures) c.in-If.is in
     rw (e, command_of-If) c.run_if.ensures
 
 pub run_command-run_try-requires : goal.run_command-run_try-requires
 run_command-run_try-requires g t c =
-    let e : c.args.command.now ≡ form.Try c.get-in-Try.result.now c.get-in-Try-2.result.now c.get-in-Try-3.result.now = rw (c.get-in-Try.ensures, c.get-in-Try-2.ensures, c.get-in-Try-3.ensures) c.in-Try.is in
-    let h = try_parts _ _ (nested_work c.args.procedures.now c.args.depth) c.args.command.now _ _ _ e c.requires.fits in
+    let e : c.args.command.now ≡ form.Try c.get-in-Try-3.result.now c.get-in-Try.result.now c.get-in-Try-2.result.now = rw (c.get-in-Try-3.ensures, c.get-in-Try.ensures, c.get-in-Try-2.ensures) c.in-Try.is in
+    let h = try_parts _ _ (nested_work c.args.calls.procedures.now c.args.calls.depth) c.args.command.now _ _ _ e c.requires.fits in
     search rules
 
 pub run_command-returns-in-Try : goal.run_command-returns-in-Try
 run_command-returns-in-Try g t c =
-    let e : c.args.command.now ≡ form.Try c.get-in-Try.result.now c.get-in-Try-2.result.now c.get-in-Try-3.result.now = rw (c.get-in-Try.ensures, c.get-in-Try-2.ensures, c.get-in-Try-3.ensures) c.in-Try.is in
+    let e : c.args.command.now ≡ form.Try c.get-in-Try-3.result.now c.get-in-Try.result.now c.get-in-Try-2.result.now = rw (c.get-in-Try-3.ensures, c.get-in-Try.ensures, c.get-in-Try-2.ensures) c.in-Try.is in
     rw (e, command_of-Try) c.run_try.ensures
 
 pub run_command-run_loop-requires : goal.run_command-run_loop-requires
 run_command-run_loop-requires g t c =
     let e : c.args.command.now ≡ form.Loop c.get-in-Loop.result.now = rw (c.get-in-Loop.ensures) c.in-Loop.is in
-    let h = loop_part _ _ (nested_work c.args.procedures.now c.args.depth) c.args.command.now _ e c.requires.fits in
+    let h = loop_part _ _ (nested_work c.args.calls.procedures.now c.args.calls.depth) c.args.command.now _ e c.requires.fits in
     search rules
 
 pub run_command-returns-in-Loop : goal.run_command-returns-in-Loop
@@ -178,11 +178,11 @@ run_command-returns-in-Loop g t c =
 
 pub run_command-call-requires : goal.run_command-call-requires
 run_command-call-requires g t c =
-    record { ready = c.requires.ready c.args.engine.now; set = subst (λ (p : meant.Command). Fits (g.E.Engine.view c.args.engine.now).program (Nests (g.E.Engine.view c.args.engine.now).program c.args.depth) p) (ap command_of c.in-Call.is ∙ command_of-Call c.in-Call.call) c.requires.fits }
+    record { ready = c.requires.ready c.args.engine.now; set = subst (λ (p : meant.Command). Fits (g.E.Engine.view c.args.engine.now).program (Nests (g.E.Engine.view c.args.engine.now).program c.args.calls.depth) p) (ap command_of c.in-Call.is ∙ command_of-Call c.in-Call.call) c.requires.fits }
 
 pub run_loop-repeat-requires : goal.run_loop-repeat-requires
 run_loop-repeat-requires g t c =
-    record { ready = c.requires.ready c.args.engine.now; set = subst (λ (p : meant.Command). Fits (g.E.Engine.view c.args.engine.now).program (Nests (g.E.Engine.view c.args.engine.now).program c.args.depth) p) (ap command_of c.in-Call.is ∙ command_of-Call c.in-Call.call) c.requires.fits }
+    record { ready = c.requires.ready c.args.engine.now; set = subst (λ (p : meant.Command). Fits (g.E.Engine.view c.args.engine.now).program (Nests (g.E.Engine.view c.args.engine.now).program c.args.calls.depth) p) (ap command_of c.in-Call.is ∙ command_of-Call c.in-Call.call) c.requires.fits }
 
-pub run_command-overflow_sub-depth : goal.run_command-overflow_sub-depth
-run_command-overflow_sub-depth g t c = positive_depth _ c.args.depth c.in-Proc.procedure c.args.command.now c.in-Proc.is c.requires.fits
+pub run_command-overflow_sub-deeper : goal.run_command-overflow_sub-deeper
+run_command-overflow_sub-deeper g t c = positive_depth _ c.args.calls.depth c.in-Proc.procedure c.args.command.now c.in-Proc.is c.requires.fits
