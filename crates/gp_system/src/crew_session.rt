@@ -150,7 +150,8 @@ impl<'a> CrewSession<'a> {
         let used = given - pursued.left;
         self.had = pursued.items.as_slice().len();
         self.replicas = pursued.replicas;
-        self.session.put_together(pursued.trail, pursued.items, left - used);
+        self.session
+            .put_together(pursued.trail, pursued.items, left - used);
         Ok(pursued.ending)
     }
 

@@ -229,12 +229,7 @@ fn note_but_last_turn(items: &mut Items, entries: Vec<Found>) -> Result<(), NoMe
 
 // Puts the items of the matches that were taken at the end, as many as were used: where none was left for the turn after
 // the last step, that turn is not made.
-fn note_used(
-    items: &mut Items,
-    entries: Vec<Found>,
-    mode: Mode,
-    used: u64,
-) -> Result<(), NoMemory>
+fn note_used(items: &mut Items, entries: Vec<Found>, mode: Mode, used: u64) -> Result<(), NoMemory>
     requires { HasUsed mode entries.items used }
     ensures items { OnOk result (items.new.items ≡ items.old.items ++ take used (noted mode entries.items)) }
     ensures backs { items.new.backs ≡ items.old.backs }

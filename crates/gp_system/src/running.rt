@@ -70,7 +70,7 @@ pub fn execute<C: Chooser, R: Threads + Wait + Sync>(
     paced: PacedCrew<'_>,
     chooser: &mut C,
 ) -> Outcome
-    ensures { HasEnded C.answer C.next (program_of_tree program.now) host.graph paced.crew.bound (C.state chooser.old) (C.state chooser.new) result }
+    ensures { HasEnded C.answer C.next (program_of_tree program.now) host.graph paced.entry.crew.bound (C.state chooser.old) (C.state chooser.new) result }
 {
     let Ok(plans) = plans_of(alloc, program.parts().rules.as_slice()) else {
         return Outcome::NoMemory;

@@ -14,11 +14,11 @@ use Rattle.gp_system.proofs.Pursues.{pursued_put}
 use Rattle.gp_system.proofs.crew_session.CrewSession.pursue_call.Goals as goal
 
 pub pursue_apart-requires-clause-well_formed : goal.pursue_apart-requires-clause-well_formed
-pursue_apart-requires-clause-well_formed g c =
+pursue_apart-requires-clause-well_formed g c κs live =
     subst (λ (rs : List RuleParts). All IsWellFormed (map rule_of_tree rs)) (sym (same_rules c.self.inside.session.program c.self.inside.system c.self.invariant.system)) c.take_apart-trail.ensures.well_formed
 
 pub pursue_apart-requires-clause-way : goal.pursue_apart-requires-clause-way
-pursue_apart-requires-clause-way g c =
+pursue_apart-requires-clause-way g c κs live =
     way_all c.self.inside.session c.self.inside.system c.self.inside.crew.workers c.self.inside.had c.replace-had.result c.self.inside.replicas.items c.replace-replicas.result.items c.take_apart-trail.result.1.items c.take_apart-trail.result.0 c.self.invariant
     (ap (λ (k : Kept). k.items) c.take_apart-trail.ensures.items) c.take_apart-trail.ensures.trail (ap (λ v. v.items) c.replace-replicas.ensures.value) c.replace-had.ensures.value c.take_apart-trail.ensures.of_rules c.take_apart-trail.ensures.well_formed
 
