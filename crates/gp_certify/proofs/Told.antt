@@ -9,7 +9,7 @@ use Rattle.gp_syntax.specs.declared.command.ProgramParts.{ProgramParts}
 use Rattle.gp_syntax.specs.declared.rule.RuleParts.{RuleParts}
 use Rattle.gp_syntax.specs.declared.found.Item as trees
 use Rattle.gp_syntax.specs.Rule.{Rule, Found}
-use Rattle.gp_syntax.specs.Step.{Step}
+use Rattle.gp_syntax.specs.Step.{Step, Blocked}
 use Rattle.gp_syntax.specs.WellFormed.{IsWellFormed}
 use Rattle.gp_syntax.specs.Scoped.{IsScoped}
 use Rattle.gp_syntax.specs.Run.{Item, Stepped, Back, live, Gives, Fails, Run}
@@ -19,11 +19,11 @@ use Rattle.gp_journal.specs.Trail.{Trail}
 use Rattle.gp_certify.specs.declared.end.Outcome.TheVariants as outcome
 use Rattle.gp_certify.specs.Certified.{HasRunTo}
 use Rattle.gp_certify.specs.Places.{between, IsPart, IsTakenBack}
-use Rattle.gp_certify.specs.Parts.{StepsAt}
+use Rattle.gp_certify.specs.Parts.{StepsAt, BlockedAt}
 use Rattle.gp_certify.specs.Laws.{WholeRuns}
 use Rattle.gp_certify.specs.inside.View.{View, IsTape}
 use Rattle.gp_certify.specs.inside.Whole.{HasRun}
-use Rattle.gp_certify.specs.inside.Along.{depth_at, AllGo, AreDepths, IsWalked, BreaksOff}
+use Rattle.gp_certify.specs.inside.Along.{trail_at, depth_at, AllGo, AreDepths, IsWalked, BreaksOff}
 use Rattle.gp_certify.specs.inside.Replay.{Shown, view_of}
 use Rattle.gp_certify.proofs.Replayed.{graphs_of, whole_runs, none_runs}
 use Rattle.gp_certify.proofs.Walks.{no_both, some_same, well_formed_at, replays_at, depth_between}
@@ -83,6 +83,24 @@ pub no_step : (s t : Shown) (c n : ℕ) → t ≡ s → ((m : Found) → slice_g
 no_step s t c n q f =
     subst (λ (z : Shown). (IsTrue false → IsStep z c n) × (IsStep z c n → IsTrue false)) q
     ((λ h. absurd (no_both false refl h)), (λ w. absurd (f w.found w.item)))
+
+-- ---- blocked sets
+
+pub blocked_told : (s t : Shown) (c n : ℕ) (set : List ℕ) (rules : List RuleParts) (at : Trail) (g : Graph) (b : Bool) → t ≡ s → rules ≡ t.program.rules → slice_get t.program.sets c ≡ Some set → at ≡ trail_at (map rule_of_tree rules) t.host (trace_of t) n → g ≡ at.graph
+    → (IsTrue b → Blocked (map rule_of_tree rules) set g) × (Blocked (map rule_of_tree rules) set g → IsTrue b) → (IsTrue b → BlockedAt (program_of_tree s.program) (view_of s).graphs c n) × (BlockedAt (program_of_tree s.program) (view_of s).graphs c n → IsTrue b)
+blocked_told s t c n set rules at g b q e i l f d =
+    let here : g ≡ (view_of t).graphs n = f ∙ ap (λ (x : Trail). x.graph) l ∙ ap (λ (rs : List RuleParts). (trail_at (map rule_of_tree rs) t.host (trace_of t) n).graph) e in
+    let told : (IsTrue b → Blocked (rules_of t) set ((view_of t).graphs n)) × (Blocked (rules_of t) set ((view_of t).graphs n) → IsTrue b) =
+    subst (λ (h : Graph). (IsTrue b → Blocked (rules_of t) set h) × (Blocked (rules_of t) set h → IsTrue b)) here
+    (subst (λ (rs : List RuleParts). (IsTrue b → Blocked (map rule_of_tree rs) set g) × (Blocked (map rule_of_tree rs) set g → IsTrue b)) e d) in
+    subst (λ (z : Shown). (IsTrue b → BlockedAt (program_of_tree z.program) (view_of z).graphs c n) × (BlockedAt (program_of_tree z.program) (view_of z).graphs c n → IsTrue b)) q
+    ((λ h. record { set = set; is_set = i; blocked = told.0 h }), (λ w. told.1 (subst (λ (z : List ℕ). Blocked (rules_of t) z ((view_of t).graphs n)) (some_same (sym w.is_set ∙ i)) w.blocked)))
+
+-- the graph of a trail that stands behind the last item
+pub graph_there : (s t : Shown) (rules : List RuleParts) (at : Trail) (g h : Graph) → t ≡ s → rules ≡ t.program.rules → at ≡ trail_at (map rule_of_tree rules) t.host (trace_of t) (length t.items) → g ≡ at.graph → h ≡ g → h ≡ (view_of s).graphs (length s.items)
+graph_there s t rules at g h q e l f o =
+    subst (λ (z : Shown). h ≡ (view_of z).graphs (length z.items)) q
+    (o ∙ f ∙ ap (λ (x : Trail). x.graph) l ∙ ap (λ (rs : List RuleParts). (trail_at (map rule_of_tree rs) t.host (trace_of t) (length t.items)).graph) e)
 
 -- ---- taking back
 

@@ -87,15 +87,15 @@ pub(crate) fn walk(
     ensures walked { IfOk result (λ o. IfSome o (λ w. IsWalked (map rule_of_tree rules.now) host.now.graph (map item_of items.now) (length items.now) w.depths.items w.trail)) }
     ensures none { IfOk result (λ o. IfNone o (BreaksOff (map rule_of_tree rules.now) host.now.graph (map item_of items.now))) }
 {
+    let mut depths = Vec::with_capacity(alloc, items.len() + 1)?;
+    depths.push_reserved(0);
     let mut trail = Trail::new(alloc, host.copy(alloc)?);
-    let mut depths = Vec::new(alloc);
-    depths.push(0)?;
     for (n, item) in items.iter().enumerate() {
         if !may_go(alloc, rules, item, &trail)? {
             return Ok(None);
         }
         make(rules, item, &mut trail)?;
-        depths.push(trail.depth())?;
+        depths.push_reserved(trail.depth());
     }
     Ok(Some(Walked { depths, trail }))
 }

@@ -20,7 +20,6 @@ use std::marker::Model;
 
 /// A trace of which each item goes, by a program and from a host. The trail stands where it was asked for last. Contracts
 /// see the program, the host and the items.
-#[derive(Drop)]
 pub(crate) struct Replay<'a> {
     program: &'a Program,
     host: &'a Graph,
@@ -28,6 +27,22 @@ pub(crate) struct Replay<'a> {
     depths: Vec<u64>,
     standing: Standing,
     alloc: Global,
+}
+
+// Written, so that a function that lets a replay go calls it.
+impl Drop for Replay<'_> {
+    fn drop(self) {
+        let Replay {
+            program: _,
+            host: _,
+            items: _,
+            depths,
+            standing,
+            alloc: _,
+        } = self;
+        drop(depths);
+        drop(standing);
+    }
 }
 
 impl<'a> Model for Replay<'a> {

@@ -13,7 +13,7 @@ use gp_graph::Graph;
 use gp_memory::NoMemory;
 use gp_reply::Said;
 use gp_syntax::{Name, NumberKind, Program};
-use gp_system::{Crew, Outcome, execute};
+use gp_system::{Crew, Outcome, PacedCrew, execute};
 use opt_worker::Pacing;
 use std::alloc::Global;
 use std::sync::Wait;
@@ -49,7 +49,8 @@ pub(crate) fn run<'a, R: Threads + Wait + Sync>(
     ensures begins { IfOk result (BeginsAt graph.graph) }
 {
     let mut choices = Choices::of_seed(seed);
-    match execute(rt, alloc, program, graph, crew, &mut choices, pace) {
+    let paced = PacedCrew { crew, pace };
+    match execute(rt, alloc, program, graph, paced, &mut choices) {
         Outcome::Graph(journal) => Ok(Said::Graph(journal)),
         Outcome::Fail(journal) => Ok(Said::Fail(journal)),
         Outcome::Bound(_) => Ok(Said::Bound(crew.bound)),

@@ -197,20 +197,27 @@ behind_all s c base trail es replicas legal e f g h =
 rooted_fresh : (t : Trail) → t.caught ≡ 0 → rooted t ≡ fresh (root_of t)
 rooted_fresh t e = ap (λ (n : ℕ). record { graph = root_of t; before = []; caught = n }) e
 
-same_rules : (p : ProgramParts) (gp : RuleSystem) → gp ≡ system_of p gp.further → gp.rules ≡ p.rules
+pub same_rules : (p : ProgramParts) (gp : RuleSystem) → gp ≡ system_of p gp.further → gp.rules ≡ p.rules
 same_rules p gp e = ap (λ (s : RuleSystem). s.rules) e
 
-pub way_all : (v : Shown) (gp : RuleSystem) (workers had m : ℕ) (replicas taken : List Trail) (rules : List RuleParts) (is : List Item) (trail : Trail) → IsCrewed v gp workers replicas had → rules ≡ gp.rules → is ≡ v.journal.items → trail ≡ v.journal.trail → taken ≡ replicas → m ≡ had
-    → IsJournalOf (map rule_of_tree v.program.rules) v.journal → All IsWellFormed (map rule_of_tree v.program.rules) → All (λ t. Leads (map rule_of_tree rules) (items_of (take (length is - m) (drop m is))) t trail) taken
-way_all v gp workers had m replicas taken rules is trail k e f g h i j w =
+pub way_all : (v : Shown) (gp : RuleSystem) (workers had m : ℕ) (replicas taken : List Trail) (is : List Item) (trail : Trail) → IsCrewed v gp workers replicas had → is ≡ v.journal.items → trail ≡ v.journal.trail → taken ≡ replicas → m ≡ had → IsJournalOf (map rule_of_tree v.program.rules) v.journal
+    → All IsWellFormed (map rule_of_tree v.program.rules) → All (λ t. Leads (rules_of gp) (items_of (drop m is)) t trail) taken
+way_all v gp workers had m replicas taken is trail k f g h i j w =
     let one : (t : Trail) → Leads (map rule_of_tree v.program.rules) (take had (items_of v.journal.items)) (fresh (root_of v.journal.trail)) t → Leads (map rule_of_tree v.program.rules) (items_of (drop had v.journal.items)) t v.journal.trail = λ t a.
     way_on (map rule_of_tree v.program.rules) had v.journal.items (fresh (root_of v.journal.trail)) t v.journal.trail w a (subst (λ (x : Trail). Leads (map rule_of_tree v.program.rules) (items_of v.journal.items) x v.journal.trail) (rooted_fresh v.journal.trail k.settled) j) in
     let all : All (λ t. Leads (map rule_of_tree v.program.rules) (items_of (drop had v.journal.items)) t v.journal.trail) replicas = All-weaker (λ t. Leads (map rule_of_tree v.program.rules) (take had (items_of v.journal.items)) (fresh (root_of v.journal.trail)) t) (λ t. Leads (map rule_of_tree v.program.rules) (items_of (drop had v.journal.items)) t v.journal.trail) one replicas k.follow in
-    let cut : take (length is - m) (drop m is) ≡ drop had v.journal.items = whole_drop m is ∙ ap (λ (n : ℕ). drop n is) i ∙ ap (drop had) f in
-    subst (λ (l : List Item). All (λ t. Leads (map rule_of_tree rules) (items_of l) t trail) taken) (sym cut)
-    (subst (λ (x : Trail). All (λ t. Leads (map rule_of_tree rules) (items_of (drop had v.journal.items)) t x) taken) (sym g)
-    (subst (λ (l : List RuleParts). All (λ t. Leads (map rule_of_tree l) (items_of (drop had v.journal.items)) t v.journal.trail) taken) (sym (e ∙ same_rules v.program gp k.system))
+    let cut : drop m is ≡ drop had v.journal.items = ap (λ (n : ℕ). drop n is) i ∙ ap (drop had) f in
+    subst (λ (l : List Item). All (λ t. Leads (rules_of gp) (items_of l) t trail) taken) (sym cut)
+    (subst (λ (x : Trail). All (λ t. Leads (rules_of gp) (items_of (drop had v.journal.items)) t x) taken) (sym g)
+    (subst (λ (l : List RuleParts). All (λ t. Leads (map rule_of_tree l) (items_of (drop had v.journal.items)) t v.journal.trail) taken) (sym (same_rules v.program gp k.system))
     (subst (λ (l : List Trail). All (λ t. Leads (map rule_of_tree v.program.rules) (items_of (drop had v.journal.items)) t v.journal.trail) l) (sym h) all)))
+
+-- the same, over the items that were not had as a part of all
+pub way_missing : (gp : RuleSystem) (rules : List RuleParts) (is js : List Item) (m : ℕ) (trail : Trail) (replicas : List Trail) → rules ≡ gp.rules → js ≡ is → All (λ t. Leads (rules_of gp) (items_of (drop m is)) t trail) replicas
+    → All (λ t. Leads (map rule_of_tree rules) (items_of (take (length js - m) (drop m js))) t trail) replicas
+way_missing gp rules is js m trail replicas e f a =
+    subst (λ (rs : List RuleParts). All (λ t. Leads (map rule_of_tree rs) (items_of (take (length js - m) (drop m js))) t trail) replicas) (sym e)
+    (subst (λ (l : List Item). All (λ t. Leads (rules_of gp) (items_of l) t trail) replicas) (sym (whole_drop m js ∙ ap (drop m) f)) a)
 
 has_used : (s : RuleSystem) (mode : Mode) (es : List Found) (x : Option (Ending Fault)) (used : ℕ) → IsUsed (gp_means s) mode (length es) x used → HasUsed mode es used
 has_used s Once es x used h = h

@@ -1,5 +1,7 @@
 //! How many workers search for the matches of calls, and which calls they are given.
 
+use opt_worker::Pacing;
+
 /// The workers of a run, and its bound. Workers, fan and batch are hints: no result depends on them.
 #[derive(Clone, Copy)]
 pub struct Crew {
@@ -13,4 +15,11 @@ pub struct Crew {
     pub batch: u32,
     /// How many steps and turns may be made.
     pub bound: u64,
+}
+
+/// A crew, and the pace that may hold its workers.
+#[derive(Clone, Copy)]
+pub struct PacedCrew<'a> {
+    pub crew: Crew,
+    pub pace: &'a Pacing,
 }

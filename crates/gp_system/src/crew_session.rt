@@ -13,7 +13,7 @@ ghost use Rattle.gp_system.specs.inside.AfterTurn.{HasGone, still};
 use crate::crew::Crew;
 use crate::goal::{CallGoal, Fault};
 use crate::gp::Gp;
-use crate::pursuit::{Asked, brought, note_used, pursue_goal};
+use crate::pursuit::{Apart, Asked, pursue_apart};
 use crate::session::{AfterTurn, Session};
 use gp_graph::Graph;
 use gp_journal::{Journal, Trail};
@@ -131,24 +131,27 @@ impl<'a> CrewSession<'a> {
         ensures { IfOk result (λ x. HasPursued goal given x self.old self.new) }
     {
         let left = self.session.left();
-        let (trail, mut items) = self.session.take_apart();
+        let (trail, items) = self.session.take_apart();
         let replicas = mem::replace(&mut self.replicas, Vec::new(self.system.allocator()));
         let had = mem::replace(&mut self.had, 0);
-        let missing = &items.as_slice()[had..];
-        let rules = self.system.rules();
-        let there = brought(rules, self.crew.workers, &trail, missing, replicas)?;
+        let apart = Apart {
+            trail,
+            items,
+            replicas,
+            had,
+        };
         let asked = Asked {
             goal,
-            trail,
             left: given,
+            workers: self.crew.workers,
             batch: self.crew.batch,
         };
-        let pursued = pursue_goal(rt, &self.system, asked, there, self.pace)?;
+        let pursued = pursue_apart(rt, &self.system, apart, asked, self.pace)?;
         let used = given - pursued.left;
-        note_used(&mut items, pursued.entries, goal.mode, used)?;
-        self.had = items.as_slice().len();
+        self.had = pursued.items.as_slice().len();
         self.replicas = pursued.replicas;
-        self.session.put_together(pursued.trail, items, left - used);
+        self.session
+            .put_together(pursued.trail, pursued.items, left - used);
         Ok(pursued.ending)
     }
 

@@ -20,7 +20,7 @@ mod seeking;
 mod session;
 pub mod sharing;
 
-pub use crew::Crew;
+pub use crew::{Crew, PacedCrew};
 pub use crew_session::CrewSession;
 pub use goal::{CallGoal, Fault};
 pub use gp::Gp;

@@ -6,7 +6,7 @@ ghost use Rattle.gp_plan.specs.Plan.{plan_of};
 ghost use Rattle.gp_system.specs.Ended.{HasEnded};
 ghost use Rattle.gp_system.specs.inside.Finishing.{outcome_of};
 
-use crate::crew::Crew;
+use crate::crew::PacedCrew;
 use crate::crew_session::CrewSession;
 use crate::outcome::Outcome;
 use crate::session::Session;
@@ -16,7 +16,6 @@ use gp_journal::Journal;
 use gp_plan::{Plan, plans_ask_between, plans_of};
 use gp_run::{Chooser, Finish, run};
 use gp_syntax::Program;
-use opt_worker::Pacing;
 use std::alloc::Global;
 use std::sync::Wait;
 use std::thread::Threads;
@@ -68,20 +67,20 @@ pub fn execute<C: Chooser, R: Threads + Wait + Sync>(
     alloc: Global,
     program: &Program,
     host: Graph,
-    crew: Crew,
+    paced: PacedCrew<'_>,
     chooser: &mut C,
-    pace: &Pacing,
 ) -> Outcome
-    ensures { HasEnded C.answer C.next (program_of_tree program.now) host.graph crew.bound (C.state chooser.old) (C.state chooser.new) result }
+    ensures { HasEnded C.answer C.next (program_of_tree program.now) host.graph paced.entry.crew.bound (C.state chooser.old) (C.state chooser.new) result }
 {
     let Ok(plans) = plans_of(alloc, program.parts().rules.as_slice()) else {
         return Outcome::NoMemory;
     };
     let host = indexed(program, &plans, host);
+    let crew = paced.crew;
     if crew.workers < 2 {
         return execute_alone(alloc, program, &plans, host, crew.bound, chooser);
     }
-    let mut crewed = CrewSession::new(alloc, program, &plans, host, crew, pace);
+    let mut crewed = CrewSession::new(alloc, program, &plans, host, crew, paced.pace);
     let finish = run(rt, program, &mut crewed, chooser);
     outcome(finish, crewed.into_journal())
 }

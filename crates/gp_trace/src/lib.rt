@@ -13,6 +13,7 @@ mod fault;
 pub mod laws;
 mod line;
 mod reader;
+mod sheet;
 mod version;
 mod writer;
 

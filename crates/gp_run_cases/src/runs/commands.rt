@@ -6,7 +6,7 @@ use gp_journal::Journal;
 use gp_reader::read_program;
 use gp_rows::{Answer, Wrong, field, number};
 use gp_syntax::{Item, Program};
-use gp_system::{Crew, Outcome, execute};
+use gp_system::{Crew, Outcome, PacedCrew, execute};
 use opt_worker::Pacing;
 use std::alloc::Global;
 use std::sync::Wait;
@@ -49,8 +49,10 @@ fn run<R: Threads + Wait + Sync>(
         batch: 1,
         bound,
     };
+    let pace = Pacing::Free;
+    let paced = PacedCrew { crew, pace: &pace };
     let mut bits = Bits(number(fields, 2));
-    Ok(execute(rt, alloc, program, host, crew, &mut bits, &Pacing::Free))
+    Ok(execute(rt, alloc, program, host, paced, &mut bits))
 }
 
 fn put_outcome(outcome: Outcome, out: &mut Answer) {

@@ -9,7 +9,7 @@ use gp_journal::{Journal, Trail};
 use gp_reader::read_program;
 use gp_rows::{Answer, Wrong, field, number};
 use gp_syntax::{Program, Rule};
-use gp_system::{Crew, Outcome, execute};
+use gp_system::{Crew, Outcome, PacedCrew, execute};
 use gp_trace::{Version, read_trace, write_trace};
 use opt_worker::Pacing;
 use std::alloc::Global;
@@ -71,7 +71,9 @@ fn journal_of<R: Threads + Wait + Sync>(
     crew: Crew,
 ) -> Result<Option<Journal>, Wrong> {
     let copy = host.copy(alloc)?;
-    match execute(rt, alloc, program, copy, crew, &mut Bits(0), &Pacing::Free) {
+    let pace = Pacing::Free;
+    let paced = PacedCrew { crew, pace: &pace };
+    match execute(rt, alloc, program, copy, paced, &mut Bits(0)) {
         Outcome::Graph(journal) => Ok(Some(journal)),
         _ => Ok(None),
     }

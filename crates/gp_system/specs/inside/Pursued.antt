@@ -9,7 +9,7 @@ use Rattle.gp_syntax.specs.WellFormed.{IsWellFormed}
 use Rattle.gp_step.specs.Laws.{IsNumbered}
 use Rattle.gp_journal.specs.Trail.{Trail, root_of, fresh}
 use Rattle.gp_journal.specs.Leads.{Leads}
-use Rattle.gp_journal.specs.Journal.{items_of}
+use Rattle.gp_journal.specs.Journal.{items_of, Kept}
 use Rattle.gp_system.specs.inside.Noted.{noted}
 use Rattle.gp_run.specs.declared.engine.Called.{Called}
 use Rattle.gp_run.specs.declared.engine.Called.TheVariants as called
@@ -51,6 +51,13 @@ turns_first (m ∷ ms) = items.Turn ∷ items.Step m ∷ turns_first ms
 abbrev pub noted_but_last_turn : List Found → List Item
 noted_but_last_turn [] = []
 noted_but_last_turn (m ∷ ms) = items.Step m ∷ turns_first ms
+
+-- A goal that came to these entries, the items of which, as many as were used, stand behind those before.
+pub record HasMade (system : RuleSystem) (goal : CallGoal) (base : Trail) (given : ℕ) (at : Trail) (left : ℕ) (x : Ending Fault) (before after : Kept) : Type 0 where
+  pub entries : List Found
+  pub pursued : IsPursued system goal base given at entries left x
+  pub items : after.items ≡ before.items ++ take (given - left) (noted goal.mode entries)
+  pub backs : after.backs ≡ before.backs
 
 -- the rules and sets of a program, with so many shares besides one
 abbrev pub system_of : ProgramParts → ℕ → RuleSystem

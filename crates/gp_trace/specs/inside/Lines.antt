@@ -14,11 +14,6 @@ spaced words = flat_map (λ (w : List ℕ). 32 ∷ w) words
 abbrev pub item_lines : List Item → List ℕ
 item_lines items = flat_map item_line items
 
--- what was there, with something behind it
-pub record AddsBehind (before after : List ℕ) : Type 0 where
-  pub piece : List ℕ
-  pub after_is : after ≡ before ++ piece
-
 -- no line feed
 abbrev pub IsFeedless : List ℕ → Type 0
 IsFeedless text = All (λ b. (b == 10) ≡ false) text

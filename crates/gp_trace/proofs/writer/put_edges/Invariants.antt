@@ -1,13 +1,14 @@
-use Rattle.std.proofs.Common.{◌≡◌, ◌++◌, map, take}
+use Rattle.std.proofs.Common.{map, take}
 use Rattle.std.specs.Prelude.{All}
 use Rattle.gp_syntax.specs.declared.found.EdgeImage.{EdgeImage}
 use Rattle.gp_trace.specs.TraceText.{image_word}
 use Rattle.gp_trace.specs.Reading.{IsNumber}
 use Rattle.gp_trace.specs.inside.Lines.{spaced}
-use Rattle.gp_trace.proofs.writer.write_edges.Given as goal
+use Rattle.gp_trace.specs.inside.Puts.{Puts}
+use Rattle.gp_trace.proofs.writer.put_edges.Given as goal
 
 abbrev pub invariant-loop-edge : goal.invariant-loop-edge
 invariant-loop-edge l = record {
-  text : l.text.items ≡ l.initial.text.items ++ spaced (map image_word (take l.edge-index l.edges));
+  text : Puts l.initial.sheet l.sheet (spaced (map image_word (take l.edge-index l.edges)));
   held : All (λ (i : EdgeImage). IsNumber i.number) (take l.edge-index l.edges);
 }
