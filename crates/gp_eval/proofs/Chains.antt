@@ -21,7 +21,7 @@ use Rattle.gp_eval.specs.inside.Compared.{IsListed}
 use Rattle.gp_syntax.specs.WellFormed.{IsWithin}
 use Rattle.gp_eval.specs.declared.valued.Missing.{Missing}
 use Rattle.gp_eval.specs.declared.valued.Missing.TheVariants as missing
-use Rattle.gp_eval.specs.inside.Chains.{Values, Lacks, Gives, counted, listed, opposite, by_integers, added, multiplied, sum_step, product_step, dot_step, join_step}
+use Rattle.gp_eval.specs.inside.Chains.{Values, Lacks, Gives, counted, opposite, by_integers, added, multiplied, sum_step, product_step, dot_step, join_step}
 use Rattle.gp_eval.specs.inside.Size.{total, size_step, size, sizes, operand_sizes}
 
 module _ {X : Type 0} (val : X → Values) (f : X → List Atom → List Atom → Values) where

@@ -110,11 +110,5 @@ module _ (f : Bool → Tree → Valued Bool) where
 
 -- ---- tests of values
 
-pub second_lacks : {X Y Z : Type 0} (e : Missing) (v : Valued X) (w : Valued Y) (x : X) (f : X → Y → Valued Z) → v ≡ Value x → Lacks e w → Lacks e (v >>= λ a. w >>= λ b. f a b)
-second_lacks e v w x f h k = subst (λ z. Lacks e (z >>= λ a. w >>= λ b. f a b)) (sym h) (bind_lacks e w (λ b. f x b) k)
-
 pub one_tested : {X : Type 0} (f : X → Bool) (v : Valued X) (x : X) (r : Bool) → v ≡ Value x → r ≡ f x → (v >>= λ a. Value (f a)) ≡ Value r
 one_tested f v x r h k = ap (λ z. z >>= λ a. Value (f a)) h ∙ ap (λ z. Value z) (sym k)
-
-pub two_tested : {X Y : Type 0} (f : X → Y → Bool) (v : Valued X) (w : Valued Y) (x : X) (y : Y) (r : Bool) → v ≡ Value x → w ≡ Value y → r ≡ f x y → (v >>= λ a. w >>= λ b. Value (f a b)) ≡ Value r
-two_tested f v w x y r h k e = ap (λ z. z >>= λ a. w >>= λ b. Value (f a b)) h ∙ ap (λ z. z >>= λ b. Value (f x b)) k ∙ ap (λ z. Value z) (sym e)

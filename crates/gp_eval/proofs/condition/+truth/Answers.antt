@@ -1,15 +1,15 @@
 use Rattle.std.proofs.Common.{rules, ◌≡◌, ℕ, ◌+◌, ◌≤◌, Bool, true, false, not, if◌then◌else◌, length, drop, fold, refl, sym, ap, subst, ◌∙◌}
 use Rattle.gp_values.specs.declared.marks.EdgeMark.{EdgeMark}
-use Rattle.gp_syntax.specs.Tree.{expression_of, condition_of, pattern_of}
-use Rattle.gp_syntax.specs.Truth.{truth_of, compared, has_edge_with}
-use Rattle.gp_syntax.specs.Value.{Value, ◌>>=◌, value_of, is_of, image_at}
+use Rattle.gp_syntax.specs.Tree.{condition_of, pattern_of}
+use Rattle.gp_syntax.specs.Truth.{truth_of, has_edge_with}
+use Rattle.gp_syntax.specs.Value.{Value, is_of, image_at}
 use Rattle.gp_syntax.specs.WellFormed.{IsConditionWithin}
 use Rattle.gp_syntax.proofs.Trees.{condition_of-HasType, condition_of-HasEdge, condition_of-HasEdgeWith, condition_of-Compared, condition_of-Not, condition_of-And, condition_of-Or}
 use Rattle.gp_eval.specs.Answer.{setting}
 use Rattle.gp_eval.specs.inside.Chains.{Lacks, and_step, or_step}
 use Rattle.gp_eval.specs.inside.Size.{condition_size, condition_sizes}
 use Rattle.gp_eval.proofs.Chains.{err_given, bind_lacks}
-use Rattle.gp_eval.proofs.Conditions.{Tree, ands_are, ors_are, within_ands, within_ors, condition_size-Not, condition_size-And, condition_size-Or, condition_size_at, part_on, part_lacks, parts_end, first_part_lacks, decided, second_lacks, one_tested, two_tested}
+use Rattle.gp_eval.proofs.Conditions.{Tree, ands_are, ors_are, within_ands, within_ors, condition_size-Not, condition_size-And, condition_size-Or, condition_size_at, part_on, part_lacks, parts_end, first_part_lacks, decided, one_tested}
 use Rattle.gp_eval.proofs.condition.+truth.Goals as goal
 
 pub all_true-returns-in_err-holds : goal.all_true-returns-in_err-holds

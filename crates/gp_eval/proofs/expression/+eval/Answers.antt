@@ -1,4 +1,4 @@
-use Rattle.std.proofs.Common.{rules, ◌≡◌, ℕ, ◌+◌, ◌≤◌, [], ◌∷◌, ◌++◌, length, fold, refl, sym, ap, subst, ◌∙◌, neg_ℤ}
+use Rattle.std.proofs.Common.{rules, ◌≡◌, ℕ, ◌+◌, ◌≤◌, [], ◌∷◌, ◌++◌, length, fold, refl, sym, ap, subst, ◌∙◌}
 use mir.Val.{SFits}
 use mir.Syntax.{w128}
 use Rattle.std.proofs.lemmas.Int.{to_z-of_z}
@@ -8,9 +8,9 @@ use Rattle.gp_syntax.specs.Value.{Value, value_of, number, characters}
 use Rattle.gp_syntax.specs.WellFormed.{IsWithin}
 use Rattle.gp_syntax.proofs.Trees.{expression_of-Number, expression_of-Text, expression_of-Variable, expression_of-InDegree, expression_of-OutDegree, expression_of-Length, expression_of-Empty, expression_of-Negated, expression_of-Sum, expression_of-Product, expression_of-Dot, expression_of-Join}
 use Rattle.gp_eval.specs.Answer.{setting}
-use Rattle.gp_eval.specs.inside.Chains.{Gives, listed, added, multiplied, sum_step, product_step, dot_step, join_step}
+use Rattle.gp_eval.specs.inside.Chains.{Gives, listed, added, multiplied, dot_step, join_step}
 use Rattle.gp_eval.specs.inside.Size.{size, sizes, operand_sizes}
-use Rattle.gp_eval.proofs.Chains.{operand_lacks, step_lacks, first_lacks, one_more, none_left, sum_listed, product_listed, negated_counted, negated_listed, some_left, sum_is, product_is, dots_are, joins_are, within_sum, within_product, within_dots, within_joins, size-Negated, size-Sum, size-Product, size-Dot, size-Join, size_at, operand_size_at, err_given, memory_given, bind_lacks, ended, dot_first, dot_on, join_on, empty_fold, not_empty}
+use Rattle.gp_eval.proofs.Chains.{operand_lacks, step_lacks, first_lacks, one_more, none_left, sum_listed, product_listed, negated_counted, negated_listed, some_left, sum_is, product_is, dots_are, joins_are, within_sum, within_product, within_dots, within_joins, size-Negated, size-Sum, size-Product, size-Dot, size-Join, size_at, operand_size_at, err_given, memory_given, ended, dot_first, dot_on, join_on, empty_fold, not_empty}
 use Rattle.gp_eval.proofs.expression.+eval.Goals as goal
 
 pub eval-returns-in-Number : goal.eval-returns-in-Number
