@@ -1,4 +1,4 @@
-use Rattle.std.proofs.Common.{rules, ◌≡◌, ◌∙◌, ℕ, ◌+◌, ◌<◌, ◌≤◌, List, length, slice_get, slice_index_or, Some, Contains, true, false, refl, sym, ap, subst, arith}
+use Rattle.std.proofs.Common.{◌≡◌, ◌∙◌, ℕ, ◌+◌, ◌<◌, ◌≤◌, List, length, slice_get, slice_index_or, Some, Contains, true, false, refl, sym, ap, subst, arith}
 use Rattle.std.proofs.lemmas.Option.{slice_get_within}
 use Rattle.gp_syntax.specs.Run.{Command, Program}
 use Rattle.gp_syntax.specs.Run as meant
@@ -44,13 +44,16 @@ ends_of-returns-clause-same g t c = c.fresh_ends.ensures.same
 pub ends_of-returns-clause-ends : goal.ends_of-returns-clause-ends
 ends_of-returns-clause-ends g t c = c.in_ok-found.ensures.ends
 
+pub ends_of-fresh_ends-requires : goal.ends_of-fresh_ends-requires
+ends_of-fresh_ends-requires g t c = λ κs live. (omega arith, (live, (c.requires.tape, (c.requires.code, (c.requires.node, (c.requires.place, c.requires.memory))))))
+
 pub fresh_ends-call_ends-requires-clause-set : goal.fresh_ends-call_ends-requires-clause-set
 fresh_ends-call_ends-requires-clause-set g t c = (c.requires.code.1 c.args.node (node.Call c.in-Call.call) (node_is c.args.code.now c.args.node _ _ c.requires.node c.in-Call.is)).1
 
 pub fresh_ends-loop_ends-requires : goal.fresh_ends-loop_ends-requires
 fresh_ends-loop_ends-requires g t c =
     let shape : slice_get c.args.code.now c.args.node ≡ Some (node.Loop c.in-Loop.body) = node_is c.args.code.now c.args.node _ _ c.requires.node c.in-Loop.is in
-    search rules
+    λ κs live. (omega arith, (live, (c.requires.tape, (c.requires.code, (shape, (c.requires.place, c.requires.memory))))))
 
 pub fresh_ends-ends_of-requires : goal.fresh_ends-ends_of-requires
 fresh_ends-ends_of-requires g t c =
@@ -58,7 +61,7 @@ fresh_ends-ends_of-requires g t c =
     let less : c.in-Or.first < c.args.node = h.1 in
     let n = c.requires.node in
     let first : c.in-Or.first < length c.args.code.now = omega arith in
-    search rules
+    λ κs live. (omega arith, (live, (c.requires.tape, (c.requires.code, (first, (c.requires.place, c.requires.memory))))))
 
 pub fresh_ends-ends_of-requires-in-Or : goal.fresh_ends-ends_of-requires-in-Or
 fresh_ends-ends_of-requires-in-Or g t c =
@@ -71,7 +74,7 @@ fresh_ends-ends_of-requires-in-Or g t c =
     let code = code_at c.args.code.now same c.requires.code in
     let place = place_at same c.requires.place in
     let memory = memory_at c.args.code.now c.ends_of.new.memory.found same c.ends_of.ensures.memory in
-    search rules
+    λ κs live. (omega arith, (live, (tape, (code, (second, (place, memory))))))
 
 pub fresh_ends-ends_of-requires-in-Proc : goal.fresh_ends-ends_of-requires-in-Proc
 fresh_ends-ends_of-requires-in-Proc g t c =
@@ -79,13 +82,13 @@ fresh_ends-ends_of-requires-in-Proc g t c =
     let less : c.in-Proc.body < c.args.node = h.2 in
     let n = c.requires.node in
     let body : c.in-Proc.body < length c.args.code.now = omega arith in
-    search rules
+    λ κs live. (omega arith, (live, (c.requires.tape, (c.requires.code, (body, (c.requires.place, c.requires.memory))))))
 
 pub fresh_ends-first_ends-requires : goal.fresh_ends-first_ends-requires
 fresh_ends-first_ends-requires g t c =
     let shape = slice_index_or c.args.code.now c.args.node (node.Call 0) in
     let first : HasFirst c.args.code.now c.args.node c.in-Seq.first = first_of_three c.args.code.now c.args.node shape c.in-Seq.first (node_is c.args.code.now c.args.node (node.Call 0) shape c.requires.node refl) c.in-Seq.is in
-    search rules
+    λ κs live. (omega arith, (live, (c.requires.tape, (c.requires.code, (first, (c.requires.place, c.requires.memory))))))
 
 pub fresh_ends-returns-in-Call-clause-ends : goal.fresh_ends-returns-in-Call-clause-ends
 fresh_ends-returns-in-Call-clause-ends g t c = if_ok c.call_ends.result _ _ c.call_ends.ensures.ends (λ es a cs h. same_ends (g.T.Tape.view c.args.tape.now) _ _ c.args.place _ (h c.args.node (node.Call c.in-Call.call) (node_is c.args.code.now c.args.node _ _ c.requires.node c.in-Call.is)).0 a)
@@ -152,7 +155,7 @@ first_ends-ends_of-requires g t c =
     let less : c.args.first < c.args.node = first_less (g.T.Tape.view c.args.tape.now).program c.args.code.now c.args.node c.args.first c.requires.code c.requires.first in
     let within : c.args.node < length c.args.code.now = first_within c.args.code.now c.args.node c.args.first c.requires.first in
     let first : c.args.first < length c.args.code.now = omega arith in
-    search rules
+    λ κs live. (omega arith, (live, (c.requires.tape, (c.requires.code, (first, (c.requires.place, c.requires.memory))))))
 
 pub first_ends-way_ends-requires : goal.first_ends-way_ends-requires
 first_ends-way_ends-requires g t c =
@@ -168,7 +171,7 @@ first_ends-way_ends-requires g t c =
     let here : Contains c.in_ok-firsts.firsts.items z = subst (λ (l : List End). Contains l z) c.deref-end-items.ensures.value (Contains-get_or c.deref-end-items.result.now c.firsts.end-index _ c.firsts-test.true) in
     let part : IsPart (g.T.Tape.view c.firsts.tape).trace c.args.place z.place = part_at same (part_of v c.requires.tape (at c.requires.code.0 c.args.first) c.args.place z ((c.in_ok-firsts.ensures.ends c.requires.code.0 c.requires.code.1).sound z here)) in
     let bound : above c.way_of-way.result ≤ length c.args.code.now = omega arith in
-    search rules
+    λ κs live. (omega arith, (live, (tape, (code, (bound, (part, memory))))))
 
 pub first_ends-firsts-preserved : goal.first_ends-firsts-preserved
 first_ends-firsts-preserved g t c = firsts_more (g.T.Tape.view c.args.tape.now) (g.T.Tape.view c.firsts.tape) (g.T.Tape.view c.way_ends.new.tape) c.args.code.now c.way_ends.new.memory.found _ c.args.place c.deref-end-items.result.now c.firsts.end-index _ c.firsts.found.items c.put_ends.new.ends.items c.deref.result.now _ _ c.way_of-way.result c.firsts.memory.found c.firsts-test.true c.firsts.invariant refl c.way_of-way.ensures c.way_ends.ensures.same c.way_ends.ensures.memory (rw c.deref.ensures.value c.in_ok-more.ensures.ends) c.in_ok-put_ends.ensures
@@ -263,7 +266,7 @@ loop_ends-turn_ends-requires g t c =
     let within : c.args.node < length c.args.code.now = slice_get_within c.args.code.now c.args.node (node.Loop c.args.body) c.requires.shape in
     let less : c.args.body < c.args.node = (loop_means (g.T.Tape.view c.args.tape.now) c.args.code.now c.requires.code.0 c.args.node c.args.body c.requires.shape c.requires.code.1).1 in
     let body : c.args.body < length c.args.code.now = omega arith in
-    search rules
+    λ κs live. (omega arith, (live, (tape, (code, (body, (l, memory))))))
 
 pub loop_ends-turns-smaller : goal.loop_ends-turns-smaller
 loop_ends-turns-smaller g t c =
