@@ -4,11 +4,12 @@ ghost use Rattle.gp_gen.specs.Host.{IsSize};
 ghost use Rattle.gp_words.specs.Told.{demo_now};
 ghost use Rattle.gp_cli.specs.inside.Parts.{MakesBoth, SaysOfRun, RunsDemo};
 
+use crate::parsed::both_of;
 use crate::run::run;
+use crate::said::{Said, Stop};
 use gp_gen::generate;
 use gp_graph::Graph;
 use gp_memory::NoMemory;
-use gp_reply::{Said, Stop, both_of};
 use gp_syntax::Program;
 use gp_system::Crew;
 use gp_words::DemoCommand;

@@ -4,14 +4,14 @@ ghost use Rattle.std.specs.Prelude.{◌≡◌, ◌<◌, length, slice_get, Some,
 ghost use Rattle.gp_syntax.specs.Tree.{program_of_tree};
 ghost use Rattle.gp_cli.specs.Answer.{Comes};
 ghost use Rattle.gp_values.specs.Names.{Name as AnyName};
-ghost use Rattle.gp_reply.specs.Texts.{number_fault as number_said};
-ghost use Rattle.gp_reply.specs.Loads.{names_of};
-ghost use Rattle.gp_reply.specs.Said.{said_of, HasJournal, BeginsAt};
+ghost use Rattle.gp_cli.specs.Texts.{number_fault as number_said};
+ghost use Rattle.gp_cli.specs.Loads.{names_of};
+ghost use Rattle.gp_cli.specs.Said.{said_of, HasJournal, BeginsAt};
 
 use crate::choices::Choices;
+use crate::said::Said;
 use gp_graph::Graph;
 use gp_memory::NoMemory;
-use gp_reply::Said;
 use gp_syntax::{Name, NumberKind, Program};
 use gp_system::{Crew, Outcome, execute};
 use opt_worker::Pacing;

@@ -3,9 +3,10 @@
 ghost use Rattle.gp_words.specs.Told.{step_now};
 ghost use Rattle.gp_cli.specs.inside.Parts.{StepsFiles};
 
+use crate::files::{load_both, load_script};
 use crate::run::run;
+use crate::said::{Said, Stop, or_stopped};
 use gp_io::Files;
-use gp_reply::{Said, Stop, load_both, load_script, or_stopped};
 use gp_system::Crew;
 use gp_words::StepCommand;
 use opt_worker::Pacing;
