@@ -1,11 +1,11 @@
-use Rattle.std.proofs.Common.{◌≡◌, ◌∙◌, ◌+◌, Some, ap, arith, length}
+use Rattle.std.proofs.Common.{◌∙◌, Some, ap, arith, length}
 use Rattle.std.proofs.lemmas.List.{length_push}
 use Rattle.std.proofs.lemmas.List.Elements.{All-pop}
 use Rattle.std.proofs.lemmas.Grind.{common_steps}
 use Rattle.opt_gate.specs.Pass.{start_of}
-use Rattle.opt_crew.specs.inside.Jobs.{IsBack}
-use Rattle.opt_crew.proofs.Joined.{joined_of, follow_more}
-use Rattle.opt_crew.proofs.crew.gather.Goals as goal
+use Rattle.opt_worker.specs.inside.Jobs.{IsBack}
+use Rattle.opt_worker.proofs.Joined.{joined_of, follow_more}
+use Rattle.opt_worker.proofs.crew.gather.Goals as goal
 
 pub loop-other-preserved : goal.loop-other-preserved
 loop-other-preserved g c =

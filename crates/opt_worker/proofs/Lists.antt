@@ -5,7 +5,7 @@ use Rattle.std.proofs.lemmas.List.{drop_all}
 use Rattle.std.proofs.lemmas.List.Elements.{All-nil, All-append, All-same, All-take}
 use Rattle.opt_system.specs.Meaning.{Meaning, applies}
 use Rattle.opt_core.specs.Core.{reached, AllApply}
-use Rattle.opt_crew.specs.Entries.{AreSteps}
+use Rattle.opt_worker.specs.Entries.{AreSteps}
 use Rattle.opt_worker.specs.Replica.{IsReplica}
 
 -- what was written into a whole vector

@@ -3,8 +3,8 @@ use Rattle.std.specs.List.{All}
 use Rattle.opt_core.specs.declared.event.Ending.{Ending}
 use Rattle.opt_gate.specs.Pass.{IsPassOf, start_of}
 use Rattle.opt_worker.specs.Replica.{IsReplica}
-use Rattle.opt_crew.specs.inside.Jobs.{IsBack}
-use Rattle.opt_crew.proofs.crew.gather.Given as goal
+use Rattle.opt_worker.specs.inside.Jobs.{IsBack}
+use Rattle.opt_worker.proofs.crew.gather.Given as goal
 
 abbrev pub invariant-loop-other : goal.invariant-loop-other
 invariant-loop-other g l =

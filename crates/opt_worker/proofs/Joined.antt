@@ -1,7 +1,7 @@
 -- Jobs that are made of a pass, and what comes back of them.
-use Rattle.std.proofs.Common.{◌≡◌, ◌+◌, ◌≤◌, ℕ, List, [], ◌∷◌, ◌++◌, Some, length, take, refl, sym, ap, ◌∙◌, subst, arith}
+use Rattle.std.proofs.Common.{◌≡◌, ℕ, List, [], ◌∷◌, ◌++◌, length, take, sym, ap, ◌∙◌, arith}
 use Rattle.std.specs.List.{All}
-use Rattle.std.proofs.lemmas.List.{length-append, take-append-le}
+use Rattle.std.proofs.lemmas.List.{length-append}
 use Rattle.std.proofs.lemmas.List.Elements.{All-push, All-weaker, All-same}
 use Rattle.opt_system.specs.Meaning.{Meaning}
 use Rattle.opt_core.specs.Core.{Core, reached}
@@ -10,8 +10,9 @@ use Rattle.opt_gate.specs.Lists.{StartsWith}
 use Rattle.opt_gate.specs.Pass.{PassView, GateView, IsPassOf, start_of, pass_after_split, new_pass, joined_pass}
 use Rattle.opt_gate.specs.Turn.{entries_told}
 use Rattle.opt_worker.specs.Replica.{IsReplica}
-use Rattle.opt_crew.specs.Entries.{AreSteps}
-use Rattle.opt_crew.specs.inside.Jobs.{IsReady}
+use Rattle.opt_worker.specs.Entries.{AreSteps}
+use Rattle.opt_worker.specs.inside.Jobs.{IsReady}
+use Rattle.opt_worker.proofs.Replicas.{replica_further}
 
 module _ {K F R : Type 0} where
   -- what is left of a split is of the same gate
@@ -32,21 +33,12 @@ module _ {System State Found Goal Reason : Type 0} (m : Meaning State Found Goal
   )
 
 module _ {State Found Goal Reason : Type 0} (m : Meaning State Found Goal Reason) where
-  -- what is known grows
-  further : (base : State) (before now : List Found) → StartsWith now before → (at : State) → IsReplica m base before at → IsReplica m base now at
-  further base before now s at r = subst (λ (es : List Found). IsReplica m base es at) (sym s.1) (record {
-    count = r.count;
-    few = let e = length-append before s.0 in let f = r.few in omega arith;
-    is = r.is ∙ ap (λ (es : List Found). reached m base es) (sym (take-append-le r.count before s.0 r.few));
-    deep = r.deep;
-  })
-
   -- one replica more, and what is known grows
   pub follow_more : (base : State) (before other now : List Found) (ats new : List State) (at : State) → StartsWith now before → StartsWith now other
       → new ≡ ats ++ at ∷ [] → All (λ x. IsReplica m base before x) ats → IsReplica m base other at → All (λ x. IsReplica m base now x) new
   follow_more base before other now ats new at s t is all one =
       All-same (λ x. IsReplica m base now x) new (ats ++ at ∷ []) is
-      (All-push (λ x. IsReplica m base now x) ats at (All-weaker (λ x. IsReplica m base before x) (λ x. IsReplica m base now x) (further base before now s) ats all) (further base other now t at one))
+      (All-push (λ x. IsReplica m base now x) ats at (All-weaker (λ x. IsReplica m base before x) (λ x. IsReplica m base now x) (λ x r. replica_further m base x before now s r) ats all) (replica_further m base at other now t one))
 
   -- no entries are steps
   pub no_steps : (goal : Goal) (base : State) (entries : List Found) → entries ≡ [] → AreSteps m goal base entries

@@ -1,8 +1,8 @@
 use Rattle.std.proofs.Common.{◌≡◌, ◌+◌, vec_len, vec_capacity}
 use Rattle.std.specs.List.{All}
 use Rattle.opt_gate.specs.Pass.{IsPassOf, start_of}
-use Rattle.opt_crew.specs.inside.Jobs.{IsReady}
-use Rattle.opt_crew.proofs.crew.divide.Given as goal
+use Rattle.opt_worker.specs.inside.Jobs.{IsReady}
+use Rattle.opt_worker.proofs.crew.divide.Given as goal
 
 abbrev pub invariant-loop-state : goal.invariant-loop-state
 invariant-loop-state g l =

@@ -1,11 +1,11 @@
-use Rattle.std.proofs.Common.{◌≡◌, ◌∙◌, ◌+◌, Some, ap, arith, length}
+use Rattle.std.proofs.Common.{◌≡◌, ◌∙◌, Some, ap, arith, length}
 use Rattle.std.proofs.lemmas.List.{length_push}
 use Rattle.std.proofs.lemmas.List.Elements.{All-pop, All-push, All-same}
 use Rattle.std.proofs.lemmas.Grind.{common_steps}
 use Rattle.opt_gate.specs.Pass.{start_of}
-use Rattle.opt_crew.specs.inside.Jobs.{IsReady}
-use Rattle.opt_crew.proofs.Joined.{left_of, ready_one}
-use Rattle.opt_crew.proofs.crew.divide.Goals as goal
+use Rattle.opt_worker.specs.inside.Jobs.{IsReady}
+use Rattle.opt_worker.proofs.Joined.{left_of, ready_one}
+use Rattle.opt_worker.proofs.crew.divide.Goals as goal
 
 pub loop-state-preserved : goal.loop-state-preserved
 loop-state-preserved g c =

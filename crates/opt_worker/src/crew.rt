@@ -7,14 +7,15 @@ ghost use Rattle.opt_core.specs.Runs.{SameStart};
 ghost use Rattle.opt_core.specs.declared.event.Ending.{Ending};
 ghost use Rattle.opt_gate.specs.Pass.{IsPassOf, start_of};
 ghost use Rattle.opt_worker.specs.Replica.{IsReplica};
-ghost use Rattle.opt_crew.specs.Entries.{AreSteps};
-ghost use Rattle.opt_crew.specs.Events.{CameByEvents};
-ghost use Rattle.opt_crew.specs.inside.Jobs.{IsReady, IsBack};
+ghost use Rattle.opt_worker.specs.Entries.{AreSteps};
+ghost use Rattle.opt_worker.specs.Events.{CameByEvents};
+ghost use Rattle.opt_worker.specs.inside.Jobs.{IsReady, IsBack};
 
+use crate::pace::Pace;
+use crate::worker::{Site, work_on};
 use opt_core::{Core, Event};
 use opt_gate::{Gate, Pass};
 use opt_system::System;
-use opt_worker::{Pace, work_on};
 use std::sync::Wait;
 use std::thread;
 use std::thread::Threads;
@@ -87,7 +88,14 @@ where
         &|_, job: &mut (Pass<S>, S::State)|
             requires { (s.now ≡ (start_of gate.now).system) × IsReady (S.means (start_of gate.now).system) gate.now job.now }
             ensures { IsBack (S.means (start_of gate.entry.now).system) gate.entry.now job.exit.now }
-        { work_on(rt, s, gate, &mut job.0, &mut job.1, pace, batch) },
+        {
+            let site = Site {
+                system: s,
+                gate,
+                pace,
+            };
+            work_on(rt, &site, &mut job.0, &mut job.1, batch)
+        },
     );
 }
 

@@ -7,11 +7,11 @@ use Rattle.opt_core.specs.declared.event.Event.{Event}
 use Rattle.opt_core.specs.declared.event.Event.TheVariants as event
 use Rattle.opt_core.specs.declared.event.Reply.{Reply}
 use Rattle.opt_core.specs.Core.{Core}
-use Rattle.opt_core.specs.Steps.{Answers, MayCome}
+use Rattle.opt_core.specs.Steps.{Answers}
 use Rattle.opt_core.specs.Runs.{Answered, Run, EventsLead}
 use Rattle.opt_gate.specs.Turn.{stops_of}
 use Rattle.opt_gate.proofs.Follows.{follows}
-use Rattle.opt_crew.specs.Events.{HasStop, CameByEvents}
+use Rattle.opt_worker.specs.Events.{HasStop, CameByEvents}
 
 is_stop : {Found : Type 0} (e : Event Found) → 0 < stops_of e → e ≡ event.Stop
 is_stop (event.Look told from) some = absurd (omega arith)

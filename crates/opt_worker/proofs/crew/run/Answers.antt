@@ -1,7 +1,7 @@
 use Rattle.std.proofs.Common.{◌<◌, length, subst, arith}
 use Rattle.opt_gate.specs.Pass.{start_of}
-use Rattle.opt_crew.specs.inside.Jobs.{IsBack}
-use Rattle.opt_crew.proofs.crew.run.Goals as goal
+use Rattle.opt_worker.specs.inside.Jobs.{IsBack}
+use Rattle.opt_worker.proofs.crew.run.Goals as goal
 
 pub returns-clause-back : goal.returns-clause-back
 returns-clause-back g c = λ k d lt.

@@ -5,13 +5,13 @@ use Rattle.opt_gate.specs.Pass.{start_of}
 use Rattle.opt_worker.specs.Replica.{IsReplica}
 use Rattle.opt_core.specs.Core.{Legal}
 use Rattle.opt_core.specs.Runs.{SameStart}
-use Rattle.opt_crew.specs.inside.Jobs.{IsReady, IsBack}
-use Rattle.opt_crew.proofs.Lists.{written, at_base, are_steps}
-use Rattle.opt_crew.specs.Events.{CameByEvents}
+use Rattle.opt_worker.specs.inside.Jobs.{IsReady, IsBack}
+use Rattle.opt_worker.proofs.Lists.{written, at_base, are_steps}
+use Rattle.opt_worker.specs.Events.{CameByEvents}
 use Rattle.opt_core.specs.Runs.{EventsLead}
-use Rattle.opt_crew.proofs.Stops.{came_by}
-use Rattle.opt_crew.proofs.Joined.{no_steps}
-use Rattle.opt_crew.proofs.crew.pursue.Goals as goal
+use Rattle.opt_worker.proofs.Stops.{came_by}
+use Rattle.opt_worker.proofs.Joined.{no_steps}
+use Rattle.opt_worker.proofs.crew.pursue.Goals as goal
 
 pub returns-in-Err-clause-steps : goal.returns-in-Err-clause-steps
 returns-in-Err-clause-steps g c =
