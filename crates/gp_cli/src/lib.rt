@@ -11,6 +11,7 @@
 //! (`gp_stepper`), `texts` makes the texts of the answer, and `deliver` writes. All text is made before the first
 //! write.
 //!
+//! What starts threads is handed the `Resources` of the call, and any other its memory alone.
 //! `files` has `load_both`, which reads a program and a host, `load_tree` the tree of a program, `load_trace`, `load_result`
 //! and `load_script` the rest of what commands read; `both_of` of `parsed` understands two texts that are there already. What
 //! a file holds, and what is answered in place of one, is `specs/Inputs`, over the texts of gp_reader, gp_hostfile, gp_trace
@@ -33,6 +34,7 @@ mod fmt;
 mod parsed;
 mod refused;
 mod reply;
+mod resources;
 mod run;
 mod said;
 mod status;

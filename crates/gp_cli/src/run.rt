@@ -9,12 +9,12 @@ ghost use Rattle.gp_cli.specs.Loads.{names_of};
 ghost use Rattle.gp_cli.specs.Said.{said_of, HasJournal, BeginsAt};
 
 use crate::choices::Choices;
+use crate::resources::Resources;
 use crate::said::Said;
 use gp_graph::Graph;
 use gp_memory::NoMemory;
 use gp_syntax::{Name, NumberKind, Program};
 use gp_system::{Crew, Outcome, execute};
-use opt_worker::Pacing;
 use std::alloc::Global;
 use std::sync::Wait;
 use std::thread::Threads;
@@ -36,24 +36,30 @@ fn number_fault<'a>(
 
 /// Runs the program on the graph, with the choices of the seed.
 pub(crate) fn run<'a, R: Threads + Wait + Sync>(
-    rt: &R,
-    alloc: Global,
+    resources: &Resources<'_, R>,
     program: &Program,
     graph: Graph,
     crew: Crew,
     seed: u64,
-    pace: &Pacing,
 ) -> Result<Said<'a>, NoMemory>
     ensures comes { IfOk result (λ s. Comes crew.bound seed (program_of_tree program.now) (names_of program.now) graph.graph (said_of s)) }
     ensures journal { IfOk result (HasJournal (program_of_tree program.now).rules) }
     ensures begins { IfOk result (BeginsAt graph.graph) }
 {
     let mut choices = Choices::of_seed(seed);
-    match execute(rt, alloc, program, graph, crew, &mut choices, pace) {
+    match execute(
+        resources.rt,
+        resources.alloc,
+        program,
+        graph,
+        crew,
+        &mut choices,
+        resources.pace,
+    ) {
         Outcome::Graph(journal) => Ok(Said::Graph(journal)),
         Outcome::Fail(journal) => Ok(Said::Fail(journal)),
         Outcome::Bound(_) => Ok(Said::Bound(crew.bound)),
-        Outcome::Fault(_, rule, kind) => number_fault(alloc, program, rule, kind),
+        Outcome::Fault(_, rule, kind) => number_fault(resources.alloc, program, rule, kind),
         Outcome::NoMemory => Err(NoMemory),
     }
 }
