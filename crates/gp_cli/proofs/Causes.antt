@@ -15,11 +15,11 @@ use Rattle.gp_trace.specs.declared.version.Version.{Version}
 use Rattle.gp_derivation.specs.Derivation.{IsDerivation}
 use Rattle.gp_derivation.specs.declared.line.Line.{Line}
 use Rattle.gp_words.specs.CommandLine.{DemoCommand, CheckCommand, StepCommand}
-use Rattle.gp_reply.specs.Texts.{Said, graph, failed, demo_done, derivation, no_derivation, formatted, walked, usage, long_program, bad_program, long_host, bad_host, long_trace, bad_trace, long_result, long_script, bad_script, bound_spent, number_fault, unread, of_demo_run, Shows, graph_shown, fail_shown, demo_shown, derivation_shown, no_derivation_shown, formatted_shown, walked_shown, usage_shown, long_program_shown, bad_program_shown, long_host_shown, bad_host_shown, long_trace_shown, bad_trace_shown, long_result_shown, long_script_shown, bad_script_shown, bound_shown, number_shown, unread_shown}
-use Rattle.gp_reply.specs.Inputs.{HasBytes, HasLongFile, CannotRead, HasProgram, HasHost, HasTrace, HasScript, HasFaultyProgram, has_long_program, has_bad_program, HasFaultyHost, has_long_host, has_bad_host, HasFaultyTrace, has_long_trace, has_bad_trace, HasFaultyScript, has_long_script, has_bad_script, StopsAtProgram, program_is_long, program_is_bad, program_is_unread, StopsAtHost, host_is_long, host_is_bad, host_is_unread, StopsAtTrace, trace_is_long, trace_is_bad, trace_is_unread, StopsAtResult, result_is_long, result_is_unread, StopsAtScript, script_is_long, script_is_bad, script_is_unread, OfBoth, at_program, at_host, behind_both}
+use Rattle.gp_cli.specs.Texts.{Said, graph, failed, demo_done, derivation, no_derivation, formatted, walked, usage, long_program, bad_program, long_host, bad_host, long_trace, bad_trace, long_result, long_script, bad_script, bound_spent, number_fault, unread, of_demo_run, Shows, graph_shown, fail_shown, demo_shown, derivation_shown, no_derivation_shown, formatted_shown, walked_shown, usage_shown, long_program_shown, bad_program_shown, long_host_shown, bad_host_shown, long_trace_shown, bad_trace_shown, long_result_shown, long_script_shown, bad_script_shown, bound_shown, number_shown, unread_shown}
+use Rattle.gp_cli.specs.Inputs.{HasBytes, HasLongFile, CannotRead, HasProgram, HasHost, HasTrace, HasScript, HasFaultyProgram, has_long_program, has_bad_program, HasFaultyHost, has_long_host, has_bad_host, HasFaultyTrace, has_long_trace, has_bad_trace, HasFaultyScript, has_long_script, has_bad_script, StopsAtProgram, program_is_long, program_is_bad, program_is_unread, StopsAtHost, host_is_long, host_is_bad, host_is_unread, StopsAtTrace, trace_is_long, trace_is_bad, trace_is_unread, StopsAtResult, result_is_long, result_is_unread, StopsAtScript, script_is_long, script_is_bad, script_is_unread, OfBoth, at_program, at_host, behind_both}
 use Rattle.gp_cli.specs.Answer.{Comes, gives, fails, is_spent, is_faulty, Checks, at_trace, at_result, is_derivation, is_none, IsEndless, Steps, at_script, walks, is_endless, demo_program, demo_host, DemoAnswers, demo_program_is_bad, demo_host_is_bad, demo_runs}
 use Rattle.gp_cli.specs.Completes.{IsOneOf, Stays}
-use Rattle.gp_reply.proofs.Held.{can_read, same_bytes, program_bytes, host_bytes, trace_bytes, script_bytes, too_long, same_trace, sound_program, sound_host, sound_trace, sound_script}
+use Rattle.gp_cli.proofs.Held.{can_read, same_bytes, program_bytes, host_bytes, trace_bytes, script_bytes, too_long, same_trace, sound_program, sound_host, sound_trace, sound_script}
 
 abbrev pub status_of : Said → ℕ
 status_of (graph t h) = 0

@@ -6,9 +6,9 @@ use Rattle.gp_values.specs.Names.{Name}
 use Rattle.gp_values.specs.Graph.{Graph}
 use Rattle.gp_syntax.specs.Run.{Program}
 use Rattle.gp_words.specs.CommandLine.{Command, run, demo, check, fmt, step, command_of}
-use Rattle.gp_reply.specs.Texts.{Said, usage}
+use Rattle.gp_cli.specs.Texts.{Said, usage}
 use Rattle.gp_cli.specs.Answer.{Comes, RunAnswers, Checks, CheckAnswers, FmtAnswers, Steps, StepAnswers, DemoAnswers, IsTrue, of_words, of_run, of_demo, of_check, of_fmt, of_step}
-use Rattle.gp_reply.specs.Inputs.{OfBoth}
+use Rattle.gp_cli.specs.Inputs.{OfBoth}
 use Rattle.gp_cli.specs.Completes.{files_of}
 
 abbrev pub Answers : Command → KnownFiles → KnownFiles → Said → Type 0

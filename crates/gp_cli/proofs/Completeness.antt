@@ -10,12 +10,12 @@ use Rattle.gp_fmt.specs.Laws.{CanonicalTextsAreRead, CanonicalTextsStay}
 use Rattle.gp_derivation.specs.Derivation.{IsDerivation}
 use Rattle.gp_trace.specs.declared.version.Version.TheVariants.{Two}
 use Rattle.gp_words.specs.CommandLine.{run, demo, check, fmt, step, command_of}
-use Rattle.gp_reply.specs.Texts.{Said}
-use Rattle.gp_reply.specs.Inputs.{HasProgram, HasProgramTree, HasHost, HasTrace}
+use Rattle.gp_cli.specs.Texts.{Said}
+use Rattle.gp_cli.specs.Inputs.{HasProgram, HasProgramTree, HasHost, HasTrace}
 use Rattle.gp_cli.specs.Answer.{IsTrue, Answered, replied, no_memory, out_fault, err_fault}
 use Rattle.gp_cli.specs.Completes.{IsOneOf, Stays, NoSinkFails, NothingFails, Refuses, RunCompletes, CheckCompletes, ChecksRuns, FmtCompletes, FormatsAgain, StepCompletes, DemoCompletes, RefusesWords, files_of, RefusesProgram, RefusesHost, RefusesTrace, RefusesResult, RefusesScript, RefusesTree, RefusesDemoProgram, RefusesDemoHost, TellsFaults, Completes}
 use Rattle.gp_cli.specs.Written.{TakesAll}
-use Rattle.gp_reply.proofs.Held.{same_program, same_host}
+use Rattle.gp_cli.proofs.Held.{same_program, same_host}
 use Rattle.gp_cli.proofs.Causes.{status_of, shown, OfRun, OfDemo, of_run, of_demo_answer, of_demo_program, of_demo_host, MayBeUnread, never_unread, of_both, of_faulty_program, of_faulty_host, of_check, of_faulty_trace, of_long_result, of_step, of_faulty_script}
 use Rattle.gp_cli.proofs.Commands.{by_command, no_command, both_of_command}
 use Rattle.gp_cli.proofs.Formats.{of_tree, of_treeless, is_written, read_back, gives_again}

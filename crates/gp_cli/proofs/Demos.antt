@@ -9,16 +9,16 @@ use Rattle.gp_syntax.specs.declared.command.ProgramParts.{ProgramParts}
 use Rattle.gp_syntax.specs.Run.{Program}
 use Rattle.gp_hostfile.specs.Host.{IsHostText}
 use Rattle.gp_words.specs.CommandLine.{DemoCommand}
-use Rattle.gp_reply.specs.declared.said.Said.{Said}
-use Rattle.gp_reply.specs.declared.said.Stop.{Stop}
-use Rattle.gp_reply.specs.declared.said.Stop.TheVariants as stops
-use Rattle.gp_reply.specs.Texts as texts
-use Rattle.gp_reply.specs.Said.{said_of}
-use Rattle.gp_reply.specs.Inputs.{TellsProgram}
+use Rattle.gp_cli.specs.declared.said.Said.{Said}
+use Rattle.gp_cli.specs.declared.said.Stop.{Stop}
+use Rattle.gp_cli.specs.declared.said.Stop.TheVariants as stops
+use Rattle.gp_cli.specs.Texts as texts
+use Rattle.gp_cli.specs.Said.{said_of}
+use Rattle.gp_cli.specs.Inputs.{TellsProgram}
 use Rattle.gp_cli.specs.Answer.{Comes, demo_program, demo_host, demo_bound, demo_choices, DemoAnswers, demo_program_is_bad, demo_host_is_bad, demo_runs}
-use Rattle.gp_reply.specs.Loads.{FaultOfBoth, in_program, in_host, BothOrFaults}
+use Rattle.gp_cli.specs.Loads.{FaultOfBoth, in_program, in_host, BothOrFaults}
 use Rattle.gp_cli.specs.inside.Parts.{MakesBoth, SaysOfRun}
-use Rattle.gp_cli.proofs.Loads.{IfSettled}
+use Rattle.gp_cli.proofs.Settled.{IfSettled}
 
 of_fault : {k : DemoCommand} {said : texts.Said} → FaultOfBoth (demo_program k) (demo_host k) said → DemoAnswers k said
 of_fault (in_program f) = demo_program_is_bad f

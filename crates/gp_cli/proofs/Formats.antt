@@ -9,11 +9,11 @@ use Rattle.gp_reader.specs.Laws.{TreesHaveNoFault}
 use Rattle.gp_fmt.specs.Canonical.{canonical_text}
 use Rattle.gp_fmt.specs.Laws.{CanonicalTextsAreRead, CanonicalTextsStay}
 use Rattle.gp_words.specs.CommandLine.{FmtCommand, fmt, command_of}
-use Rattle.gp_reply.specs.Texts.{Said, Shows, formatted_shown}
-use Rattle.gp_reply.specs.Inputs.{HasBytes, HasProgramTree, HasTreelessProgram, has_long_text, has_no_tree, tree_is_long, tree_is_none, tree_is_unread}
+use Rattle.gp_cli.specs.Texts.{Said, Shows, formatted_shown}
+use Rattle.gp_cli.specs.Inputs.{HasBytes, HasProgramTree, HasTreelessProgram, has_long_text, has_no_tree, tree_is_long, tree_is_none, tree_is_unread}
 use Rattle.gp_cli.specs.Answer.{FmtAnswers, stops, formats, Replies}
 use Rattle.gp_cli.specs.Completes.{HasFormatted, GivesAgain}
-use Rattle.gp_reply.proofs.Held.{tree_bytes, tree_again, sound_tree}
+use Rattle.gp_cli.proofs.Held.{tree_bytes, tree_again, sound_tree}
 use Rattle.gp_cli.proofs.Causes.{status_of, shown, MayBeUnread}
 use Rattle.gp_cli.proofs.Commands.{by_command}
 

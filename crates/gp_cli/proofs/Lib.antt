@@ -2,11 +2,17 @@ pub mod Bits
 pub mod Causes
 pub mod Commands
 pub mod Completeness
+pub mod Counting
 pub mod Demos
+pub mod Depths
+pub mod Faults
 pub mod Formats
+pub mod Held
 pub mod Loads
 pub mod Pieces
 pub mod Ran
 pub mod Runs
+pub mod Settled
+pub mod Shown
 pub mod Stepped
 pub mod Written

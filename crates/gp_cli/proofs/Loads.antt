@@ -1,55 +1,140 @@
--- From what is read of the files to what is answered.
-use Rattle.std.proofs.Common.{◌≡◌, ◌≤◌, refl, subst}
-use Rattle.std.specs.Prelude.{Bool, true, false, Result, Ok, Err, IfOk}
-use Rattle.std.specs.Bool.{Decides}
+-- From what is read of the files to what is answered in their place.
+use Rattle.std.proofs.Common.{◌≡◌, ℕ, ◌≤◌, List, sym, subst, arith, inl, inr}
+use Rattle.std.specs.Prelude.{◌⊎◌, Option, Result, Ok, Err}
+use Rattle.std.specs.declared.vec.Vec.{Vec}
+use Rattle.std.specs.declared.alloc.Global.{Global}
 use Rattle.gp_memory.specs.Free.{Free}
-use Rattle.gp_memory.specs.declared.refusal.NoMemory.{NoMemory}
-use Rattle.gp_io.specs.Outside.{KnownFiles}
+use Rattle.gp_io.specs.Outside.{Content, KnownFiles, Rose, LacksFile}
+use Rattle.gp_values.specs.Names.{Name}
 use Rattle.gp_values.specs.Graph.{Graph as AnyGraph}
+use Rattle.gp_syntax.specs.declared.found.Item.{Item}
+use Rattle.gp_syntax.specs.declared.tree.Ast.{Ast}
+use Rattle.gp_syntax.specs.declared.command.ProgramParts.{ProgramParts}
 use Rattle.gp_syntax.specs.Run as meant
-use Rattle.gp_words.specs.CommandLine.{CheckCommand}
-use Rattle.gp_reply.specs.declared.said.Said.{Said}
-use Rattle.gp_reply.specs.declared.said.Stop.{Stop}
-use Rattle.gp_reply.specs.declared.said.Stop.TheVariants as stops
-use Rattle.gp_reply.specs.Texts as texts
-use Rattle.gp_reply.specs.Inputs.{risen}
-use Rattle.gp_cli.specs.Answer.{Checks, at_trace, at_result, is_derivation, is_none}
-use Rattle.gp_cli.specs.inside.Parts.{verdict}
-use Rattle.gp_reply.specs.Said.{said_of, IsAnswer, or_stopped}
-use Rattle.gp_reply.proofs.Loads.{bytes_since, has_trace_since, result_since, stopped_so, trace_since}
+use Rattle.gp_trace.specs.declared.version.Version.{Version}
+use Rattle.gp_derivation.specs.declared.line.Line.{Line}
+use Rattle.gp_graph.specs.declared.graph.Graph.{Graph}
+use Rattle.gp_cli.specs.declared.said.Stop.{Stop}
+use Rattle.gp_cli.specs.declared.said.Stop.TheVariants as stops
+use Rattle.gp_cli.specs.Texts as texts
+use Rattle.gp_cli.specs.Inputs.{HasBytes, HasLongFile, HasTrace, HasScript, CannotRead, risen, lacking, StopsAtProgram, program_is_long, program_is_bad, program_is_unread, StopsAtTree, tree_is_long, tree_is_none, tree_is_unread, StopsAtHost, host_is_long, host_is_bad, host_is_unread, StopsAtTrace, trace_is_long, trace_is_bad, trace_is_unread, StopsAtResult, result_is_long, result_is_unread, StopsAtScript, script_is_long, script_is_bad, script_is_unread, OfBoth, at_program, at_host, behind_both}
+use Rattle.gp_cli.specs.Loads.{StopsAtFile, too_long, unread, StopsAtBoth, TellsOrFaults, TreesOrFaults, HostsOrFaults, TracesOrFaults, ScriptsOrFaults, LoadsProgram, LoadsTree, LoadsHost, LoadsTrace, LoadsScript}
+use Rattle.gp_cli.specs.Said.{said_of}
 
--- ---- what holds of an answer, where memory is not refused
+pub read_cause : (old new : KnownFiles) (name : Name) → Rose old.faults new.faults ⊎ (LacksFile old.content name × (new.faults ≡ old.faults)) → CannotRead old new name
+read_cause old new name (inl r) = risen r
+read_cause old new name (inr l) = lacking l.0
 
-abbrev pub IfSettled : (texts.Said → Type 0) → Result Said Stop → Type 0
-IfSettled P (Ok s) = P (said_of s)
-IfSettled P (Err (stops.Said s)) = P (said_of s)
-IfSettled P (Err stops.NoMemory) = Free
+-- ---- what holds of an answer in place of a file, where memory is not refused
 
-pub settled_so : (P Q : texts.Said → Type 0) (so : (said : texts.Said) → P said → Q said) (r : Result Said Stop) → IfSettled P r → IfSettled Q r
-settled_so P Q so (Ok s) h = so (said_of s) h
-settled_so P Q so (Err e) h = stopped_so P Q so e h
+abbrev pub IfStopped : (texts.Said → Type 0) → Stop → Type 0
+IfStopped P (stops.Said s) = P (said_of s)
+IfStopped P stops.NoMemory = Free
 
-pub answered : (P : texts.Said → Type 0) {said : texts.Said} (r : Result Said Stop) → IfSettled P r → IsAnswer r said → P said
-answered P (Ok s) h is = subst P is h
-answered P (Err (stops.Said s)) h is = subst P is h
-answered P (Err stops.NoMemory) h is = absurd is
+module _ (P Q : texts.Said → Type 0) (so : (said : texts.Said) → P said → Q said) where
+  pub stopped_so : (e : Stop) → IfStopped P e → IfStopped Q e
+  stopped_so (stops.Said s) h = so (said_of s) h
+  stopped_so stops.NoMemory h = tt
 
-pub outcome_so : {R : Said → Type 0} (Q : texts.Said → Type 0) (so : (s : Said) → R s → Q (said_of s)) (r : Result Said NoMemory) → IfOk r R → IfSettled Q (or_stopped r)
-outcome_so Q so (Ok s) h = so s h
-outcome_so Q so (Err e) h = tt
+-- ---- what stops at a file stops at what it is read for
+
+module _ {old new : KnownFiles} {name : Name} where
+  pub program_stop : (said : texts.Said) → StopsAtFile old new name texts.long_program said → StopsAtProgram old new name said
+  program_stop _ (too_long f) = program_is_long f
+  program_stop _ (unread u) = program_is_unread u
+
+  pub tree_stop : (said : texts.Said) → StopsAtFile old new name texts.long_program said → StopsAtTree old new name said
+  tree_stop _ (too_long f) = tree_is_long f
+  tree_stop _ (unread u) = tree_is_unread u
+
+  pub host_stop : (said : texts.Said) → StopsAtFile old new name texts.long_host said → StopsAtHost old new name said
+  host_stop _ (too_long f) = host_is_long f
+  host_stop _ (unread u) = host_is_unread u
+
+  pub trace_stop : (said : texts.Said) → StopsAtFile old new name texts.long_trace said → StopsAtTrace old new name said
+  trace_stop _ (too_long f) = trace_is_long f
+  trace_stop _ (unread u) = trace_is_unread u
+
+  pub result_stop : (said : texts.Said) → StopsAtFile old new name texts.long_result said → StopsAtResult old new name said
+  result_stop _ (too_long f) = result_is_long f
+  result_stop _ (unread u) = result_is_unread u
+
+  pub script_stop : (said : texts.Said) → StopsAtFile old new name texts.long_script said → StopsAtScript old new name said
+  script_stop _ (too_long f) = script_is_long f
+  script_stop _ (unread u) = script_is_unread u
+
+  -- and in place of both files so does what stops at one
+  pub both_stop : {host : Name} {Rest : meant.Program → List Name → AnyGraph → texts.Said → Type 0} (said : texts.Said) → StopsAtBoth old new name host said → OfBoth old new name host Rest said
+  both_stop _ (at_program x) = at_program x
+  both_stop _ (at_host h x) = at_host h x
+  both_stop _ (behind_both _ _ x) = absurd x
+
+-- ---- what was read of a file is understood
+
+module _ (old new : KnownFiles) (name : Name) (bytes : List ℕ) where
+  pub program_loads : (r : Result ProgramParts Stop) → HasBytes old.content name bytes → TellsOrFaults bytes r → LoadsProgram old new name r
+  program_loads (Ok p) has t = record { bytes = bytes; has = has; tells = t }
+  program_loads (Err (stops.Said s)) has t = subst (StopsAtProgram old new name) (sym t.1) (program_is_bad has t.2)
+  program_loads (Err stops.NoMemory) has t = tt
+
+  pub tree_loads : (r : Result Ast Stop) → HasBytes old.content name bytes → TreesOrFaults bytes r → LoadsTree old new name r
+  tree_loads (Ok tree) has t = record { bytes = bytes; has = has; has_tree = t }
+  tree_loads (Err (stops.Said s)) has t = subst (StopsAtTree old new name) (sym t.1) (tree_is_none has t.2)
+  tree_loads (Err stops.NoMemory) has t = tt
+
+  pub host_loads : (r : Result Graph Stop) → HasBytes old.content name bytes → HostsOrFaults bytes r → LoadsHost old new name r
+  host_loads (Ok g) has t = record { bytes = bytes; has = has; text = t }
+  host_loads (Err (stops.Said s)) has t = subst (StopsAtHost old new name) (sym t.1) (host_is_bad has t.2)
+  host_loads (Err stops.NoMemory) has t = tt
+
+  pub trace_loads : (r : Result (Version × Vec Item Global) Stop) → HasBytes old.content name bytes → TracesOrFaults bytes r → LoadsTrace old new name r
+  trace_loads (Ok x) has t = record { bytes = bytes; has = has; text = t }
+  trace_loads (Err (stops.Said s)) has t = subst (StopsAtTrace old new name) (sym t.1) (trace_is_bad has t.2)
+  trace_loads (Err stops.NoMemory) has t = tt
+
+  pub script_loads : (r : Result (Vec Line Global) Stop) → HasBytes old.content name bytes → ScriptsOrFaults bytes r → LoadsScript old new name r
+  script_loads (Ok v) has t = record { bytes = bytes; has = has; text = t }
+  script_loads (Err (stops.Said s)) has t = subst (StopsAtScript old new name) (sym t.1) (script_is_bad has t.2)
+  script_loads (Err stops.NoMemory) has t = tt
 
 -- ---- a count that rose since a later time has risen since an earlier one, and the content is the same at both
 
+lacks_since : {before now : Option Content} (same : now ≡ before) (name : Name) → LacksFile now name → LacksFile before name
+lacks_since same name l = subst (λ (t : Option Content). LacksFile t name) same l
+
+module _ {before now : Option Content} (same : now ≡ before) {name : Name} where
+  long_since : HasLongFile now name → HasLongFile before name
+  long_since f = subst (λ (t : Option Content). HasLongFile t name) same f
+
+  pub bytes_since : {bytes : List ℕ} → HasBytes now name bytes → HasBytes before name bytes
+  bytes_since {bytes} b = subst (λ (t : Option Content). HasBytes t name bytes) same b
+
+  pub has_trace_since : {version : Version} {items : List meant.Item} → HasTrace now name version items → HasTrace before name version items
+  has_trace_since {version} {items} h = subst (λ (t : Option Content). HasTrace t name version items) same h
+
+  pub has_script_since : {lines : List Line} → HasScript now name lines → HasScript before name lines
+  has_script_since {lines} h = subst (λ (t : Option Content). HasScript t name lines) same h
+
 module _ {old mid new : KnownFiles} (same : mid.content ≡ old.content) (later : old.faults ≤ mid.faults) where
-  pub checks_since : {k : CheckCommand} {p : meant.Program} {g : AnyGraph} (said : texts.Said) → Checks mid new k p g said → Checks old new k p g said
-  checks_since _ (at_trace x) = at_trace (trace_since same later x)
-  checks_since _ (at_result h x) = at_result (has_trace_since same h) (result_since same later _ x)
-  checks_since _ (is_derivation h b d) = is_derivation (has_trace_since same h) (bytes_since same b) d
-  checks_since _ (is_none h b n) = is_none (has_trace_since same h) (bytes_since same b) n
+  cannot_since : {name : Name} → CannotRead mid new name → CannotRead old new name
+  cannot_since (risen r) = risen (omega arith)
+  cannot_since {name} (lacking l) = lacking (lacks_since same name l)
 
--- ---- whether it is a derivation, as it is said
+  pub host_since : {name : Name} (said : texts.Said) → StopsAtHost mid new name said → StopsAtHost old new name said
+  host_since _ (host_is_long f) = host_is_long (long_since same f)
+  host_since _ (host_is_bad b x) = host_is_bad (bytes_since same b) x
+  host_since _ (host_is_unread u) = host_is_unread (cannot_since u)
 
-pub checked : (P : texts.Said → Type 0) {D : Type 0} → (D → P texts.derivation) → ((D → ⊥) → P texts.no_derivation) → (r : Result Bool NoMemory) → IfOk r (λ b. Decides b D) → IfSettled P (verdict r)
-checked P one other (Ok true) h = one (h.0 refl)
-checked P one other (Ok false) h = other (λ d. let e = h.1 d in absurd cc)
-checked P one other (Err e) h = tt
+  pub trace_since : {name : Name} {said : texts.Said} → StopsAtTrace mid new name said → StopsAtTrace old new name said
+  trace_since (trace_is_long f) = trace_is_long (long_since same f)
+  trace_since (trace_is_bad b x) = trace_is_bad (bytes_since same b) x
+  trace_since (trace_is_unread u) = trace_is_unread (cannot_since u)
+
+  pub result_since : {name : Name} (said : texts.Said) → StopsAtResult mid new name said → StopsAtResult old new name said
+  result_since _ (result_is_long f) = result_is_long (long_since same f)
+  result_since _ (result_is_unread u) = result_is_unread (cannot_since u)
+
+  pub script_since : {name : Name} (said : texts.Said) → StopsAtScript mid new name said → StopsAtScript old new name said
+  script_since _ (script_is_long f) = script_is_long (long_since same f)
+  script_since _ (script_is_bad b x) = script_is_bad (bytes_since same b) x
+  script_since _ (script_is_unread u) = script_is_unread (cannot_since u)

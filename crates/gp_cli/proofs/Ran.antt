@@ -11,11 +11,11 @@ use Rattle.gp_trace.specs.declared.version.Version.TheVariants.{Two}
 use Rattle.gp_trace.specs.Reading.{IsTraceOf}
 use Rattle.gp_derivation.specs.Derivation.{IsDerivation, as_they_are, with_graph, with_fail}
 use Rattle.gp_words.specs.CommandLine.{RunCommand, run}
-use Rattle.gp_reply.specs.Texts.{Said, IsJournal, asked_for, not_asked_for, Shows, graph_shown, fail_shown}
-use Rattle.gp_reply.specs.Inputs.{HasBytes, StopsAtProgram, program_is_long, program_is_bad, program_is_unread, StopsAtHost, host_is_long, host_is_bad, host_is_unread, at_program, at_host, behind_both}
+use Rattle.gp_cli.specs.Texts.{Said, IsJournal, asked_for, not_asked_for, Shows, graph_shown, fail_shown}
+use Rattle.gp_cli.specs.Inputs.{HasBytes, StopsAtProgram, program_is_long, program_is_bad, program_is_unread, StopsAtHost, host_is_long, host_is_bad, host_is_unread, at_program, at_host, behind_both}
 use Rattle.gp_cli.specs.Answer.{gives, fails, is_spent, is_faulty, RunAnswers}
 use Rattle.gp_cli.specs.Completes.{IsOneOf, HasWritten}
-use Rattle.gp_reply.proofs.Held.{program_again, host_again}
+use Rattle.gp_cli.proofs.Held.{program_again, host_again}
 use Rattle.gp_cli.proofs.Causes.{status_of, shown}
 use Rattle.gp_cli.proofs.Commands.{by_command}
 

@@ -10,12 +10,12 @@ use Rattle.gp_journal.specs.Journal.{items_of}
 use Rattle.gp_derivation.specs.declared.line.Line.{Line}
 use Rattle.gp_derivation.specs.Walk.{Walks}
 use Rattle.gp_words.specs.CommandLine.{StepCommand}
-use Rattle.gp_reply.specs.declared.said.Said.{Said}
-use Rattle.gp_reply.specs.declared.said.Said.TheVariants as code
-use Rattle.gp_reply.specs.Texts as texts
-use Rattle.gp_reply.specs.Inputs.{HasScript}
+use Rattle.gp_cli.specs.declared.said.Said.{Said}
+use Rattle.gp_cli.specs.declared.said.Said.TheVariants as code
+use Rattle.gp_cli.specs.Texts as texts
+use Rattle.gp_cli.specs.Inputs.{HasScript}
 use Rattle.gp_cli.specs.Answer.{Comes, gives, fails, is_spent, is_faulty, IsEndless, Steps, walks, is_endless}
-use Rattle.gp_reply.specs.Said.{said_of, HasJournal, BeginsAt, WalksSaid}
+use Rattle.gp_cli.specs.Said.{said_of, HasJournal, BeginsAt, WalksSaid}
 
 -- ---- an answer without an end has no journal
 

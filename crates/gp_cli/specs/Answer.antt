@@ -19,9 +19,9 @@ use Rattle.gp_derivation.specs.Walk.{Walks}
 use Rattle.gp_gen.specs.Texts.{program_text, host_text}
 use Rattle.gp_words.specs.CommandLine.{RunCommand, DemoCommand, CheckCommand, FmtCommand, StepCommand, Command, run, demo, check, fmt, step, command_of}
 use Rattle.gp_cli.specs.Choices.{AreSeeded}
-use Rattle.gp_reply.specs.Texts.{Said, graph, failed, derivation, no_derivation, formatted, walked, usage, bad_program, bad_host, bound_spent, number_fault, unread, of_demo_run, Shows}
+use Rattle.gp_cli.specs.Texts.{Said, graph, failed, derivation, no_derivation, formatted, walked, usage, bad_program, bad_host, bound_spent, number_fault, unread, of_demo_run, Shows}
 use Rattle.gp_cli.specs.Written.{out_pieces, TakesAll, IsCutShort}
-use Rattle.gp_reply.specs.Inputs.{HasBytes, HasProgramTree, HasScript, HasTrace, OfBoth, StopsAtResult, StopsAtScript, StopsAtTrace, StopsAtTree, TellsProgram}
+use Rattle.gp_cli.specs.Inputs.{HasBytes, HasProgramTree, HasScript, HasTrace, OfBoth, StopsAtResult, StopsAtScript, StopsAtTrace, StopsAtTree, TellsProgram}
 
 -- ---- what a program comes to on a host
 

@@ -12,7 +12,7 @@ use Rattle.gp_hostfile.specs.Host.{IsHostFault}
 use Rattle.gp_trace.specs.declared.version.Version.{Version}
 use Rattle.gp_derivation.specs.declared.line.Line.{Line}
 use Rattle.gp_words.specs.CommandLine.{RunCommand, DemoCommand, CheckCommand, FmtCommand, StepCommand, Command, run, demo, check, fmt, step, command_of}
-use Rattle.gp_reply.specs.Inputs.{HasBytes, HasLongFile, HasProgram, HasProgramTree, HasHost, HasTrace, HasScript, HasFaultyProgram, HasTreelessProgram, HasFaultyHost, HasFaultyTrace, HasFaultyScript}
+use Rattle.gp_cli.specs.Inputs.{HasBytes, HasLongFile, HasProgram, HasProgramTree, HasHost, HasTrace, HasScript, HasFaultyProgram, HasTreelessProgram, HasFaultyHost, HasFaultyTrace, HasFaultyScript}
 use Rattle.gp_cli.specs.Answer.{demo_program, demo_host, asks_journal, Replies}
 
 abbrev pub IsOneOf : List ℕ → ℕ → Type 0

@@ -5,11 +5,12 @@ ghost use Rattle.gp_syntax.specs.Tree.{program_of_tree};
 ghost use Rattle.gp_words.specs.Told.{check_now};
 ghost use Rattle.gp_cli.specs.inside.Parts.{verdict, ChecksBoth, ChecksFiles};
 
+use crate::files::{load_both, load_result, load_trace};
+use crate::said::{Said, Stop};
 use gp_derivation::is_derivation;
 use gp_graph::Graph;
 use gp_io::Files;
 use gp_memory::NoMemory;
-use gp_reply::{Said, Stop, load_both, load_result, load_trace};
 use gp_syntax::Program;
 use gp_words::CheckCommand;
 use std::alloc::Global;

@@ -3,10 +3,11 @@
 ghost use Rattle.gp_io.specs.Outside.{piece_of};
 ghost use Rattle.gp_cli.specs.Written.{out_pieces};
 ghost use Rattle.gp_cli.specs.inside.Parts.{Delivers, Writes};
-ghost use Rattle.gp_reply.specs.Statuses.{status_code};
+ghost use Rattle.gp_cli.specs.Statuses.{status_code};
 
+use crate::reply::Reply;
+use crate::status::Status;
 use gp_io::{Failed, Sink};
-use gp_reply::{Reply, Status};
 
 // Writes the piece, unless it is empty.
 fn write_piece<S: Sink>(sink: &mut S, piece: &[u8]) -> Result<(), Failed>

@@ -4,15 +4,16 @@ ghost use Rattle.gp_gen.specs.Host.{IsSize};
 ghost use Rattle.gp_words.specs.Told.{demo_now};
 ghost use Rattle.gp_cli.specs.inside.Parts.{MakesBoth, SaysOfRun, RunsDemo};
 
+use crate::parsed::both_of;
+use crate::resources::Resources;
 use crate::run::run;
+use crate::said::{Said, Stop};
 use gp_gen::generate;
 use gp_graph::Graph;
 use gp_memory::NoMemory;
-use gp_reply::{Said, Stop, both_of};
 use gp_syntax::Program;
 use gp_system::Crew;
 use gp_words::DemoCommand;
-use opt_worker::Pacing;
 use std::alloc::Global;
 use std::sync::Wait;
 use std::thread::Threads;
@@ -47,23 +48,18 @@ fn demo_said<'a>(
 
 /// What a demo comes to: its program's text and its host's are made, read and run.
 pub(crate) fn demo<'a, R: Threads + Wait + Sync>(
-    rt: &R,
-    alloc: Global,
+    resources: &Resources<'_, R>,
     command: DemoCommand,
-    pace: &Pacing,
 ) -> Result<Said<'a>, Stop<'a>>
     requires { IsSize command.kind command.size }
     ensures { RunsDemo (demo_now command) result }
 {
-    let (program, graph) = made(alloc, command)?;
+    let (program, graph) = made(resources.alloc, command)?;
     let crew = Crew {
         workers: command.crew.workers,
         fan: command.crew.fan,
         batch: command.crew.batch,
         bound: BOUND,
     };
-    demo_said(
-        command,
-        run(rt, alloc, &program, graph, crew, CHOICES, pace),
-    )
+    demo_said(command, run(resources, &program, graph, crew, CHOICES))
 }

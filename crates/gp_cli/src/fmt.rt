@@ -3,14 +3,15 @@
 ghost use Rattle.std.specs.Prelude.{◌≡◌, IfOk};
 ghost use Rattle.gp_fmt.specs.Canonical.{canonical_text};
 ghost use Rattle.gp_words.specs.Told.{fmt_now};
-ghost use Rattle.gp_reply.specs.Texts.{formatted};
-ghost use Rattle.gp_reply.specs.Said.{said_of};
+ghost use Rattle.gp_cli.specs.Texts.{formatted};
+ghost use Rattle.gp_cli.specs.Said.{said_of};
 ghost use Rattle.gp_cli.specs.inside.Parts.{FormatsFile};
 
+use crate::files::load_tree;
+use crate::said::{Said, Stop, or_stopped};
 use gp_fmt::print_program;
 use gp_io::Files;
 use gp_memory::NoMemory;
-use gp_reply::{Said, Stop, load_tree, or_stopped};
 use gp_syntax::Ast;
 use gp_words::FmtCommand;
 use std::alloc::Global;

@@ -7,22 +7,27 @@ ghost use Rattle.gp_words.specs.CommandLine as spec;
 ghost use Rattle.gp_words.specs.Told.{run_now, command_now, HasSize};
 ghost use Rattle.gp_cli.specs.Answer.{wants_journal, IsTrue, Replies, ReadsNone, Answered, IsSilent};
 ghost use Rattle.gp_cli.specs.Completes.{Completes};
-ghost use Rattle.gp_reply.specs.Texts.{Shows};
+ghost use Rattle.gp_cli.specs.Texts.{Shows};
 ghost use Rattle.gp_cli.specs.inside.Parts.{RunsFiles};
-ghost use Rattle.gp_reply.specs.Statuses.{status_code};
-ghost use Rattle.gp_reply.specs.Said.{said_of};
+ghost use Rattle.gp_cli.specs.Statuses.{status_code};
+ghost use Rattle.gp_cli.specs.Said.{said_of};
 
 use crate::check::check;
 use crate::deliver::deliver;
 use crate::demo::demo;
+use crate::files::load_both;
 use crate::fmt::fmt;
+use crate::reply::Reply;
+use crate::resources::Resources;
 use crate::run::run;
+use crate::said::{Said, Stop, or_stopped, settled};
+use crate::status::Status;
 use crate::step::step;
+use crate::texts::reply_of;
 use gp_fmt::laws::{canonical_texts_are_read, canonical_texts_stay};
 use gp_io::{Files, Sink};
 use gp_memory::NoMemory;
 use gp_reader::laws::{texts_have_one_fault, texts_have_one_program, texts_have_one_tree};
-use gp_reply::{Reply, Said, Status, Stop, load_both, or_stopped, reply_of, settled};
 use gp_system::Crew;
 use gp_words::{Command, RunCommand, command_of};
 use opt_worker::Pacing;
@@ -32,31 +37,27 @@ use std::thread::Threads;
 
 // What the files of a command come to.
 fn said_by_files<'a, F: Files, R: Threads + Wait + Sync>(
-    rt: &R,
-    alloc: Global,
+    resources: &Resources<'_, R>,
     command: RunCommand<'a>,
     files: &mut F,
-    pace: &Pacing,
 ) -> Result<Said<'a>, Stop<'a>>
     ensures { RunsFiles (F.known files.old) (F.known files.new) (run_now command.entry) result }
 {
-    let (program, graph) = load_both(alloc, files, command.program, command.host)?;
+    let (program, graph) = load_both(resources.alloc, files, command.program, command.host)?;
     let crew = Crew {
         workers: command.crew.workers,
         fan: command.crew.fan,
         batch: command.crew.batch,
         bound: command.bound,
     };
-    or_stopped(run(rt, alloc, &program, graph, crew, command.seed, pace))
+    or_stopped(run(resources, &program, graph, crew, command.seed))
 }
 
 // What a command comes to.
 fn said_by_command<'a, F: Files, R: Threads + Wait + Sync>(
-    rt: &R,
-    alloc: Global,
+    resources: &Resources<'_, R>,
     command: Command<'a>,
     files: &mut F,
-    pace: &Pacing,
 ) -> Result<Said<'a>, NoMemory>
     requires { HasSize command }
     ensures answer { IfOk result (λ s. (words : List AnyName) → spec.command_of words ≡ Some (command_now command.entry) →
@@ -64,21 +65,19 @@ fn said_by_command<'a, F: Files, R: Threads + Wait + Sync>(
     ensures unread { ReadsNone (Some (command_now command.entry)) → files.new ≡ files.old }
 {
     match command {
-        Command::Run(command) => settled(said_by_files(rt, alloc, command, files, pace)),
-        Command::Demo(command) => settled(demo(rt, alloc, command, pace)),
-        Command::Check(command) => settled(check(alloc, command, files)),
-        Command::Fmt(command) => settled(fmt(alloc, command, files)),
-        Command::Step(command) => settled(step(rt, alloc, command, files, pace)),
+        Command::Run(command) => settled(said_by_files(resources, command, files)),
+        Command::Demo(command) => settled(demo(resources, command)),
+        Command::Check(command) => settled(check(resources.alloc, command, files)),
+        Command::Fmt(command) => settled(fmt(resources.alloc, command, files)),
+        Command::Step(command) => settled(step(resources, command, files)),
     }
 }
 
 // What the words and the files come to.
 fn said_by<'a, F: Files, R: Threads + Wait + Sync>(
-    rt: &R,
-    alloc: Global,
+    resources: &Resources<'_, R>,
     command: Option<Command<'a>>,
     files: &mut F,
-    pace: &Pacing,
 ) -> Result<Said<'a>, NoMemory>
     requires { IfSome command HasSize }
     ensures answer { IfOk result (λ s. (words : List AnyName) → option_map command_now command.entry ≡ spec.command_of words →
@@ -87,7 +86,7 @@ fn said_by<'a, F: Files, R: Threads + Wait + Sync>(
 {
     match command {
         None => Ok(Said::Usage),
-        Some(command) => said_by_command(rt, alloc, command, files, pace),
+        Some(command) => said_by_command(resources, command, files),
     }
 }
 
@@ -109,30 +108,26 @@ fn texts_of(alloc: Global, asked: bool, said: Said<'_>) -> Result<Reply, NoMemor
 }
 
 fn reply_to<F: Files, R: Threads + Wait + Sync>(
-    rt: &R,
-    alloc: Global,
+    resources: &Resources<'_, R>,
     words: &[String],
     files: &mut F,
-    pace: &Pacing,
 ) -> Result<Reply, NoMemory>
     ensures replies { IfOk result (λ r. Replies (map string_bytes words.now) (F.known files.old) (F.known files.new)
         (status_code r.status) r.journal.items r.result.items r.err.items) }
     ensures unread { ReadsNone (spec.command_of (map string_bytes words.now)) → files.new ≡ files.old }
 {
-    let command = command_of(alloc, words)?;
-    let said = said_by(rt, alloc, command, files, pace)?;
-    texts_of(alloc, asks(command), said)
+    let command = command_of(resources.alloc, words)?;
+    let said = said_by(resources, command, files)?;
+    texts_of(resources.alloc, asks(command), said)
 }
 
 // Answers these words: all text is made before the first write.
 fn answer_words<F: Files, O: Sink, E: Sink, R: Threads + Wait + Sync>(
-    rt: &R,
-    alloc: Global,
+    resources: &Resources<'_, R>,
     words: &[String],
     files: &mut F,
     out: &mut O,
     err: &mut E,
-    pace: &Pacing,
 ) -> u8
     ensures answered { Answered (map string_bytes words.now) (F.known files.old) (F.known files.new)
         (O.known out.old) (O.known out.new) (E.known err.old) (E.known err.new) result }
@@ -145,7 +140,7 @@ fn answer_words<F: Files, O: Sink, E: Sink, R: Threads + Wait + Sync>(
     texts_have_one_tree();
     canonical_texts_are_read();
     canonical_texts_stay();
-    match reply_to(rt, alloc, words, files, pace) {
+    match reply_to(resources, words, files) {
         Ok(reply) => deliver(&reply, out, err),
         Err(NoMemory) => Status::NoMemory.code(),
     }
@@ -171,7 +166,14 @@ pub fn gp2_main<R: AllocGlobal + Threads + Wait + Sync, F: Files, O: Sink, E: Si
     ensures refused { OnErr words (IsSilent files.old files.new out.old out.new err.old err.new result) }
 {
     match words {
-        Ok(words) => answer_words(rt, rt.alloc(), &words, files, out, err, pace),
+        Ok(words) => {
+            let resources = Resources {
+                rt,
+                alloc: rt.alloc(),
+                pace,
+            };
+            answer_words(&resources, &words, files, out, err)
+        }
         Err(NoMemory) => Status::NoMemory.code(),
     }
 }

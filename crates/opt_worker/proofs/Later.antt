@@ -1,5 +1,5 @@
 -- A pass after turns of its worker.
-use Rattle.std.proofs.Common.{◌≡◌, ◌≤◌, List, [], ◌++◌, sym, refl, ap, ◌∙◌, arith, append_assoc, append-nil}
+use Rattle.std.proofs.Common.{◌≡◌, List, [], ◌++◌, sym, refl, ap, ◌∙◌, arith, append_assoc, append-nil}
 use Rattle.opt_core.specs.Runs.{commits_of}
 use Rattle.opt_core.specs.declared.event.Reply.{Reply}
 use Rattle.opt_gate.specs.declared.ask.Ask.{Ask}

@@ -3,3 +3,6 @@ mod News
 mod Later
 mod Batches
 mod Answered
+mod Lists
+mod Stops
+mod Joined

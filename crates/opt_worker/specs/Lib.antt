@@ -1,2 +1,4 @@
 pub mod Replica
+pub mod Entries
+pub mod Events
 pub mod inside

@@ -1,3 +1,4 @@
 -- What only bodies and proofs need.
 pub mod Reports
 pub mod Replies
+pub mod Jobs

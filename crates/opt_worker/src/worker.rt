@@ -23,12 +23,12 @@ use std::sync::Wait;
 /// another searches too. It is a hint: no result depends on it.
 pub const SHARES_OF_A_WORKER: u32 = 4;
 
-// Where a worker is at work: the system that it searches, the gate of the goal, and who hears of its searches and turns.
+/// Where a worker is at work: the system that it searches, the gate of the goal, and who hears of its searches and turns.
 #[derive(Drop)]
-struct Site<'a, S: System, P: Pace> {
-    system: &'a S,
-    gate: &'a Gate<S>,
-    pace: &'a P,
+pub struct Site<'a, S: System, P: Pace> {
+    pub system: &'a S,
+    pub gate: &'a Gate<S>,
+    pub pace: &'a P,
 }
 
 // Where a worker looks from, and how many matches it may offer in one turn.
@@ -257,35 +257,28 @@ fn round<S: System, P: Pace, R: Wait>(
 /// matches in one turn, and one where `batch` is 0.
 pub fn work_on<S: System, P: Pace, R: Wait>(
     rt: &R,
-    s: &S,
-    gate: &Gate<S>,
+    site: &Site<'_, S, P>,
     pass: &mut Pass<S>,
     state: &mut S::State,
-    pace: &P,
     batch: u32,
 )
-    requires gate { IsPassOf gate.now pass.old }
-    requires system { s.now ≡ (start_of gate.now).system }
-    requires state { state.old ≡ reached (S.means s.now) (start_of gate.now).base (entries_told pass.old) }
+    requires gate { IsPassOf site.now.gate.now pass.old }
+    requires system { site.now.system.now ≡ (start_of site.now.gate.now).system }
+    requires state { state.old ≡ reached (S.means site.now.system.now) (start_of site.now.gate.now).base (entries_told pass.old) }
     ensures later { IsLater pass.old pass.new }
-    ensures done { IsDone (S.means s.now) gate.now.key pass.new }
-    ensures replica { IsReplica (S.means s.now) (start_of gate.now).base pass.new.knows state.new }
+    ensures done { IsDone (S.means site.now.system.now) site.now.gate.now.key pass.new }
+    ensures replica { IsReplica (S.means site.now.system.now) (start_of site.now.gate.now).base pass.new.knows state.new }
 {
-    let site = Site {
-        system: s,
-        gate,
-        pace,
-    };
     let mut aim = Aim {
         from: pass.number(),
         batching: Batching::new(batch),
     };
     for _ in rt.forever() {
-        match round(rt, &site, pass, state, aim) {
+        match round(rt, site, pass, state, aim) {
             Ok(Some(next)) => aim = next,
             Ok(None) => return,
             Err(NoMemory) => {
-                gate.turn(rt, pass, s, Ask::Stop);
+                site.gate.turn(rt, pass, site.system, Ask::Stop);
                 return;
             }
         }
@@ -296,20 +289,18 @@ pub fn work_on<S: System, P: Pace, R: Wait>(
 /// `work_on` with the pass by value: it comes back knowing how the goal ended.
 pub fn work<S: System, P: Pace, R: Wait>(
     rt: &R,
-    s: &S,
-    gate: &Gate<S>,
+    site: &Site<'_, S, P>,
     mut pass: Pass<S>,
     state: &mut S::State,
-    pace: &P,
     batch: u32,
 ) -> Pass<S>
-    requires gate { IsPassOf gate.now pass }
-    requires system { s.now ≡ (start_of gate.now).system }
-    requires state { state.old ≡ reached (S.means s.now) (start_of gate.now).base (entries_told pass) }
+    requires gate { IsPassOf site.now.gate.now pass }
+    requires system { site.now.system.now ≡ (start_of site.now.gate.now).system }
+    requires state { state.old ≡ reached (S.means site.now.system.now) (start_of site.now.gate.now).base (entries_told pass) }
     ensures later { IsLater pass result }
-    ensures done { IsDone (S.means s.now) gate.now.key result }
-    ensures replica { IsReplica (S.means s.now) (start_of gate.now).base result.knows state.new }
+    ensures done { IsDone (S.means site.now.system.now) site.now.gate.now.key result }
+    ensures replica { IsReplica (S.means site.now.system.now) (start_of site.now.gate.now).base result.knows state.new }
 {
-    work_on(rt, s, gate, &mut pass, state, pace, batch);
+    work_on(rt, site, &mut pass, state, batch);
     pass
 }

@@ -11,16 +11,16 @@ use Rattle.gp_syntax.specs.Run.{Program}
 use Rattle.gp_hostfile.specs.Host.{IsHostText}
 use Rattle.gp_values.specs.Graph.{Graph as AnyGraph}
 use Rattle.gp_words.specs.CommandLine.{RunCommand, DemoCommand, CheckCommand, FmtCommand, StepCommand}
-use Rattle.gp_reply.specs.declared.said.Stop.{Stop}
-use Rattle.gp_reply.specs.declared.said.Stop.TheVariants as stops
-use Rattle.gp_reply.specs.declared.said.Said.{Said}
-use Rattle.gp_reply.specs.declared.said.Said.TheVariants as code
-use Rattle.gp_reply.specs.Texts as texts
-use Rattle.gp_reply.specs.Said.{said_of}
-use Rattle.gp_reply.specs.Inputs.{TellsProgram}
+use Rattle.gp_cli.specs.declared.said.Stop.{Stop}
+use Rattle.gp_cli.specs.declared.said.Stop.TheVariants as stops
+use Rattle.gp_cli.specs.declared.said.Said.{Said}
+use Rattle.gp_cli.specs.declared.said.Said.TheVariants as code
+use Rattle.gp_cli.specs.Texts as texts
+use Rattle.gp_cli.specs.Said.{said_of}
+use Rattle.gp_cli.specs.Inputs.{TellsProgram}
 use Rattle.gp_cli.specs.Answer.{RunAnswers, demo_program, demo_host, DemoAnswers, Checks, CheckAnswers, FmtAnswers, StepAnswers}
 use Rattle.gp_cli.specs.Written.{TakesAll, IsCutShort}
-use Rattle.gp_reply.specs.Loads.{names_of}
+use Rattle.gp_cli.specs.Loads.{names_of}
 
 -- ---- what commands come to
 

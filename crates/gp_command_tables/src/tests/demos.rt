@@ -1,9 +1,9 @@
 //! The summary of a small graph.
 
 use crate::tests::answers::expect;
+use gp_cli::summary;
 use gp_gen::Kind;
 use gp_hostfile::read_host;
-use gp_reply::summary;
 use gp_trace::read_trace;
 use std::test::Fail;
 

@@ -8,9 +8,8 @@ use super::starting::{core_of, opened, rows, true_cells};
 use gp_memory::NoMemory;
 use opt_cells::{CellRow, Cells, CellsGoal};
 use opt_core::Core;
-use opt_crew::pursue;
 use opt_system::Mode;
-use opt_worker::{Free, Held, Pace, work_on};
+use opt_worker::{Free, Held, Pace, Site, pursue, work_on};
 use std::alloc::Global;
 use std::sync::Wait;
 use std::test::Fail;
@@ -168,8 +167,13 @@ fn workers_one_after_another_are_found(rt: HostRuntime) -> Result<(), Fail> {
     let (gate, mut pass) = opened(rt.alloc(), 2, 10, 3)?;
     let (mut zero, mut one) = (pass.split(&gate, 0), pass.split(&gate, 1));
     let pace = Held::new(1000);
-    work_on(&rt, &Cells, &gate, &mut zero, &mut at_zero, &pace, 1);
-    work_on(&rt, &Cells, &gate, &mut one, &mut at_one, &pace, 1);
+    let site = Site {
+        system: &Cells,
+        gate: &gate,
+        pace: &pace,
+    };
+    work_on(&rt, &site, &mut zero, &mut at_zero, 1);
+    work_on(&rt, &site, &mut one, &mut at_one, 1);
     assert!(rt; pace.was_late());
     Ok(())
 }

@@ -11,7 +11,7 @@ use gp_memory::NoMemory;
 use opt_cells::{Cells, CellsGoal};
 use opt_gate::{Ask, Gate, Pass};
 use opt_system::Mode;
-use opt_worker::{Commits, Free, Pace, job_may_be_taken, work};
+use opt_worker::{Commits, Free, Pace, Site, job_may_be_taken, work};
 use std::alloc::Global;
 use std::sync::Wait;
 use std::sync::atomic::{AtomicBool, Ordering};
@@ -26,7 +26,12 @@ fn a_worker_alone_commits_each_place_and_finds_no_more(rt: HostRuntime) -> Resul
     let job = (pass, at);
     job_may_be_taken::<Cells>(&job);
     let (pass, mut at) = job;
-    let pass = work(&rt, &Cells, &gate, pass, &mut at, &Free, 1);
+    let site = Site {
+        system: &Cells,
+        gate: &gate,
+        pace: &Free,
+    };
+    let pass = work(&rt, &site, pass, &mut at, 1);
     let mut told = Answer::new(rt.alloc());
     put_founds::<Cells>(at.taken(), &mut told);
     put_core(gate.close(&rt, pass), &mut told);
@@ -79,7 +84,12 @@ fn told_by_batch<R: Wait>(
     let mut at = true_cells(alloc, 8)?;
     let (gate, pass) = opened_for(alloc, CellsGoal { mode, shares: 1 }, 8, items, 1)?;
     let pace = Commits::new();
-    let pass = work(rt, &Cells, &gate, pass, &mut at, &pace, batch);
+    let site = Site {
+        system: &Cells,
+        gate: &gate,
+        pace: &pace,
+    };
+    let pass = work(rt, &site, pass, &mut at, batch);
     told.put_number(pace.count());
     told.put(" by ");
     put_core(gate.close(rt, pass), &mut told);
@@ -150,9 +160,14 @@ fn stopped_in_search<R: Threads + Wait + Sync>(rt: &R, alloc: Global) -> Result<
         stopped: AtomicBool::new(false),
     };
     let (door, held) = (&gate, &pace);
+    let site = Site {
+        system: &Cells,
+        gate: door,
+        pace: held,
+    };
     let (mut p, q) = thread::join(
         rt,
-        move || work(rt, &Cells, door, p, &mut at, held, 1),
+        move || work(rt, &site, p, &mut at, 1),
         move || stop_by_hand(rt, &Cells, door, q, held),
     );
     p.join(&gate, q);

@@ -1,8 +1,7 @@
 -- What the answer to a report tells its worker.
-use Rattle.std.specs.Prelude.{ℕ, Option, Some, None}
+use Rattle.std.specs.Prelude.{ℕ, Some}
 use Rattle.opt_core.specs.declared.event.Reply.{Reply}
 use Rattle.opt_core.specs.declared.event.Reply.TheVariants as reply
-use Rattle.opt_core.specs.declared.event.Rest.{Rest}
 use Rattle.opt_core.specs.declared.event.Rest.TheVariants as rest
 
 module _ {F R : Type 0} where

@@ -1,10 +1,10 @@
 use Rattle.std.proofs.lemmas.Result.{err_from_is_err_and}
 use Rattle.gp_words.specs.Told.{check_now}
 use Rattle.gp_cli.specs.Answer.{Checks, CheckAnswers}
-use Rattle.gp_reply.specs.Inputs.{behind_both}
-use Rattle.gp_reply.specs.Loads.{StopsAtBoth}
-use Rattle.gp_reply.proofs.Loads.{stopped_so, both_stop}
-use Rattle.gp_cli.proofs.Loads.{settled_so, checks_since}
+use Rattle.gp_cli.specs.Inputs.{behind_both}
+use Rattle.gp_cli.specs.Loads.{StopsAtBoth}
+use Rattle.gp_cli.proofs.Loads.{stopped_so, both_stop}
+use Rattle.gp_cli.proofs.Settled.{settled_so, checks_since}
 use Rattle.gp_cli.proofs.check.check.Goals as goal
 
 pub returns-in_err-both : goal.returns-in_err-both

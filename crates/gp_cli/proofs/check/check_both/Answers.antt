@@ -1,10 +1,10 @@
 use Rattle.std.proofs.lemmas.Result.{err_from_is_err_and}
-use Rattle.gp_reply.specs.Texts.{long_result}
-use Rattle.gp_reply.specs.Inputs.{StopsAtTrace}
+use Rattle.gp_cli.specs.Texts.{long_result}
+use Rattle.gp_cli.specs.Inputs.{StopsAtTrace}
 use Rattle.gp_cli.specs.Answer.{Checks, at_trace, at_result, is_derivation, is_none}
-use Rattle.gp_reply.specs.Loads.{StopsAtFile}
-use Rattle.gp_reply.proofs.Loads.{stopped_so, result_stop, result_since, bytes_since}
-use Rattle.gp_cli.proofs.Loads.{checked}
+use Rattle.gp_cli.specs.Loads.{StopsAtFile}
+use Rattle.gp_cli.proofs.Loads.{stopped_so, result_stop, result_since, bytes_since}
+use Rattle.gp_cli.proofs.Settled.{checked}
 use Rattle.gp_cli.proofs.check.check_both.Goals as goal
 
 pub returns-in_err-trace : goal.returns-in_err-trace

@@ -1,7 +1,7 @@
 use Rattle.std.proofs.lemmas.Result.{err_from_is_err_and}
 use Rattle.gp_words.specs.Told.{demo_now}
 use Rattle.gp_cli.specs.Answer.{DemoAnswers}
-use Rattle.gp_reply.proofs.Loads.{stopped_so}
+use Rattle.gp_cli.proofs.Loads.{stopped_so}
 use Rattle.gp_cli.proofs.Demos.{ends}
 use Rattle.gp_cli.proofs.demo.demo.Goals as goal
 

@@ -1,5 +1,5 @@
 use Rattle.std.proofs.Common.{ap}
-use Rattle.gp_reply.specs.Texts.{formatted}
+use Rattle.gp_cli.specs.Texts.{formatted}
 use Rattle.gp_cli.proofs.fmt.canonical.Goals as goal
 
 pub returns : goal.returns

@@ -1,10 +1,10 @@
 use Rattle.std.proofs.Common.{sym, subst}
 use Rattle.std.proofs.lemmas.Result.{err_from_is_err_and}
 use Rattle.gp_words.specs.Told.{fmt_now}
-use Rattle.gp_reply.specs.Inputs.{StopsAtTree}
+use Rattle.gp_cli.specs.Inputs.{StopsAtTree}
 use Rattle.gp_cli.specs.Answer.{FmtAnswers, stops, formats}
-use Rattle.gp_reply.proofs.Loads.{stopped_so}
-use Rattle.gp_cli.proofs.Loads.{outcome_so}
+use Rattle.gp_cli.proofs.Loads.{stopped_so}
+use Rattle.gp_cli.proofs.Settled.{outcome_so}
 use Rattle.gp_cli.proofs.fmt.fmt.Goals as goal
 
 pub returns-in_err-tree : goal.returns-in_err-tree

@@ -4,7 +4,7 @@ use Rattle.std.proofs.lemmas.Option.{slice_get_within}
 use Rattle.std.proofs.lemmas.Result.{IfOk-weaker}
 use Rattle.gp_syntax.specs.Tree.{program_of_tree, rule_of_tree}
 use Rattle.gp_cli.specs.Answer.{Comes, gives, fails, is_spent, is_faulty}
-use Rattle.gp_reply.specs.Loads.{names_of}
+use Rattle.gp_cli.specs.Loads.{names_of}
 use Rattle.gp_cli.proofs.Runs.{runs_to}
 use Rattle.gp_cli.proofs.Stepped.{fault_journal, fault_beginning}
 use Rattle.gp_cli.proofs.run.run.Goals as goal

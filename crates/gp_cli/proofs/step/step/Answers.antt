@@ -1,10 +1,10 @@
 use Rattle.std.proofs.lemmas.Result.{err_from_is_err_and}
 use Rattle.gp_words.specs.Told.{step_now}
-use Rattle.gp_reply.specs.Inputs.{StopsAtScript, behind_both}
+use Rattle.gp_cli.specs.Inputs.{StopsAtScript, behind_both}
 use Rattle.gp_cli.specs.Answer.{StepAnswers, at_script}
-use Rattle.gp_reply.specs.Loads.{StopsAtBoth}
-use Rattle.gp_reply.proofs.Loads.{stopped_so, both_stop, script_since, has_script_since}
-use Rattle.gp_cli.proofs.Loads.{outcome_so}
+use Rattle.gp_cli.specs.Loads.{StopsAtBoth}
+use Rattle.gp_cli.proofs.Loads.{stopped_so, both_stop, script_since, has_script_since}
+use Rattle.gp_cli.proofs.Settled.{outcome_so}
 use Rattle.gp_cli.proofs.Stepped.{stepped}
 use Rattle.gp_cli.proofs.step.step.Goals as goal
 

@@ -1,7 +1,7 @@
 use Rattle.std.proofs.Common.{map}
 use Rattle.std.specs.Prelude.{string_bytes}
 use Rattle.std.proofs.lemmas.Result.{IfOk-weaker}
-use Rattle.gp_reply.specs.Said.{said_of}
+use Rattle.gp_cli.specs.Said.{said_of}
 use Rattle.gp_cli.proofs.top.reply_to.Goals as goal
 
 pub returns-clause-replies : goal.returns-clause-replies

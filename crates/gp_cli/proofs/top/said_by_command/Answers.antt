@@ -1,7 +1,7 @@
 use Rattle.std.proofs.lemmas.Result.{IfOk-weaker}
 use Rattle.gp_words.specs.Told.{run_now, demo_now, check_now, fmt_now, step_now}
 use Rattle.gp_cli.specs.Answer.{RunAnswers, DemoAnswers, CheckAnswers, FmtAnswers, StepAnswers, of_run, of_demo, of_check, of_fmt, of_step}
-use Rattle.gp_cli.proofs.Loads.{answered}
+use Rattle.gp_cli.proofs.Settled.{answered}
 use Rattle.gp_cli.proofs.top.said_by_command.Goals as goal
 
 pub returns-in-Run-clause-answer : goal.returns-in-Run-clause-answer

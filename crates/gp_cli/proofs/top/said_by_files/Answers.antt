@@ -1,10 +1,10 @@
 use Rattle.std.proofs.lemmas.Result.{err_from_is_err_and}
 use Rattle.gp_words.specs.Told.{run_now}
 use Rattle.gp_cli.specs.Answer.{RunAnswers}
-use Rattle.gp_reply.specs.Inputs.{behind_both}
-use Rattle.gp_reply.specs.Loads.{StopsAtBoth}
-use Rattle.gp_reply.proofs.Loads.{stopped_so, both_stop}
-use Rattle.gp_cli.proofs.Loads.{outcome_so}
+use Rattle.gp_cli.specs.Inputs.{behind_both}
+use Rattle.gp_cli.specs.Loads.{StopsAtBoth}
+use Rattle.gp_cli.proofs.Loads.{stopped_so, both_stop}
+use Rattle.gp_cli.proofs.Settled.{outcome_so}
 use Rattle.gp_cli.proofs.top.said_by_files.Goals as goal
 
 pub returns-in_err-program : goal.returns-in_err-program

@@ -11,7 +11,7 @@ use gp_memory::NoMemory;
 use opt_cells::{CellRow, Cells};
 use opt_core::Reply;
 use opt_gate::{Ask, Gate, Pass};
-use opt_worker::{Free, work};
+use opt_worker::{Free, Site, work};
 use std::alloc::Global;
 use std::sync::Wait;
 use std::test::Fail;
@@ -62,7 +62,12 @@ fn told_of_two<R: Threads + Wait + Sync>(rt: &R, alloc: Global) -> Result<Answer
     if even & odd == 0 && even | odd == 255 {
         told.put("0 to 7 once each, ");
     }
-    p = work(rt, &Cells, &gate, p, &mut at, &Free, 1);
+    let site = Site {
+        system: &Cells,
+        gate: &gate,
+        pace: &Free,
+    };
+    p = work(rt, &site, p, &mut at, 1);
     p.join(&gate, zero);
     p.join(&gate, one);
     let (_, entries, left, ending) = gate.close(rt, p).into_parts();

@@ -13,12 +13,12 @@ pub loop-init : goal.loop-init
 loop-init g c = (later_self c.args.pass.now, c.requires.state)
 
 pub round-requires-clause-gate : goal.round-requires-clause-gate
-round-requires-clause-gate g c = still_of c.args.gate.now c.args.pass.now c.loop.pass c.requires.gate c.loop.invariant.0
+round-requires-clause-gate g c = still_of c.args.site.now.gate.now c.args.pass.now c.loop.pass c.requires.gate c.loop.invariant.0
 
 pub loop-preserved : goal.loop-preserved
 loop-preserved g c =
-    let m = g.S.System.means c.args.s.now in
-    let base = (start_of c.args.gate.now).base in (
+    let m = g.S.System.means c.args.site.now.system.now in
+    let base = (start_of c.args.site.now.gate.now).base in (
       later_trans c.args.pass.now c.loop.pass c.round.new.pass c.loop.invariant.0 c.round.ensures.later,
       subst (λ (o : Option _). IfSome o (λ _. c.round.new.at ≡ reached m base (entries_told c.round.new.pass))) c.in-Ok-Some.field-0-is c.in-Ok-Some.ensures.at,
     )
@@ -28,14 +28,14 @@ returns-in-Ok-None-clause-later g c = later_trans c.args.pass.now c.loop.pass c.
 
 pub returns-in-Ok-None-clause-done : goal.returns-in-Ok-None-clause-done
 returns-in-Ok-None-clause-done g c =
-    subst (λ (o : Option _). IfNone o (IsDone (g.S.System.means c.args.s.now) c.args.gate.now.key c.round.new.pass)) c.in-Ok-None.field-0-is c.in-Ok-None.ensures.done
+    subst (λ (o : Option _). IfNone o (IsDone (g.S.System.means c.args.site.now.system.now) c.args.site.now.gate.now.key c.round.new.pass)) c.in-Ok-None.field-0-is c.in-Ok-None.ensures.done
 
 pub returns-in-Ok-None-clause-replica : goal.returns-in-Ok-None-clause-replica
 returns-in-Ok-None-clause-replica g c = c.round.ensures.replica
 
 pub turn-requires-clause-gate : goal.turn-requires-clause-gate
 turn-requires-clause-gate g c =
-    still_of c.args.gate.now c.args.pass.now c.round.new.pass c.requires.gate (later_trans c.args.pass.now c.loop.pass c.round.new.pass c.loop.invariant.0 c.round.ensures.later)
+    still_of c.args.site.now.gate.now c.args.pass.now c.round.new.pass c.requires.gate (later_trans c.args.pass.now c.loop.pass c.round.new.pass c.loop.invariant.0 c.round.ensures.later)
 
 pub returns-in-Err-clause-later : goal.returns-in-Err-clause-later
 returns-in-Err-clause-later g c =
@@ -49,4 +49,4 @@ returns-in-Err-clause-done g c =
 
 pub returns-in-Err-clause-replica : goal.returns-in-Err-clause-replica
 returns-in-Err-clause-replica g c =
-    replica_further (g.S.System.means c.args.s.now) (start_of c.args.gate.now).base c.round.new.at c.round.new.pass.knows c.turn.new.pass.knows c.turn.ensures.further c.round.ensures.replica
+    replica_further (g.S.System.means c.args.site.now.system.now) (start_of c.args.site.now.gate.now).base c.round.new.at c.round.new.pass.knows c.turn.new.pass.knows c.turn.ensures.further c.round.ensures.replica

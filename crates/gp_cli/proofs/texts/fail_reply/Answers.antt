@@ -1,0 +1,6 @@
+use Rattle.gp_cli.specs.Texts.{fail_shown}
+use Rattle.gp_cli.proofs.Shown.{on_out_shown}
+use Rattle.gp_cli.proofs.texts.fail_reply.Goals as goal
+
+pub returns : goal.returns
+returns c = on_out_shown (fail_shown c.in_ok-trace.ensures) (rw c.in_ok-text.ensures.items at c.on_out.ensures)

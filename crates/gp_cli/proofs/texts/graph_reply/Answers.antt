@@ -1,0 +1,6 @@
+use Rattle.gp_cli.specs.Texts.{graph_shown}
+use Rattle.gp_cli.proofs.Shown.{on_out_shown}
+use Rattle.gp_cli.proofs.texts.graph_reply.Goals as goal
+
+pub returns : goal.returns
+returns c = on_out_shown (graph_shown c.in_ok-trace.ensures (rw c.graph.ensures at c.in_ok-text.ensures)) c.on_out.ensures

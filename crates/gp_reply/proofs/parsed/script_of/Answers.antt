@@ -1,5 +1,0 @@
-use Rattle.gp_reply.proofs.Faults.{script_faults}
-use Rattle.gp_reply.proofs.parsed.script_of.Goals as goal
-
-pub returns-in-Err : goal.returns-in-Err
-returns-in-Err c = rw c.script_refused.ensures (script_faults _ _ c.in-Err.ensures.fault)

@@ -1,8 +1,0 @@
-use Rattle.gp_reply.specs.Texts.{demo_shown}
-use Rattle.gp_reply.proofs.Shown.{on_out_shown}
-use Rattle.gp_reply.proofs.texts.demo_reply.Goals as goal
-
-pub returns : goal.returns
-returns c =
-    let t = rw (c.graph.ensures, c.items.ensures) at c.in_ok-text.ensures in
-    λ asked. on_out_shown demo_shown (rw (c.new.ensures.items, t) at c.on_out.ensures)

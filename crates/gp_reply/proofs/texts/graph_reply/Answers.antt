@@ -1,6 +1,0 @@
-use Rattle.gp_reply.specs.Texts.{graph_shown}
-use Rattle.gp_reply.proofs.Shown.{on_out_shown}
-use Rattle.gp_reply.proofs.texts.graph_reply.Goals as goal
-
-pub returns : goal.returns
-returns c = on_out_shown (graph_shown c.in_ok-trace.ensures (rw c.graph.ensures at c.in_ok-text.ensures)) c.on_out.ensures

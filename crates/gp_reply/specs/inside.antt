@@ -1,3 +1,0 @@
--- Stepping stones that bodies and proofs alone need.
-pub mod Depth
-pub mod Sides

@@ -1,5 +1,0 @@
-use Rattle.opt_crew.proofs.Stops.{stopped_by}
-use Rattle.opt_crew.proofs.crew.stopped.Goals as goal
-
-pub returns-clause-events : goal.returns-clause-events
-returns-clause-events g c = stopped_by (g.S.System.means c.args.s.now) c.args.core c.step.new.self c.step.result c.step.ensures.answers
