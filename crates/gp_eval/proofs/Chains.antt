@@ -18,6 +18,9 @@ use Rattle.gp_syntax.specs.Tree.{expression_of, operands_of, sum as summed, prod
 use Rattle.gp_syntax.specs.Value.{Setting, Valued, Value, NoValue, ◌>>=◌, value_of, ranged, quotient, integer, characters, number}
 use Rattle.gp_syntax.specs.declared.kinds.NumberKind.TheVariants.{PastBits}
 use Rattle.gp_eval.specs.inside.Compared.{IsListed}
+use Rattle.gp_eval.specs.Answer.{presence}
+use Rattle.gp_syntax.specs.declared.kinds.NumberKind.{NumberKind}
+use Rattle.std.proofs.lemmas.Option.{none-some, same_Some}
 use Rattle.gp_syntax.specs.WellFormed.{IsWithin}
 use Rattle.gp_eval.specs.declared.valued.Missing.{Missing}
 use Rattle.gp_eval.specs.declared.valued.Missing.TheVariants as missing
@@ -309,3 +312,18 @@ some_left xs b is f e = absurd (let d : false ≡ true = sym f ∙ is.1 e in cc)
 pub some_as : {X : Type 0} (o : Option X) (P Q : X → Type 0) → ((x : X) → P x → Q x) → IfSome o P → IfSome o Q
 some_as None P Q f h = h
 some_as (Some x) P Q f h = f x h
+
+-- ---- whether there is a value
+
+abbrev kind_told : Valued (Unit {0}) → Option NumberKind
+kind_told (Value u) = None
+kind_told (NoValue k) = Some k
+
+pub present : (v : Values) (u : Unit {0}) → presence v ≡ Value u → (x : List Atom) × (v ≡ Value x)
+present (Value x) u h = (x, refl)
+present (NoValue k) u h = absurd (none-some k (sym (ap kind_told h)))
+
+pub absent : (e : Missing) (v : Values) → Lacks e (presence v) → Lacks e v
+absent (missing.NoValue k) (Value x) h = absurd (none-some k (ap kind_told h))
+absent (missing.NoValue k) (NoValue j) h = ap NoValue (same_Some j k (ap kind_told h))
+absent missing.NoMemory v h = tt

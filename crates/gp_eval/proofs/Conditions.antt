@@ -14,7 +14,6 @@ use Rattle.gp_syntax.specs.WellFormed.{IsConditionWithin}
 use Rattle.gp_eval.specs.declared.valued.Missing.{Missing}
 use Rattle.gp_eval.specs.declared.valued.Missing.TheVariants as missing
 use Rattle.gp_eval.specs.inside.Chains.{Lacks, and_step, or_step}
-use Rattle.gp_eval.proofs.Chains.{bind_lacks}
 use Rattle.gp_eval.specs.inside.Size.{condition_step, condition_size, condition_sizes}
 
 abbrev pub Tree : Type 0

@@ -5,7 +5,7 @@ ghost use Rattle.gp_syntax.specs.Tree.{expression_of};
 ghost use Rattle.gp_syntax.specs.Value.{value_of};
 ghost use Rattle.gp_syntax.specs.WellFormed.{IsWithin};
 ghost use Rattle.gp_syntax.specs.Assigned.{IsWhole};
-ghost use Rattle.gp_eval.specs.Answer.{Tells, presence, setting, AreNodes};
+ghost use Rattle.gp_eval.specs.Answer.{Tells, setting, AreNodes};
 ghost use Rattle.gp_eval.specs.inside.Chains.{Gives, counted, sum_step, product_step, dot_step, join_step};
 
 use crate::arithmetic::{
@@ -37,30 +37,6 @@ pub fn value(
         Ok(list) => Valued::Value(list),
         Err(Missing::NoValue(kind)) => Valued::NoValue(kind),
         Err(Missing::NoMemory) => Valued::NoMemory,
-    }
-}
-
-/// Whether an expression has a value, as `value` says it, without the value: of arithmetic only integers are made.
-pub fn has_value(
-    alloc: Global,
-    e: &Expr<u32>,
-    assignment: &Assignment,
-    nodes: &[u64],
-    graph: &Graph,
-) -> Valued<()>
-    requires within { IsWithin (length assignment.now.types) (length nodes.now) (expression_of e.now) }
-    requires whole { IsWhole assignment.now }
-    requires nodes { AreNodes graph.now.graph nodes.now }
-    ensures { Tells result (presence (value_of (expression_of e.now) (setting assignment.now nodes.now graph.now.graph))) }
-{
-    match e {
-        Expr::Text(_) => Valued::Value(()),
-        Expr::Empty => Valued::Value(()),
-        _ => match eval_integer(alloc, e, assignment, nodes, graph) {
-            Ok(_) => Valued::Value(()),
-            Err(Missing::NoValue(kind)) => Valued::NoValue(kind),
-            Err(Missing::NoMemory) => Valued::NoMemory,
-        },
     }
 }
 

@@ -14,10 +14,12 @@ mod condition;
 mod denied;
 mod edges;
 mod expression;
+mod labels;
 mod leaf;
 mod valued;
 
 pub use condition::holds;
 pub use denied::is_denied;
-pub use expression::{has_value, value};
+pub use expression::value;
+pub use labels::has_value;
 pub use valued::Valued;
