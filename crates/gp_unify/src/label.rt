@@ -12,6 +12,7 @@ ghost use Rattle.gp_unify.specs.Unify.{atoms_in, read, unify, unify_text, told_r
 
 use crate::mismatch::Mismatch;
 use crate::pieces::{atoms_for, behind_integer, behind_string, fixed_atoms, split_atoms, type_at};
+use crate::reading::Reading;
 use crate::text::unify_dots;
 use crate::trail::tell;
 use gp_syntax::{Assignment, SimpleLabel, VariableType};
@@ -73,20 +74,19 @@ fn behind_minus<'v>(z: &i128, atoms: &'v [Atom]) -> Option<&'v [Atom]>
 
 // What is left of a list behind the value of a variable.
 fn read_variable<'v>(
-    alloc: Global,
-    spare: usize,
+    reading: Reading,
     x: u32,
     atoms: &'v [Atom],
     assignment: &mut Assignment,
     trail: &mut Vec<u32>,
 ) -> Result<&'v [Atom], Mismatch>
     requires { x < length assignment.old.types }
-    ensures reads { Reads result (read (type_in assignment.old.types) spare (Variable x) atoms.now (known_of assignment.old)) assignment.new }
+    ensures reads { Reads result (read (type_in assignment.old.types) reading.spare (Variable x) atoms.now (known_of assignment.old)) assignment.new }
     ensures grown { Grown assignment.old assignment.new trail.old.items trail.new.items }
 {
-    let count = atoms_for(type_at(assignment.types(), x), spare);
+    let count = atoms_for(type_at(assignment.types(), x), reading.spare);
     let (front, left) = split_atoms(atoms, count);
-    tell(alloc, x, front, assignment, trail)?;
+    tell(reading.alloc, x, front, assignment, trail)?;
     Ok(left)
 }
 
@@ -125,29 +125,28 @@ fn or_differs(left: Option<&[Atom]>) -> Result<&[Atom], Mismatch>
 // What is left of a list behind a label.
 #[cycle(label)]
 fn read<'v>(
-    alloc: Global,
-    spare: usize,
+    reading: Reading,
     label: &SimpleLabel,
     atoms: &'v [Atom],
     assignment: &mut Assignment,
     trail: &mut Vec<u32>,
 ) -> Result<&'v [Atom], Mismatch>
     requires { AreKnown (length assignment.old.types) (label_of label.now) }
-    ensures reads { Reads result (read (type_in assignment.old.types) spare (label_of label.now) atoms.now (known_of assignment.old)) assignment.new }
+    ensures reads { Reads result (read (type_in assignment.old.types) reading.spare (label_of label.now) atoms.now (known_of assignment.old)) assignment.new }
     ensures grown { Grown assignment.old assignment.new trail.old.items trail.new.items }
 {
     match label {
         SimpleLabel::Number(z) => or_differs(behind_integer(z, atoms)),
         SimpleLabel::NegatedNumber(z) => or_differs(behind_minus(z, atoms)),
         SimpleLabel::Text(text) => or_differs(behind_string(text.as_bytes(), atoms)),
-        SimpleLabel::Variable(x) => read_variable(alloc, spare, *x, atoms, assignment, trail),
+        SimpleLabel::Variable(x) => read_variable(reading, *x, atoms, assignment, trail),
         SimpleLabel::Empty => Ok(atoms),
         SimpleLabel::Dot(first, rest) => {
             if rest.is_empty() {
-                read(alloc, spare, first.get(), atoms, assignment, trail)
+                read(reading, first.get(), atoms, assignment, trail)
             } else {
                 read_chain(
-                    alloc,
+                    reading.alloc,
                     first.get(),
                     rest.as_slice(),
                     atoms,
@@ -158,8 +157,7 @@ fn read<'v>(
         }
         SimpleLabel::Join(first, rest) => {
             read_joins(
-                alloc,
-                spare,
+                reading,
                 first.get(),
                 rest.as_slice(),
                 atoms,
@@ -172,8 +170,7 @@ fn read<'v>(
 
 #[cycle(label)]
 fn read_joins<'v>(
-    alloc: Global,
-    spare: usize,
+    reading: Reading,
     first: &SimpleLabel,
     rest: &[SimpleLabel],
     atoms: &'v [Atom],
@@ -182,12 +179,12 @@ fn read_joins<'v>(
 ) -> Result<&'v [Atom], Mismatch>
     requires first { AreKnown (length assignment.old.types) (label_of first.now) }
     requires rest { All (λ l. AreKnown (length assignment.old.types) (label_of l)) rest.now }
-    ensures reads { Reads result (read (type_in assignment.old.types) spare (joins (label_of first.now) (map label_of rest.now)) atoms.now (known_of assignment.old)) assignment.new }
+    ensures reads { Reads result (read (type_in assignment.old.types) reading.spare (joins (label_of first.now) (map label_of rest.now)) atoms.now (known_of assignment.old)) assignment.new }
     ensures grown { Grown assignment.old assignment.new trail.old.items trail.new.items }
 {
-    let mut left = read(alloc, spare, first, atoms, assignment, trail)?;
+    let mut left = read(reading, first, atoms, assignment, trail)?;
     'parts: for part in rest {
-        left = read(alloc, spare, part, left, assignment, trail)?;
+        left = read(reading, part, left, assignment, trail)?;
     }
     Ok(left)
 }
@@ -205,7 +202,8 @@ pub(crate) fn unify_label(
     ensures grown { Grown assignment.old assignment.new trail.old.items trail.new.items }
 {
     let spare = spare_in_label(assignment.types(), label, atoms.len());
-    let left = read(alloc, spare, label, atoms, assignment, trail)?;
+    let reading = Reading { alloc, spare };
+    let left = read(reading, label, atoms, assignment, trail)?;
     if left.is_empty() {
         Ok(())
     } else {

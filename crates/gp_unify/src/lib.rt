@@ -11,6 +11,7 @@ pub mod laws;
 mod matched;
 mod mismatch;
 mod pieces;
+mod reading;
 mod text;
 mod trail;
 mod unifier;

@@ -12,6 +12,7 @@ ghost use Rattle.gp_unify.specs.Unify.{characters_in, read_text, unify_text};
 
 use crate::mismatch::Mismatch;
 use crate::pieces::{behind_codes, characters_for, fixed_characters, split_codes, type_at};
+use crate::reading::Reading;
 use crate::trail::tell_text;
 use gp_syntax::{Assignment, SimpleLabel, VariableType};
 use std::alloc::Global;
@@ -57,8 +58,7 @@ fn spare_in_dots(
 
 // What is left of a string behind the value of a variable.
 fn read_variable<'v>(
-    alloc: Global,
-    spare: usize,
+    reading: Reading,
     x: u32,
     codes: &'v [u8],
     assignment: &mut Assignment,
@@ -66,21 +66,20 @@ fn read_variable<'v>(
 ) -> Result<&'v [u8], Mismatch>
     requires known { x < length assignment.old.types }
     requires text { IsText codes.now }
-    ensures reads { Reads result (read_text (type_in assignment.old.types) spare (Variable x) codes.now (known_of assignment.old)) assignment.new }
+    ensures reads { Reads result (read_text (type_in assignment.old.types) reading.spare (Variable x) codes.now (known_of assignment.old)) assignment.new }
     ensures grown { Grown assignment.old assignment.new trail.old.items trail.new.items }
     ensures text { IfOk result (λ left. IsText left.now) }
 {
-    let count = characters_for(type_at(assignment.types(), x), spare);
+    let count = characters_for(type_at(assignment.types(), x), reading.spare);
     let (front, left) = split_codes(codes, count);
-    tell_text(alloc, x, front, assignment, trail)?;
+    tell_text(reading.alloc, x, front, assignment, trail)?;
     Ok(left)
 }
 
 // What is left of a string behind a part of a chain.
 #[cycle(text)]
 fn read_text<'v>(
-    alloc: Global,
-    spare: usize,
+    reading: Reading,
     part: &SimpleLabel,
     codes: &'v [u8],
     assignment: &mut Assignment,
@@ -88,7 +87,7 @@ fn read_text<'v>(
 ) -> Result<&'v [u8], Mismatch>
     requires known { AreKnown (length assignment.old.types) (label_of part.now) }
     requires text { IsText codes.now }
-    ensures reads { Reads result (read_text (type_in assignment.old.types) spare (label_of part.now) codes.now (known_of assignment.old)) assignment.new }
+    ensures reads { Reads result (read_text (type_in assignment.old.types) reading.spare (label_of part.now) codes.now (known_of assignment.old)) assignment.new }
     ensures grown { Grown assignment.old assignment.new trail.old.items trail.new.items }
     ensures text { IfOk result (λ left. IsText left.now) }
 {
@@ -97,11 +96,10 @@ fn read_text<'v>(
             Some(left) => Ok(left),
             None => Err(Mismatch::Differs),
         },
-        SimpleLabel::Variable(x) => read_variable(alloc, spare, *x, codes, assignment, trail),
+        SimpleLabel::Variable(x) => read_variable(reading, *x, codes, assignment, trail),
         SimpleLabel::Dot(first, rest) => {
             read_dots(
-                alloc,
-                spare,
+                reading,
                 first.get(),
                 rest.as_slice(),
                 codes,
@@ -111,7 +109,7 @@ fn read_text<'v>(
         }
         SimpleLabel::Join(first, rest) => {
             if rest.is_empty() {
-                read_text(alloc, spare, first.get(), codes, assignment, trail)
+                read_text(reading, first.get(), codes, assignment, trail)
             } else {
                 Err(Mismatch::Differs)
             }
@@ -124,8 +122,7 @@ fn read_text<'v>(
 
 #[cycle(text)]
 fn read_dots<'v>(
-    alloc: Global,
-    spare: usize,
+    reading: Reading,
     first: &SimpleLabel,
     rest: &[SimpleLabel],
     codes: &'v [u8],
@@ -135,13 +132,13 @@ fn read_dots<'v>(
     requires first { AreKnown (length assignment.old.types) (label_of first.now) }
     requires rest { All (λ l. AreKnown (length assignment.old.types) (label_of l)) rest.now }
     requires text { IsText codes.now }
-    ensures reads { Reads result (read_text (type_in assignment.old.types) spare (dots (label_of first.now) (map label_of rest.now)) codes.now (known_of assignment.old)) assignment.new }
+    ensures reads { Reads result (read_text (type_in assignment.old.types) reading.spare (dots (label_of first.now) (map label_of rest.now)) codes.now (known_of assignment.old)) assignment.new }
     ensures grown { Grown assignment.old assignment.new trail.old.items trail.new.items }
     ensures text { IfOk result (λ left. IsText left.now) }
 {
-    let mut left = read_text(alloc, spare, first, codes, assignment, trail)?;
+    let mut left = read_text(reading, first, codes, assignment, trail)?;
     'parts: for part in rest {
-        left = read_text(alloc, spare, part, left, assignment, trail)?;
+        left = read_text(reading, part, left, assignment, trail)?;
     }
     Ok(left)
 }
@@ -162,7 +159,8 @@ pub(crate) fn unify_dots(
     ensures grown { Grown assignment.old assignment.new trail.old.items trail.new.items }
 {
     let spare = spare_in_dots(assignment.types(), first, rest, codes.len());
-    let left = read_dots(alloc, spare, first, rest, codes, assignment, trail)?;
+    let reading = Reading { alloc, spare };
+    let left = read_dots(reading, first, rest, codes, assignment, trail)?;
     if left.is_empty() {
         Ok(())
     } else {

@@ -16,7 +16,7 @@ use Rattle.gp_unify.proofs.label.+label.Goals as goal
 pub read_joins-returns-in_err-left-clause-reads : goal.read_joins-returns-in_err-left-clause-reads
 read_joins-returns-in_err-left-clause-reads t c =
     let ts = type_in c.args.assignment.now.types in
-    let n = c.args.spare in
+    let n = c.args.reading.spare in
     let e = c.in_err-left.field-0.0 in
     refused _ e _ _ c.from_residual.ensures.1
     (subst (λ z. Refuses e z) (sym (read_joins_is ts n (label_of c.args.first.now) c.args.rest.now c.args.atoms.now (known_of c.args.assignment.now)))
@@ -32,7 +32,7 @@ read_joins-read-requires-in-parts t c =
 pub read_joins-returns-in_err-left-2-clause-reads : goal.read_joins-returns-in_err-left-2-clause-reads
 read_joins-returns-in_err-left-2-clause-reads t c =
     let ts = type_in c.args.assignment.now.types in
-    let n = c.args.spare in
+    let n = c.args.reading.spare in
     let e = c.in_err-left-2.field-0.0 in
     let r : Refuses e (read ts n (label_of c.part-item.result) c.parts.left.now (known_of c.parts.assignment)) = subst (λ (z : List VariableType). Refuses e (read (type_in z) n (label_of c.part-item.result) c.parts.left.now (known_of c.parts.assignment))) c.parts.invariant.grown.types c.in_err-left-2.ensures.reads in
     refused _ e _ _ c.from_residual-in_err-left-2.ensures.1
@@ -46,7 +46,7 @@ read_joins-returns-in_err-left-2-clause-grown t c =
 pub read_joins-parts-preserved : goal.read_joins-parts-preserved
 read_joins-parts-preserved t c =
     let ts = type_in c.args.assignment.now.types in
-    let n = c.args.spare in
+    let n = c.args.reading.spare in
     let r : read ts n (label_of c.part-item.result) c.parts.left.now (known_of c.parts.assignment) ≡ Some (rest c.in_ok-left-2.left.now (known_of c.read-in-parts.new.assignment)) = subst (λ (z : List VariableType). read (type_in z) n (label_of c.part-item.result) c.parts.left.now (known_of c.parts.assignment) ≡ Some (rest c.in_ok-left-2.left.now (known_of c.read-in-parts.new.assignment))) c.parts.invariant.grown.types c.in_ok-left-2.ensures.reads in
     record {
       on = part_read (λ l s p. read ts n (label_of l) s p) c.parts.left.now c.in_ok-left-2.left.now (known_of c.parts.assignment) (known_of c.read-in-parts.new.assignment) c.parts.part-index c.part-item.result c.args.rest.now _ c.parts-test.true c.part-item.is r c.parts.invariant.on;
@@ -56,7 +56,7 @@ read_joins-parts-preserved t c =
 pub read_joins-returns-clause-reads : goal.read_joins-returns-clause-reads
 read_joins-returns-clause-reads t c =
     let ts = type_in c.args.assignment.now.types in
-    let n = c.args.spare in
+    let n = c.args.reading.spare in
     read_joins_is ts n (label_of c.args.first.now) c.args.rest.now c.args.atoms.now (known_of c.args.assignment.now)
     ∙ parts_read (λ l s p. read ts n (label_of l) s p) (Some (rest c.parts.left.now (known_of c.parts.assignment))) _ c.parts.part-index c.args.rest.now c.parts-test.false c.parts.invariant.on
 
@@ -122,13 +122,13 @@ pub read-returns-then-is_empty-clause-reads :
 read-returns-then-is_empty-clause-reads t c =
     let ts = type_in c.args.assignment.now.types in
     let n : c.in-Dot.rest ≡ [] = c.if-is_empty.ensures.0 refl in
-    rw (one_dotted (λ e. read ts c.args.spare e c.args.atoms.now (known_of c.args.assignment.now)) c.args.label.now c.in-Dot.first c.in-Dot.rest c.in-Dot.is n, ← c.get.ensures) c.read.ensures.reads
+    rw (one_dotted (λ e. read ts c.args.reading.spare e c.args.atoms.now (known_of c.args.assignment.now)) c.args.label.now c.in-Dot.first c.in-Dot.rest c.in-Dot.is n, ← c.get.ensures) c.read.ensures.reads
 
 pub read-returns-else-is_empty-clause-reads :
     goal.read-returns-else-is_empty-clause-reads
 read-returns-else-is_empty-clause-reads t c =
     let ts = type_in c.args.assignment.now.types in
-    rw (chain_read ts c.args.spare c.args.atoms.now (known_of c.args.assignment.now) c.args.label.now c.in-Dot.first c.in-Dot.rest c.in-Dot.is (λ n. let h = c.if-is_empty.ensures.1 n in cc), ← c.get-else-is_empty.ensures, ← c.as_slice.ensures) c.read_chain.ensures.reads
+    rw (chain_read ts c.args.reading.spare c.args.atoms.now (known_of c.args.assignment.now) c.args.label.now c.in-Dot.first c.in-Dot.rest c.in-Dot.is (λ n. let h = c.if-is_empty.ensures.1 n in cc), ← c.get-else-is_empty.ensures, ← c.as_slice.ensures) c.read_chain.ensures.reads
 
 -- ---- what grew in a label
 
@@ -160,7 +160,7 @@ read-returns-else-is_empty-clause-grown t c = c.read_chain.ensures.grown
 
 pub read_joins-parts-init : goal.read_joins-parts-init
 read_joins-parts-init t c = record {
-  on = ap (λ z. fold (join_step (type_in c.args.assignment.now.types) c.args.spare) z c.args.rest.now) (sym c.in_ok-left.ensures.reads);
+  on = ap (λ z. fold (join_step (type_in c.args.assignment.now.types) c.args.reading.spare) z c.args.rest.now) (sym c.in_ok-left.ensures.reads);
   grown = c.in_ok-left.ensures.grown;
 }
 

@@ -15,6 +15,6 @@ decreases-read_joins l = 1 + size l.first.now + sizes l.rest.now
 
 abbrev pub invariant-read_joins-parts : goal.invariant-read_joins-parts
 invariant-read_joins-parts l = let ts = type_in l.fn.assignment.types in record {
-  on : fold (join_step ts l.spare) (Some (rest l.left (known_of l.assignment))) (drop l.part-index l.rest) ≡ fold (join_step ts l.spare) (read ts l.spare (label_of l.first) l.atoms (known_of l.fn.assignment)) l.rest;
+  on : fold (join_step ts l.reading.spare) (Some (rest l.left (known_of l.assignment))) (drop l.part-index l.rest) ≡ fold (join_step ts l.reading.spare) (read ts l.reading.spare (label_of l.first) l.atoms (known_of l.fn.assignment)) l.rest;
   grown : Grown l.fn.assignment l.assignment l.fn.trail.items l.trail.items;
 }

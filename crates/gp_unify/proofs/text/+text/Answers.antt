@@ -16,7 +16,7 @@ use Rattle.gp_unify.proofs.text.+text.Goals as goal
 pub read_dots-returns-in_err-left-clause-reads : goal.read_dots-returns-in_err-left-clause-reads
 read_dots-returns-in_err-left-clause-reads t c =
     let ts = type_in c.args.assignment.now.types in
-    let n = c.args.spare in
+    let n = c.args.reading.spare in
     let e = c.in_err-left.field-0.0 in
     refused _ e _ _ c.from_residual.ensures.1
     (subst (λ z. Refuses e z) (sym (read_dots_is ts n (label_of c.args.first.now) c.args.rest.now c.args.codes.now (known_of c.args.assignment.now)))
@@ -32,7 +32,7 @@ read_dots-read_text-requires-in-parts t c =
 pub read_dots-returns-in_err-left-2-clause-reads : goal.read_dots-returns-in_err-left-2-clause-reads
 read_dots-returns-in_err-left-2-clause-reads t c =
     let ts = type_in c.args.assignment.now.types in
-    let n = c.args.spare in
+    let n = c.args.reading.spare in
     let e = c.in_err-left-2.field-0.0 in
     let r : Refuses e (read_text ts n (label_of c.part-item.result) c.parts.left.now (known_of c.parts.assignment)) = subst (λ (z : List VariableType). Refuses e (read_text (type_in z) n (label_of c.part-item.result) c.parts.left.now (known_of c.parts.assignment))) c.parts.invariant.grown.types c.in_err-left-2.ensures.reads in
     refused _ e _ _ c.from_residual-in_err-left-2.ensures.1
@@ -46,7 +46,7 @@ read_dots-returns-in_err-left-2-clause-grown t c =
 pub read_dots-parts-preserved : goal.read_dots-parts-preserved
 read_dots-parts-preserved t c =
     let ts = type_in c.args.assignment.now.types in
-    let n = c.args.spare in
+    let n = c.args.reading.spare in
     let r : read_text ts n (label_of c.part-item.result) c.parts.left.now (known_of c.parts.assignment) ≡ Some (rest c.in_ok-left-2.left.now (known_of c.read_text-in-parts.new.assignment)) = subst (λ (z : List VariableType). read_text (type_in z) n (label_of c.part-item.result) c.parts.left.now (known_of c.parts.assignment) ≡ Some (rest c.in_ok-left-2.left.now (known_of c.read_text-in-parts.new.assignment))) c.parts.invariant.grown.types c.in_ok-left-2.ensures.reads in
     record {
       on = part_read (λ l s p. read_text ts n (label_of l) s p) c.parts.left.now c.in_ok-left-2.left.now (known_of c.parts.assignment) (known_of c.read_text-in-parts.new.assignment) c.parts.part-index c.part-item.result c.args.rest.now _ c.parts-test.true c.part-item.is r c.parts.invariant.on;
@@ -57,7 +57,7 @@ read_dots-parts-preserved t c =
 pub read_dots-returns-clause-reads : goal.read_dots-returns-clause-reads
 read_dots-returns-clause-reads t c =
     let ts = type_in c.args.assignment.now.types in
-    let n = c.args.spare in
+    let n = c.args.reading.spare in
     read_dots_is ts n (label_of c.args.first.now) c.args.rest.now c.args.codes.now (known_of c.args.assignment.now)
     ∙ parts_read (λ l s p. read_text ts n (label_of l) s p) (Some (rest c.parts.left.now (known_of c.parts.assignment))) _ c.parts.part-index c.args.rest.now c.parts-test.false c.parts.invariant.on
 
@@ -105,18 +105,18 @@ pub read_text-returns-then-is_empty-clause-reads :
 read_text-returns-then-is_empty-clause-reads t c =
     let ts = type_in c.args.assignment.now.types in
     let n : c.in-Join.rest ≡ [] = c.if-is_empty.ensures.0 refl in
-    rw (one_joined (λ e. read_text ts c.args.spare e c.args.codes.now (known_of c.args.assignment.now)) c.args.part.now c.in-Join.first c.in-Join.rest c.in-Join.is n, ← c.get-then-is_empty.ensures) c.read_text.ensures.reads
+    rw (one_joined (λ e. read_text ts c.args.reading.spare e c.args.codes.now (known_of c.args.assignment.now)) c.args.part.now c.in-Join.first c.in-Join.rest c.in-Join.is n, ← c.get-then-is_empty.ensures) c.read_text.ensures.reads
 
 pub read_text-returns-else-is_empty-clause-reads :
     goal.read_text-returns-else-is_empty-clause-reads
 read_text-returns-else-is_empty-clause-reads t c =
     let ts = type_in c.args.assignment.now.types in
-    more_joined (λ e. read_text ts c.args.spare e c.args.codes.now (known_of c.args.assignment.now)) None (λ d e. refl) c.args.part.now c.in-Join.first c.in-Join.rest c.in-Join.is (λ n. let h = c.if-is_empty.ensures.1 n in cc)
+    more_joined (λ e. read_text ts c.args.reading.spare e c.args.codes.now (known_of c.args.assignment.now)) None (λ d e. refl) c.args.part.now c.in-Join.first c.in-Join.rest c.in-Join.is (λ n. let h = c.if-is_empty.ensures.1 n in cc)
 
 pub read_text-returns-in-Number-clause-reads : goal.read_text-returns-in-Number-clause-reads
 read_text-returns-in-Number-clause-reads t c =
     let ts = type_in c.args.assignment.now.types in
-    no_text (λ e. read_text ts c.args.spare e c.args.codes.now (known_of c.args.assignment.now)) None (λ z. refl) (λ z. refl) refl c.args.part.now c.in-Number.is
+    no_text (λ e. read_text ts c.args.reading.spare e c.args.codes.now (known_of c.args.assignment.now)) None (λ z. refl) (λ z. refl) refl c.args.part.now c.in-Number.is
 
 -- ---- what grew in a part, and that what is left is a text
 
@@ -154,7 +154,7 @@ read_text-returns-then-is_empty-clause-text t c = c.read_text.ensures.text
 
 pub read_dots-parts-init : goal.read_dots-parts-init
 read_dots-parts-init t c = record {
-  on = ap (λ z. fold (text_step (type_in c.args.assignment.now.types) c.args.spare) z c.args.rest.now) (sym c.in_ok-left.ensures.reads);
+  on = ap (λ z. fold (text_step (type_in c.args.assignment.now.types) c.args.reading.spare) z c.args.rest.now) (sym c.in_ok-left.ensures.reads);
   grown = c.in_ok-left.ensures.grown;
   text = c.in_ok-left.ensures.text;
 }

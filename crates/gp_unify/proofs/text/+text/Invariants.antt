@@ -16,7 +16,7 @@ decreases-read_dots l = 1 + size l.first.now + sizes l.rest.now
 
 abbrev pub invariant-read_dots-parts : goal.invariant-read_dots-parts
 invariant-read_dots-parts l = let ts = type_in l.fn.assignment.types in record {
-  on : fold (text_step ts l.spare) (Some (rest l.left (known_of l.assignment))) (drop l.part-index l.rest) ≡ fold (text_step ts l.spare) (read_text ts l.spare (label_of l.first) l.codes (known_of l.fn.assignment)) l.rest;
+  on : fold (text_step ts l.reading.spare) (Some (rest l.left (known_of l.assignment))) (drop l.part-index l.rest) ≡ fold (text_step ts l.reading.spare) (read_text ts l.reading.spare (label_of l.first) l.codes (known_of l.fn.assignment)) l.rest;
   grown : Grown l.fn.assignment l.assignment l.fn.trail.items l.trail.items;
   text : IsText l.left;
 }
