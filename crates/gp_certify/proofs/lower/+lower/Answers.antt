@@ -1,4 +1,4 @@
-use Rattle.std.proofs.Common.{◌≡◌, [], ◌∷◌, length, map, slice_index_or, Some, refl, ap, ◌∙◌, arith, subst}
+use Rattle.std.proofs.Common.{◌≡◌, [], ◌∷◌, length, map, slice_index_or, Some, refl, ap, sym, ◌∙◌, arith, subst}
 use Rattle.std.proofs.lemmas.List.{length-map}
 use Rattle.std.proofs.lemmas.Option.{slice_get_read}
 use Rattle.gp_syntax.specs.Run.{Command, Call, Skip, Fail, Break, Procedure}
@@ -185,3 +185,72 @@ lower_branches-returns-clause-lowers t c =
     let q = command_of c.args.otherwise.now in
     let two = lowers_then program _ _ _ (c.in_ok-condition.condition ∷ []) (c.in_ok-then.then ∷ []) (k ∷ []) (p ∷ []) (rw c.get.ensures at c.in_ok-condition.ensures.lowers) (rw c.get-2.ensures at c.in_ok-then.ensures.lowers) in
     lowers_then program _ _ _ (c.in_ok-condition.condition ∷ c.in_ok-then.then ∷ []) (c.in_ok-otherwise.otherwise ∷ []) (k ∷ p ∷ []) (q ∷ []) two (rw c.get-3.ensures at c.in_ok-otherwise.ensures.lowers)
+
+pub lower-returns-in-Call-clause-roots : goal.lower-returns-in-Call-clause-roots
+lower-returns-in-Call-clause-roots t c = ap (λ (r : _). length r.items) c.put.ensures.roots
+
+pub lower-returns-in-Skip-clause-roots : goal.lower-returns-in-Skip-clause-roots
+lower-returns-in-Skip-clause-roots t c = ap (λ (r : _). length r.items) c.put-in-Skip.ensures.roots
+
+pub lower-returns-in-Fail-clause-roots : goal.lower-returns-in-Fail-clause-roots
+lower-returns-in-Fail-clause-roots t c = ap (λ (r : _). length r.items) c.put-in-Fail.ensures.roots
+
+pub lower-returns-in-Break-clause-roots : goal.lower-returns-in-Break-clause-roots
+lower-returns-in-Break-clause-roots t c = ap (λ (r : _). length r.items) c.put-in-Break.ensures.roots
+
+pub lower-returns-in-Seq-clause-roots : goal.lower-returns-in-Seq-clause-roots
+lower-returns-in-Seq-clause-roots t c = c.lower_chain.ensures.roots
+
+pub lower-returns-in-Or-clause-roots : goal.lower-returns-in-Or-clause-roots
+lower-returns-in-Or-clause-roots t c = c.lower_chain-in-Or.ensures.roots
+
+pub lower-returns-in_err-condition-in-If-clause-roots : goal.lower-returns-in_err-condition-in-If-clause-roots
+lower-returns-in_err-condition-in-If-clause-roots t c = c.lower_branches.ensures.roots
+
+pub lower-returns-in_ok-condition-in-If-clause-roots : goal.lower-returns-in_ok-condition-in-If-clause-roots
+lower-returns-in_ok-condition-in-If-clause-roots t c = ap (λ (r : _). length r.items) c.put-in-If.ensures.roots ∙ c.lower_branches.ensures.roots
+
+pub lower-returns-in_err-condition-in-Try-clause-roots : goal.lower-returns-in_err-condition-in-Try-clause-roots
+lower-returns-in_err-condition-in-Try-clause-roots t c = c.lower_branches-in-Try.ensures.roots
+
+pub lower-returns-in_ok-condition-in-Try-clause-roots : goal.lower-returns-in_ok-condition-in-Try-clause-roots
+lower-returns-in_ok-condition-in-Try-clause-roots t c = ap (λ (r : _). length r.items) c.put-in-Try.ensures.roots ∙ c.lower_branches-in-Try.ensures.roots
+
+pub lower-returns-in_err-body-in-Loop-clause-roots : goal.lower-returns-in_err-body-in-Loop-clause-roots
+lower-returns-in_err-body-in-Loop-clause-roots t c = c.lower.ensures.roots
+
+pub lower-returns-in_ok-body-in-Loop-clause-roots : goal.lower-returns-in_ok-body-in-Loop-clause-roots
+lower-returns-in_ok-body-in-Loop-clause-roots t c = ap (λ (r : _). length r.items) c.put-in-Loop.ensures.roots ∙ c.lower.ensures.roots
+
+pub lower-returns-in_err-body-in-Proc-clause-roots : goal.lower-returns-in_err-body-in-Proc-clause-roots
+lower-returns-in_err-body-in-Proc-clause-roots t c = c.lower_body.ensures.roots
+
+pub lower-returns-in_ok-body-in-Proc-clause-roots : goal.lower-returns-in_ok-body-in-Proc-clause-roots
+lower-returns-in_ok-body-in-Proc-clause-roots t c = ap (λ (r : _). length r.items) c.put-in-Proc.ensures.roots ∙ c.lower_body.ensures.roots
+
+pub lower_body-returns-in_err-body-clause-roots : goal.lower_body-returns-in_err-body-clause-roots
+lower_body-returns-in_err-body-clause-roots t c = c.lower.ensures.roots
+
+pub lower_chain-returns-in_err-so_far-clause-roots : goal.lower_chain-returns-in_err-so_far-clause-roots
+lower_chain-returns-in_err-so_far-clause-roots t c = c.lower.ensures.roots
+
+pub lower_chain-returns-in_err-next-clause-roots : goal.lower_chain-returns-in_err-next-clause-roots
+lower_chain-returns-in_err-next-clause-roots t c = c.lower-in-parts.ensures.roots ∙ c.parts.invariant.roots ∙ sym c.requires.roots
+
+pub lower_chain-returns-in_err-so_far-2-clause-roots : goal.lower_chain-returns-in_err-so_far-2-clause-roots
+lower_chain-returns-in_err-so_far-2-clause-roots t c = ap (λ (r : _). length r.items) c.put.ensures.roots ∙ c.lower-in-parts.ensures.roots ∙ c.parts.invariant.roots ∙ sym c.requires.roots
+
+pub lower_chain-returns-clause-roots : goal.lower_chain-returns-clause-roots
+lower_chain-returns-clause-roots t c = c.parts.invariant.roots ∙ sym c.requires.roots
+
+pub lower_branches-returns-in_err-condition-clause-roots : goal.lower_branches-returns-in_err-condition-clause-roots
+lower_branches-returns-in_err-condition-clause-roots t c = c.lower.ensures.roots
+
+pub lower_branches-returns-in_err-then-clause-roots : goal.lower_branches-returns-in_err-then-clause-roots
+lower_branches-returns-in_err-then-clause-roots t c = c.lower-2.ensures.roots ∙ c.lower.ensures.roots
+
+pub lower_branches-returns-in_err-otherwise-clause-roots : goal.lower_branches-returns-in_err-otherwise-clause-roots
+lower_branches-returns-in_err-otherwise-clause-roots t c = c.lower-3.ensures.roots ∙ c.lower-2.ensures.roots ∙ c.lower.ensures.roots
+
+pub lower_branches-returns-clause-roots : goal.lower_branches-returns-clause-roots
+lower_branches-returns-clause-roots t c = c.lower-3.ensures.roots ∙ c.lower-2.ensures.roots ∙ c.lower.ensures.roots
