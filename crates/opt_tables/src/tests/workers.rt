@@ -160,14 +160,16 @@ fn stopped_in_search<R: Threads + Wait + Sync>(rt: &R, alloc: Global) -> Result<
         stopped: AtomicBool::new(false),
     };
     let (door, held) = (&gate, &pace);
-    let site = Site {
-        system: &Cells,
-        gate: door,
-        pace: held,
-    };
     let (mut p, q) = thread::join(
         rt,
-        move || work(rt, &site, p, &mut at, 1),
+        move || {
+            let site = Site {
+                system: &Cells,
+                gate: door,
+                pace: held,
+            };
+            work(rt, &site, p, &mut at, 1)
+        },
         move || stop_by_hand(rt, &Cells, door, q, held),
     );
     p.join(&gate, q);
