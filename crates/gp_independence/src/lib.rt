@@ -14,6 +14,7 @@
 
 mod beside;
 mod between;
+mod first;
 mod further;
 mod gathering;
 mod independence;
@@ -23,5 +24,6 @@ mod preserved;
 mod shared;
 
 pub use between::conditions_ask_between;
+pub use first::first_candidates;
 pub use further::gather;
 pub use independence::independent;

@@ -12,13 +12,12 @@ ghost use Rattle.gp_system.specs.inside.Pursued.{IsPursued, IsBehind, HasMade, H
 
 use crate::goal::{CallGoal, Fault};
 use crate::gp::Gp;
-use gp_journal::{Items, Mode as Noting, Trail};
+use gp_journal::{Items, Mode as Noting, Trail, brought};
 use gp_memory::NoMemory;
-use gp_syntax::{Found, Item, Rule};
+use gp_syntax::Found;
 use opt_core::{Core, Ending};
 use opt_system::Mode;
 use opt_worker::{Pace, follow, pursue};
-use std::alloc::Global;
 use std::sync::Wait;
 use std::thread::Threads;
 
@@ -61,64 +60,6 @@ struct Reached {
     replicas: Vec<Trail>,
     left: u64,
     ending: Ending<Fault>,
-}
-
-// So many copies of a trail.
-fn copies(alloc: Global, trail: &Trail, count: u32) -> Result<Vec<Trail>, NoMemory>
-    ensures all { IfOk result (λ v. All (λ t. t ≡ trail.now) v.items) }
-    ensures len { IfOk result (λ v. vec_len v ≡ count) }
-{
-    let mut copies = Vec::with_capacity(alloc, count as usize)?;
-    for _ in 0..count {
-        copies.push_reserved(trail.copy()?);
-    }
-    Ok(copies)
-}
-
-// Brings each trail to another by the items that lead from it there.
-fn bring_all(
-    rules: &[Rule],
-    missing: &[Item],
-    trail: &Trail,
-    replicas: &mut [Trail],
-) -> Result<(), NoMemory>
-    requires well_formed { All IsWellFormed (map rule_of_tree rules.now) }
-    requires way { All (λ t. Leads (map rule_of_tree rules.now) (items_of missing.now) t trail.now) replicas.old }
-    requires settled { trail.now.caught ≡ 0 }
-    ensures all { OnOk result (All (λ t. t ≡ trail.now) replicas.new) }
-    ensures len { length replicas.new ≡ length replicas.old }
-{
-    for replica in replicas.iter_mut() {
-        replica.catch_up(rules, missing)?;
-        replica.settle();
-        replica.set_hints(trail.graph().start(), trail.graph().changed());
-    }
-    Ok(())
-}
-
-// Trails of the workers that are where the run is: made, or brought there by the items that they have not had.
-fn brought(
-    rules: &[Rule],
-    workers: u32,
-    trail: &Trail,
-    missing: &[Item],
-    replicas: Vec<Trail>,
-) -> Result<Vec<Trail>, NoMemory>
-    requires well_formed { All IsWellFormed (map rule_of_tree rules.now) }
-    requires way { All (λ t. Leads (map rule_of_tree rules.now) (items_of missing.now) t trail.now) replicas.items }
-    requires settled { trail.now.caught ≡ 0 }
-    requires few { vec_len replicas < 2 ^ 32 }
-    requires workers { 0 < workers }
-    ensures all { IfOk result (λ v. All (λ t. t ≡ trail.now) v.items) }
-    ensures some { IfOk result (λ v. 0 < vec_len v) }
-    ensures few { IfOk result (λ v. vec_len v < 2 ^ 32) }
-{
-    if replicas.is_empty() {
-        return copies(*replicas.allocator(), trail, workers);
-    }
-    let mut brought = replicas;
-    bring_all(rules, missing, trail, &mut brought)?;
-    Ok(brought)
 }
 
 // Makes the steps on each replica that it has not made yet, so that it is where the trail is.

@@ -1,7 +1,8 @@
 use Rattle.std.proofs.Common.{◌≡◌, ◌<◌, ◌-◌, length, get_or, arith}
 use Rattle.gp_journal.specs.Trail.{Trail}
 use Rattle.gp_system.specs.inside.Pursued.{IsBehind}
-use Rattle.gp_system.proofs.Crews.{rest_set, first_set, level_now}
+use Rattle.gp_journal.proofs.Ways.{rest_set, first_set}
+use Rattle.gp_system.proofs.Crews.{level_now}
 use Rattle.gp_system.proofs.pursuit.level.Goals as goal
 
 pub loop-replica-preserved : goal.loop-replica-preserved

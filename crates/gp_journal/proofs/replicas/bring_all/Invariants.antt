@@ -3,7 +3,7 @@ use Rattle.gp_syntax.specs.Tree.{rule_of_tree}
 use Rattle.gp_journal.specs.Trail.{Trail}
 use Rattle.gp_journal.specs.Leads.{Leads}
 use Rattle.gp_journal.specs.Journal.{items_of}
-use Rattle.gp_system.proofs.pursuit.bring_all.Given as goal
+use Rattle.gp_journal.proofs.replicas.bring_all.Given as goal
 
 abbrev pub invariant-loop-replica : goal.invariant-loop-replica
 invariant-loop-replica l = record {

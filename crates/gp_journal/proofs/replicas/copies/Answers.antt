@@ -1,7 +1,7 @@
 use Rattle.std.proofs.Common.{◌≡◌, ◌∙◌, ◌+◌, ap, arith}
 use Rattle.std.proofs.lemmas.List.Elements.{All-push, All-same}
 use Rattle.gp_journal.specs.Trail.{Trail}
-use Rattle.gp_system.proofs.pursuit.copies.Goals as goal
+use Rattle.gp_journal.proofs.replicas.copies.Goals as goal
 
 pub loop-preserved : goal.loop-preserved
 loop-preserved c = record {

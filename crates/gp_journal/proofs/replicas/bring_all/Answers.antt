@@ -3,8 +3,8 @@ use Rattle.gp_syntax.specs.Tree.{rule_of_tree}
 use Rattle.gp_journal.specs.Trail.{Trail}
 use Rattle.gp_journal.specs.Leads.{Leads}
 use Rattle.gp_journal.specs.Journal.{items_of}
-use Rattle.gp_system.proofs.Crews.{rest_set, first_set, brought_there}
-use Rattle.gp_system.proofs.pursuit.bring_all.Goals as goal
+use Rattle.gp_journal.proofs.Ways.{rest_set, first_set, brought_there}
+use Rattle.gp_journal.proofs.replicas.bring_all.Goals as goal
 
 pub catch_up-requires : goal.catch_up-requires
 catch_up-requires c = (c.args.trail.now, c.loop-replica.invariant.way c.loop-replica.replica-index c.replica-item.result (omega arith) (omega (arith, c.loop-replica-test.true, c.loop-replica.auto.replicas)))
