@@ -1,7 +1,8 @@
 -- What a command needs of its program, its parts need too.
 use Rattle.std.proofs.Common.{◌≡◌, ℕ, zero, suc, ◌-◌, ◌<◌, ◌≤◌, List, [], ◌∷◌, ◌++◌, length, map, slice_get, slice_index_or, Some, Contains, refl, sym, subst, arith}
 use Rattle.std.proofs.lemmas.List.Elements.{Contains-append_left, Contains-append_right}
-use Rattle.std.proofs.lemmas.Option.{slice_get-get_or, slice_get_within, get_or_from_slice_get}
+use Rattle.std.proofs.lemmas.Option.{slice_get-get_or}
+use Rattle.gp_memory.proofs.Basics.{at_head, in_tail, is_among}
 use Rattle.gp_syntax.specs.declared.command.Command as code
 use Rattle.gp_syntax.specs.Run.{Command, Call, Seq, If, Try, Loop, Or, Skip, Procedure, Program}
 use Rattle.gp_syntax.specs.Scoped.{calls_in, procedures_in, bodies, IsScoped}
@@ -11,17 +12,6 @@ use Rattle.gp_certify.specs.declared.table.Chain.TheVariants as chain
 use Rattle.gp_certify.specs.Code.{at}
 use Rattle.gp_certify.specs.inside.Table.{joined, grouped}
 use Rattle.gp_certify.specs.inside.Fits.{Fits}
-
--- the first of a list, and the others
-at_head : {X : Type 0} (x : X) (xs : List X) → Contains (x ∷ xs) x
-at_head x xs = (0, (let l : 0 < suc (length xs) = omega arith in l), refl)
-
-in_tail : {X : Type 0} (y x : X) (xs : List X) → Contains xs x → Contains (y ∷ xs) x
-in_tail y x xs = Contains-append_right (y ∷ []) xs x
-
--- what stands at a place is an element
-is_among : {X : Type 0} (xs : List X) (i : ℕ) (x : X) → slice_get xs i ≡ Some x → Contains xs x
-is_among xs i x e = (i, slice_get_within xs i x e, get_or_from_slice_get xs i x x e)
 
 module _ (program : Program) (depth : ℕ) where
   -- what has only calls of another fits where that does

@@ -4,6 +4,7 @@ use Rattle.std.specs.Prelude.{Bool, true, false, IsTrue, Option, Some, None, IsS
 use Rattle.std.proofs.lemmas.List.{length-map}
 use Rattle.std.proofs.lemmas.Bool.Decides.{Decides-eqb}
 use Rattle.std.proofs.lemmas.Option.{slice_get-get_or, get_or_from_slice_get, slice_get_within}
+use Rattle.gp_memory.proofs.Basics.{no_both, some_same}
 use Rattle.gp_values.specs.Graph.{Graph}
 use Rattle.gp_syntax.specs.declared.command.ProgramParts.{ProgramParts}
 use Rattle.gp_syntax.specs.declared.rule.RuleParts.{RuleParts}
@@ -26,7 +27,7 @@ use Rattle.gp_certify.specs.inside.Whole.{HasRun}
 use Rattle.gp_certify.specs.inside.Along.{trail_at, depth_at, AllGo, AreDepths, IsWalked, BreaksOff}
 use Rattle.gp_certify.specs.inside.Replay.{Shown, view_of}
 use Rattle.gp_certify.proofs.Replayed.{graphs_of, whole_runs, none_runs}
-use Rattle.gp_certify.proofs.Walks.{no_both, some_same, well_formed_at, replays_at, depth_between}
+use Rattle.gp_certify.proofs.Walks.{well_formed_at, replays_at, depth_between}
 
 -- ---- sets
 

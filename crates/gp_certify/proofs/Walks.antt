@@ -1,13 +1,13 @@
 -- A trail that goes along a trace.
 use Rattle.std.proofs.Common.{◌≡◌, inl, inr, ℕ, zero, suc, ◌+◌, ◌-◌, ◌≤◌, ◌<◌, List, [], ◌∷◌, ◌++◌, map, length, take, All, add-one, sym, subst, ap, refl, ◌∙◌, arith, length-append}
-use Rattle.std.specs.Prelude.{Bool, true, false, not, Some, slice_get, slice_index_or}
+use Rattle.std.specs.Prelude.{Some, slice_get, slice_index_or}
 use Rattle.std.specs.Option.{option_map}
-use Rattle.std.proofs.Math.Dec.{T}
 use Rattle.std.proofs.Math.Seq.{take-suc, take-add}
 use Rattle.std.proofs.lemmas.Bool.{cases_lt}
 use Rattle.std.proofs.lemmas.List.{length-take-le, map-append}
 use Rattle.std.proofs.lemmas.List.Elements.{All-push}
 use Rattle.std.proofs.lemmas.Option.{slice_get-map, slice_get_within, slice_get-get_or, get_or_from_slice_get, slice_get_read}
+use Rattle.gp_memory.proofs.Basics.{some_same}
 use Rattle.gp_values.specs.Graph.{Graph}
 use Rattle.gp_syntax.specs.declared.rule.RuleParts.{RuleParts}
 use Rattle.gp_syntax.specs.Rule.{Rule, Found}
@@ -28,12 +28,6 @@ use Rattle.gp_journal.proofs.Stacks.{all_replay}
 use Rattle.gp_certify.specs.Places.{between}
 use Rattle.gp_certify.specs.inside.Along.{MayGo, after_item, after_items, trail_at, depth_at, AllGo, Stands, IsWalked, BreaksOff}
 use Rattle.gp_certify.proofs.Replayed.{one_way}
-
-pub no_both : (b : Bool) → b ≡ false → b ≡ true → ⊥
-no_both b f t = subst (λ x. T (not x)) (sym f ∙ t) tt
-
-pub some_same : {X : Type 0} {x y : X} → Some x ≡ Some y → x ≡ y
-some_same e = cc
 
 -- ---- rules
 

@@ -5,6 +5,7 @@ use Rattle.gp_values.specs.Names.{Name}
 use Rattle.gp_syntax.specs.declared.expression.Expr.{Expr}
 use Rattle.gp_syntax.specs.declared.expression.Cond.{Cond}
 use Rattle.std.specs.Borrow.{Bor}
+use Rattle.gp_memory.proofs.Basics.{both}
 use Rattle.gp_clauses.specs.declared.shape.Shape.{Shape}
 use Rattle.gp_clauses.specs.declared.shape.Shape.TheVariants as shapes
 use Rattle.gp_clauses.specs.declared.shape.Links.{Links}
@@ -12,7 +13,6 @@ use Rattle.gp_clauses.specs.Facts.{is_numeral}
 use Rattle.gp_syntax.specs.Expression.{Expression, Number, Negated, Condition, MarkPattern, renamed}
 use Rattle.gp_syntax.specs.Fault.{has_no_operation}
 use Rattle.gp_syntax.specs.Tree.{expression_of}
-use Rattle.gp_syntax.proofs.Told.{both}
 use Rattle.gp_clauses.specs.declared.shape.Operation.{Operation}
 use Rattle.gp_clauses.specs.declared.shape.Operation.TheVariants as operations
 use Rattle.gp_syntax.specs.declared.kinds.VariableType.{VariableType}

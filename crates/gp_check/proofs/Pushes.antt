@@ -1,6 +1,7 @@
 -- Chains with one operand more.
 use Rattle.std.proofs.Common.{◌≡◌, ℕ, ◌+◌, List, [], ◌∷◌, ◌++◌, map, fold, drop, Some, slice_get, Result, Ok, Err, refl, sym, ap, ◌∙◌, append_assoc}
 use Rattle.std.specs.Prelude.{MatchResult}
+use Rattle.gp_memory.proofs.Basics.{map_push}
 use Rattle.gp_values.specs.declared.marks.EdgeMark.{EdgeMark}
 use Rattle.gp_syntax.specs.declared.expression.Signed.{Signed}
 use Rattle.gp_syntax.specs.declared.expression.SumSign.{SumSign}
@@ -21,10 +22,6 @@ use Rattle.gp_syntax.proofs.Trees.{expression_of-Sum, expression_of-Product, exp
 fold_push : {A B : Type 0} (f : B → A → B) (a : B) (xs : List A) (x : A) → fold f a (xs ++ x ∷ []) ≡ f (fold f a xs) x
 fold_push f a [] x = refl
 fold_push f a (y ∷ xs) x = fold_push f (f a y) xs x
-
-map_push : {A B : Type 0} (f : A → B) (xs : List A) (x : A) → map f (xs ++ x ∷ []) ≡ map f xs ++ f x ∷ []
-map_push f [] x = refl
-map_push f (y ∷ xs) x = ap (λ l. f y ∷ l) (map_push f xs x)
 
 -- one item more of a list that is made item by item
 pub made_on : {A B C D : Type 0} (means : C → D) (wanted : B → D) (read : A → B) (xs : List A) (k : ℕ) (x : A) (made new : List C) (y : C) (whole : List D) → slice_get xs k ≡ Some x → new ≡ made ++ y ∷ [] → means y ≡ wanted (read x) →

@@ -1,8 +1,9 @@
 -- The parts of a rule together, and the clauses together.
-use Rattle.std.proofs.Common.{◌≡◌, ◌&&◌, Bool, true, false, not, List, [], ◌∷◌, map, Option, Some, None, Result, Ok, Err, refl, sym, subst, ◌∙◌}
+use Rattle.std.proofs.Common.{◌≡◌, ◌&&◌, Bool, true, false, List, [], ◌∷◌, map, Option, Some, None, Result, Ok, Err, refl, sym, subst, ◌∙◌}
 use Rattle.std.specs.Prelude.{nat_le, option_map, IfOk, IsErrAnd}
 use Rattle.std.specs.Option.{option_or}
 use Rattle.std.specs.List.{list_all}
+use Rattle.gp_memory.proofs.Basics.{both, not_false}
 use Rattle.gp_values.specs.Names.{Name}
 use Rattle.gp_syntax.specs.declared.kinds.VariableType.{VariableType}
 use Rattle.gp_syntax.specs.declared.tree.NodeDecl.{NodeDecl}
@@ -14,7 +15,6 @@ use Rattle.gp_syntax.specs.Declaration.{Declaration, node_names}
 use Rattle.gp_syntax.specs.Simple.{all_lists_in}
 use Rattle.gp_syntax.specs.Fault.{Fault, TooLarge, TwiceDeclared, UnknownNode, BadInterface, Unbound, BadType, NotSimple, BadMark, BadBidi, when, fault_of, too_large, twice_declared, unknown_node, bad_interface, unbound, bad_type, type_named, has_no_operation, has_one_string, is_simple, not_simple, bad_mark, bad_bidi}
 use Rattle.gp_syntax.specs.Tree.{expression_of, declaration_of, left_node_of, left_edge_of, right_node_of, right_edge_of, condition_or_true, pattern_of, rule_of_tree}
-use Rattle.gp_syntax.proofs.Told.{both}
 use Rattle.gp_clauses.proofs.Parts.{all_labels}
 use Rattle.gp_check.specs.declared.fault.RuleFault.{RuleFault}
 use Rattle.gp_check.specs.declared.fault.RuleFault.TheVariants as faults
@@ -30,10 +30,6 @@ simple_plain t e h = (both (has_no_operation e) (nat_le (all_lists_in t e) 1) (b
 all_weaker : {A : Type 0} (p q : A → Bool) → ((x : A) → p x ≡ true → q x ≡ true) → (xs : List A) → list_all p xs ≡ true → list_all q xs ≡ true
 all_weaker p q w [] h = refl
 all_weaker p q w (x ∷ xs) h = let r = both (p x) (list_all p xs) h in rw (w x r.0) (all_weaker p q w xs r.1)
-
-not_false : (b : Bool) → not b ≡ false → b ≡ true
-not_false true h = refl
-not_false false h = absurd cc
 
 pub plain_labels : (r : RuleDecl) → not_simple (declaration_of r) ≡ false → (list_all (λ (n : NodeDecl). has_no_operation (expression_of n.label)) r.left.nodes ≡ true) × (list_all (λ (e : EdgeDecl). has_no_operation (expression_of e.label)) r.left.edges ≡ true)
 plain_labels r h =

@@ -2,6 +2,7 @@
 use Rattle.std.proofs.Common.{◌≡◌, ℕ, ◌+◌, Bool, true, false, not, if◌then◌else◌, List, [], ◌∷◌, ◌++◌, map, flat_map, drop, Option, Some, None, slice_get, Result, Ok, Err, IfOk, refl, sym, ap, subst, ◌∙◌, append_assoc}
 use Rattle.std.specs.Option.{option_or, option_copied}
 use Rattle.std.specs.Borrow.{Bor}
+use Rattle.gp_memory.proofs.Basics.{map_append, or_assoc, or_none}
 use Rattle.gp_values.specs.Names.{Name, has_name, first_doubled, first_doubled_behind}
 use Rattle.gp_syntax.specs.declared.tree.VariableGroup.{VariableGroup}
 use Rattle.gp_syntax.specs.declared.tree.RuleDecl.{RuleDecl}
@@ -12,7 +13,6 @@ use Rattle.gp_syntax.specs.Fault.{variable_names, twice_declared}
 use Rattle.gp_syntax.specs.Tree.{node_of, edge_of, variables_of, declaration_of}
 use Rattle.gp_memory.specs.declared.refusal.NoMemory.{NoMemory}
 use Rattle.gp_clauses.specs.inside.Names.{ToldBehind, group_names}
-use Rattle.gp_clauses.proofs.Knowns.{or_none, or_assoc}
 use Rattle.gp_clauses.proofs.Walks.{drop_item}
 
 pub none_before : (seen xs ys : List Name) → first_doubled_behind seen xs ≡ None → first_doubled_behind seen (xs ++ ys) ≡ first_doubled_behind (seen ++ xs) ys
@@ -64,10 +64,6 @@ group_stops gs k g seen n at e =
     ap (λ l. first_doubled_behind seen (flat_map group_names l)) (drop_item gs k g at) ∙ some_before seen (group_names g) (flat_map group_names (drop (k + 1) gs)) n e
 
 -- ---- the names of variables
-
-map_append : {A B : Type 0} (f : A → B) (xs ys : List A) → map f (xs ++ ys) ≡ map f xs ++ map f ys
-map_append f [] ys = refl
-map_append f (x ∷ xs) ys = ap (λ l. f x ∷ l) (map_append f xs ys)
 
 abbrev name_of : DeclaredVariable → Name
 name_of v = v.name

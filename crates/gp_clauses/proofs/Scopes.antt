@@ -12,12 +12,13 @@ use Rattle.gp_syntax.specs.Declaration.{Declaration, DeclaredNode, DeclaredEdge,
 use Rattle.gp_syntax.specs.Fault.{first_told, unless, variable_names, twice_declared, variables_in_side, variables_in_condition, unbound, type_named, is_well_typed, is_well_typed_condition, bad_type}
 use Rattle.gp_syntax.specs.Tree.{expression_of, node_of, edge_of, side_of, variables_of}
 use Rattle.gp_syntax.proofs.Declarations.{same_name_told, has_append, once_head}
-use Rattle.gp_syntax.proofs.Told.{neither, told_append, told_map, unknown_told, unknown_flat}
+use Rattle.gp_syntax.proofs.Told.{told_append, told_map, unknown_told, unknown_flat}
 use Rattle.gp_clauses.specs.declared.variables.Variables.{Variables}
 use Rattle.gp_clauses.specs.declared.scope.Scope.{Scope}
 use Rattle.gp_clauses.specs.Scope.{kept_variables, IsScope}
 use Rattle.gp_clauses.specs.inside.Tables.{with_names, no_variables, with_kept, with_group, is_kept}
 use Rattle.std.specs.List.{list_all}
+use Rattle.gp_memory.proofs.Basics.{neither}
 use Rattle.gp_clauses.proofs.Parts.{all_append}
 use Rattle.gp_clauses.proofs.Tables.{fold_flat, has_added, kept_only, once_all}
 

@@ -4,6 +4,7 @@ use Rattle.std.specs.Option.{option_map_or}
 use Rattle.std.specs.Borrow.{Bor}
 use Rattle.std.proofs.lemmas.Option.{unwrap_or-slice_get}
 use Rattle.std.specs.Prelude.{unwrap_or}
+use Rattle.gp_memory.proofs.Basics.{append_none}
 use Rattle.gp_values.specs.Names.{Name, same_name, has_name, first_doubled_behind}
 use Rattle.gp_syntax.specs.declared.kinds.VariableType.{VariableType}
 use Rattle.gp_syntax.specs.declared.kinds.VariableType.TheVariants as types
@@ -109,10 +110,6 @@ variables_after v vs = record { names = v.names ++ map (λ (x : DeclaredVariable
 regrouped : {A : Type 0} (xs : List A) (y : A) (ys : List A) → (xs ++ y ∷ []) ++ ys ≡ xs ++ y ∷ ys
 regrouped [] y ys = refl
 regrouped (x ∷ xs) y ys = ap (λ l. x ∷ l) (regrouped xs y ys)
-
-append_none : {A : Type 0} (xs : List A) → xs ++ [] ≡ xs
-append_none [] = refl
-append_none (x ∷ xs) = ap (λ l. x ∷ l) (append_none xs)
 
 pub once_all : (v : Variables) (vs : List DeclaredVariable) → first_doubled_behind v.names (map (λ (x : DeclaredVariable). x.name) vs) ≡ None → fold with_variable v vs ≡ variables_after v vs
 once_all v [] h = λ i. record { names = sym (append_none v.names) i; types = sym (append_none v.types) i }

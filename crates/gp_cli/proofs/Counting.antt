@@ -10,14 +10,7 @@ use Rattle.std.proofs.Math.Dec.{T}
 use Rattle.std.proofs.lemmas.Bool.{eqb-true, eq-eqb}
 use Rattle.std.proofs.lemmas.Grind.{common_steps}
 use Rattle.std.proofs.lemmas.List.Sums.{sum_by-cons}
-
-first_of : (a b : Bool) → T (a && b) → T a
-first_of true b h = tt
-first_of false b h = h
-
-second_of : (a b : Bool) → T (a && b) → T b
-second_of true b h = h
-second_of false b h = absurd h
+use Rattle.gp_memory.proofs.Basics.{first_of, lt_true, not_less as lt_self, second_of}
 
 abbrev pub one_if : Bool → ℕ
 one_if b = cond b 1 0
@@ -32,14 +25,8 @@ lt_other k a h = grind (arith, common_steps)
 lt_next : (k : ℕ) → nat_lt k (k + 1) ≡ true
 lt_next k = grind (arith, common_steps)
 
-lt_self : (k : ℕ) → nat_lt k k ≡ false
-lt_self k = grind (arith, common_steps)
-
 lt_none : (a : ℕ) → nat_lt a 0 ≡ false
 lt_none a = grind (arith, common_steps)
-
-lt_true : (a n : ℕ) → a < n → nat_lt a n ≡ true
-lt_true a n h = grind (arith, common_steps)
 
 module _ {X : Type 0} (q : X → Bool) where
   -- how many entries with keys below k pass

@@ -7,6 +7,7 @@ use Rattle.std.proofs.lemmas.Bool.{eqb-true, eq-eqb}
 use Rattle.std.proofs.lemmas.List.{length-map, nil_from_length}
 use Rattle.std.proofs.lemmas.Simd.{map-map}
 use Rattle.std.proofs.lemmas.List.Sorted.{IsPermutation-refl, IsPermutation-sym, IsPermutation-trans, IsPermutation-cons, IsPermutation-map, IsPermutation-middle}
+use Rattle.gp_memory.proofs.Basics.{and_is_some as is_some, and_some, first_or_later, here, is_some_of, later, some_and, some_there as some_of}
 use Rattle.gp_values.specs.declared.marks.EdgeMark.TheVariants as edge_marks
 use Rattle.gp_values.specs.Apart.{AreApart}
 use Rattle.gp_values.specs.Graph.{Graph, Node, Edge, edge_at}
@@ -14,13 +15,12 @@ use Rattle.gp_values.specs.Order.{numbered, entries_from}
 use Rattle.gp_values.proofs.Order.{entries-walk}
 use Rattle.gp_graph.specs.Chains.{without}
 use Rattle.gp_graph.specs.Walks.{Walks}
-use Rattle.gp_graph.proofs.Numbers.{here, later, first_or_later, first_new, others_apart, length-without, Contains-without}
+use Rattle.gp_graph.proofs.Numbers.{first_new, others_apart, length-without, Contains-without}
 use Rattle.gp_graph.proofs.Degrees.{chosen, Walks-chosen}
 use Rattle.gp_step.specs.Laws.{IsNumbered}
 use Rattle.gp_hostfile.specs.GraphText.{IsGraphText, node_line, edge_lines, edges_of}
 use Rattle.gp_derivation.specs.Upgrade.{AreAlike}
-use Rattle.gp_derivation.proofs.Alike.{some_and, and_some, is_some, Walks-map, as_many}
-use Rattle.gp_derivation.proofs.Tables.{some_of, is_some_of}
+use Rattle.gp_derivation.proofs.Alike.{Walks-map, as_many}
 
 -- ---- alike to one graph
 

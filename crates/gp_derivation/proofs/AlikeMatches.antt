@@ -4,6 +4,7 @@ use Rattle.std.specs.Prelude.{not, neg_ℤ, true, ◌+ℤ◌, ◌-ℤ◌, ◌*�
 use Rattle.std.specs.FinMap.{get}
 use Rattle.std.proofs.lemmas.List.{get_or-map, length-map}
 use Rattle.std.proofs.lemmas.Option.{slice_get_within}
+use Rattle.gp_memory.proofs.Basics.{and_is_some as is_some, and_some, some_and, some_at as element, standing}
 use Rattle.gp_values.specs.declared.atom.Atom.TheVariants.{Str}
 use Rattle.gp_values.specs.declared.marks.EdgeMark.{EdgeMark}
 use Rattle.gp_values.specs.Graph.{Graph, node_at, edge_at}
@@ -15,11 +16,9 @@ use Rattle.gp_syntax.specs.Truth.{truth_of, compared}
 use Rattle.gp_syntax.specs.Rule.{Rule, Found}
 use Rattle.gp_syntax.specs.Match.{MatchBy, FitsNode, FitsEdge, setting_of}
 use Rattle.gp_syntax.specs.Step.{AppliesBy, FaultyBy, Blocked, first_fault, kind_or, right_labels}
-use Rattle.gp_syntax.proofs.Unique.{element}
-use Rattle.gp_step.proofs.Halves.{standing}
 use Rattle.gp_graph.specs.Walks.{Walks}
 use Rattle.gp_derivation.specs.Upgrade.{AreAlike}
-use Rattle.gp_derivation.proofs.Alike.{some_and, and_some, is_some, Walks-map, in_degree_alike, out_degree_alike, has_edge_alike, has_edge_with_alike}
+use Rattle.gp_derivation.proofs.Alike.{Walks-map, in_degree_alike, out_degree_alike, has_edge_alike, has_edge_with_alike}
 
 -- ---- values and conditions
 

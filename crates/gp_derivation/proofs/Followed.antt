@@ -1,10 +1,10 @@
 -- What an item makes of an upgrade, by the rules in memory.
 use Rattle.std.proofs.Common.{◌≡◌, ℕ, ◌+◌, ◌≤◌, ◌<◌, ◌^◌, List, [], ◌∷◌, ◌++◌, map, length, sym, subst, ap, refl, ◌∙◌, arith}
-use Rattle.std.specs.Prelude.{Bool, true, false, not, Option, Some, None, slice_get, slice_index_or, is_none, count_by}
+use Rattle.std.specs.Prelude.{Option, Some, None, slice_get, slice_index_or, is_none, count_by}
 use Rattle.std.specs.Option.{option_map}
-use Rattle.std.proofs.Math.Dec.{T}
 use Rattle.std.proofs.lemmas.List.{length-map}
 use Rattle.std.proofs.lemmas.Option.{none-some, slice_get-map, slice_get_within, slice_get_read}
+use Rattle.gp_memory.proofs.Basics.{some_same}
 use Rattle.gp_values.specs.Graph.{Graph, IsGraph}
 use Rattle.gp_syntax.specs.declared.rule.RuleParts.{RuleParts}
 use Rattle.gp_syntax.specs.declared.found.Item.TheVariants as trees
@@ -20,12 +20,8 @@ use Rattle.gp_journal.proofs.Trails.{rule_at}
 use Rattle.gp_derivation.specs.declared.replay.Replay.{Replay}
 use Rattle.gp_derivation.specs.inside.Table.{found_today, stepped}
 use Rattle.gp_derivation.specs.inside.Standing.{StandsIn, ReplaysToNone, Makes}
-use Rattle.gp_derivation.proofs.Tables.{some_same}
 use Rattle.gp_derivation.proofs.Renumbered.{found_parts}
 use Rattle.gp_derivation.proofs.Standings.{none_step}
-
-pub no_both : (b : Bool) → b ≡ false → b ≡ true → ⊥
-no_both b f t = subst (λ x. T (not x)) (sym f ∙ t) tt
 
 -- ---- the rule of a number
 

@@ -5,6 +5,7 @@ use Rattle.std.specs.Option.{option_map}
 use Rattle.std.proofs.lemmas.Bool.{cases_eq, cases_lt}
 use Rattle.std.proofs.lemmas.List.{length-map}
 use Rattle.std.proofs.lemmas.Option.{none-some, slice_get_within}
+use Rattle.gp_memory.proofs.Basics.{first_or_later as split_head, here as at_head, is_some_of, later as behind, none_in, some_at as element, some_same, some_there as some_of, standing, stands_in}
 use Rattle.gp_values.specs.declared.marks.EdgeMark.TheVariants as edge_marks
 use Rattle.gp_values.specs.Apart.{AreApart}
 use Rattle.gp_values.specs.Graph.{Graph, Edge, IsGraph, edge_at}
@@ -14,13 +15,13 @@ use Rattle.gp_syntax.specs.Rule.{Rule, RightEdge, Found, kept_edge, kept_edges}
 use Rattle.gp_syntax.specs.Match.{MatchBy, setting_of}
 use Rattle.gp_syntax.specs.Step.{Places, MakesEdge, StepBy, made_mark, found_edge}
 use Rattle.gp_syntax.specs.WellFormed.{IsWellFormed}
-use Rattle.gp_syntax.proofs.Unique.{contained, element}
+use Rattle.gp_syntax.proofs.Unique.{contained}
 use Rattle.gp_step.specs.Halves.{image_of, next_of, images_from}
-use Rattle.gp_step.proofs.Halves.{Keeps, behind, at_head, split_head, none_in, standing, stands_in, same_place, length-images, count-cons}
+use Rattle.gp_step.proofs.Halves.{Keeps, same_place, length-images, count-cons}
 use Rattle.gp_step.proofs.Afters.{numbered, keeps_edges}
 use Rattle.gp_derivation.specs.StepAnew.{StepAnewBy}
 use Rattle.gp_derivation.specs.inside.Table.{IsTable, today, all_today, found_today, as_it_was, emptied, all_emptied, moved}
-use Rattle.gp_derivation.proofs.Tables.{some_same, is_some_of, some_of, mapped, edge_was, edge_then, all_today_length, all_today_at}
+use Rattle.gp_derivation.proofs.Tables.{mapped, edge_was, edge_then, all_today_length, all_today_at}
 
 -- ---- what stands in a table after a step
 

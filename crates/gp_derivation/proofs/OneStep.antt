@@ -3,14 +3,14 @@
 use Rattle.std.proofs.Common.{◌≡◌, ◌⊎◌, inl, inr, ℕ, ◌+◌, ◌-◌, ◌<◌, List, length, slice_index, Some, Contains, sym, ap, subst, ◌∙◌, arith}
 use Rattle.std.proofs.lemmas.Bool.{cases_lt}
 use Rattle.std.proofs.lemmas.List.{length-map}
+use Rattle.gp_memory.proofs.Basics.{some_at as element, standing}
 use Rattle.gp_values.specs.Graph.{Graph, Node, Edge, node_at, edge_at}
 use Rattle.gp_values.proofs.Graphs.{same_graph}
 use Rattle.gp_syntax.specs.Value.{Assignment}
 use Rattle.gp_syntax.specs.Rule.{Rule, RightNode, RightEdge, Found, kept_nodes}
 use Rattle.gp_syntax.specs.Step.{MakesNode, MakesEdge}
 use Rattle.gp_syntax.specs.WellFormed.{IsWellFormed}
-use Rattle.gp_syntax.proofs.Unique.{contained, element, same_images}
-use Rattle.gp_step.proofs.Halves.{standing}
+use Rattle.gp_syntax.proofs.Unique.{contained, same_images}
 use Rattle.gp_unify.proofs.Candidates.{one_assignment}
 use Rattle.gp_derivation.specs.StepAnew.{StepAnewBy, StepAnew}
 

@@ -1,9 +1,9 @@
 -- Values, matches and applying matches by the old numbers of edges and by today's are the same.
-use Rattle.std.proofs.Common.{◌≡◌, ℕ, ◌<◌, pos, Bool, true, false, if◌then◌else◌, List, [], ◌∷◌, ◌++◌, length, slice_index, slice_index_or, Option, Some, None, IsSome, IsSomeAnd, Contains, refl, sym, ap, subst, ◌∙◌, arith}
+use Rattle.std.proofs.Common.{◌≡◌, ℕ, ◌<◌, pos, Bool, true, false, if◌then◌else◌, List, [], ◌∷◌, ◌++◌, length, slice_index, slice_index_or, Option, Some, IsSome, IsSomeAnd, Contains, refl, sym, ap, subst, ◌∙◌, arith}
 use Rattle.std.specs.Prelude.{not, neg_ℤ, ◌+ℤ◌, ◌-ℤ◌, ◌*ℤ◌}
 use Rattle.std.specs.Option.{option_map}
-use Rattle.std.proofs.lemmas.List.{get_or_default}
 use Rattle.std.proofs.lemmas.Option.{slice_get_within}
+use Rattle.gp_memory.proofs.Basics.{is_some_of, some_and, some_at as element, some_more, some_same, standing as place, stands_in as stands}
 use Rattle.gp_values.specs.declared.atom.Atom.{Atom}
 use Rattle.gp_values.specs.declared.atom.Atom.TheVariants.{Str}
 use Rattle.gp_values.specs.declared.marks.EdgeMark.{EdgeMark}
@@ -15,14 +15,9 @@ use Rattle.gp_syntax.specs.Truth.{truth_of, compared, has_edge, has_edge_with}
 use Rattle.gp_syntax.specs.Rule.{Rule, LeftNode, LeftEdge, Found}
 use Rattle.gp_syntax.specs.Match.{MatchBy, FitsNode, FitsEdge, setting_of}
 use Rattle.gp_syntax.specs.Step.{AppliesBy, first_fault, kind_or, right_labels}
-use Rattle.gp_syntax.proofs.Unique.{element}
 use Rattle.gp_derivation.specs.inside.Table.{IsTable, today, all_today, found_today, as_it_was}
-use Rattle.gp_derivation.proofs.Tables.{mapped, some_same, is_some_of, edge_now, edge_then, all_today_length, all_today_at, all_there, alike}
-use Rattle.gp_derivation.proofs.Alike.{some_and, in_degree_alike, out_degree_alike, has_edge_alike, has_edge_with_alike}
-
-some_more : {X : Type 0} (o : Option X) (P Q : X → Type 0) → ((x : X) → P x → Q x) → IsSomeAnd o P → IsSomeAnd o Q
-some_more None P Q f h = h
-some_more (Some x) P Q f h = f x h
+use Rattle.gp_derivation.proofs.Tables.{mapped, edge_now, edge_then, all_today_length, all_today_at, all_there, alike}
+use Rattle.gp_derivation.proofs.Alike.{in_degree_alike, out_degree_alike, has_edge_alike, has_edge_with_alike}
 
 -- ---- degrees and edges between nodes
 
@@ -140,13 +135,6 @@ found_parts t m n e = mapped (λ (ks : List ℕ). record m { edges = ks }) (all_
 
 pub found_is : (t : List (Option ℕ)) (m : Found) (ks : List ℕ) → all_today t m.edges ≡ Some ks → found_today t m ≡ Some (record m { edges = ks })
 found_is t m ks e = ap (option_map (λ (ks : List ℕ). record m { edges = ks })) e
-
--- the place of a number
-place : (ns : List ℕ) (n : ℕ) (c : Contains ns n) → slice_index ns c.0 ≡ n
-place ns n c = get_or_default ns c.0 0 n c.1 ∙ c.2
-
-stands : (ns : List ℕ) (i n : ℕ) → i < length ns → slice_index ns i ≡ n → Contains ns n
-stands ns i n l e = (i, l, sym (get_or_default ns i 0 n l) ∙ e)
 
 module _ (r : Rule) (t : List (Option ℕ)) (h : Graph) (m : Found) (a : Assignment) (ks : List ℕ) (w : IsTable t h) (is : all_today t m.edges ≡ Some ks) where
   abbrev g : Graph

@@ -1,6 +1,7 @@
 -- Live steps and items, one more at a time and taken back.
 use Rattle.std.proofs.Common.{◌≡◌, ℕ, zero, suc, ◌+◌, ◌-◌, ◌≤◌, List, [], ◌∷◌, ◌++◌, length, take, sym, subst, ap, refl, ◌∙◌, arith, length-append}
 use Rattle.std.specs.Prelude.{Option, Some, slice_get}
+use Rattle.gp_memory.proofs.Basics.{no_more, one_less, take_long, take_short}
 use Rattle.gp_values.specs.Graph.{Graph}
 use Rattle.gp_syntax.specs.declared.found.Item.{Item as ItemTree}
 use Rattle.gp_syntax.specs.Rule.{Rule, Found}
@@ -18,30 +19,10 @@ use Rattle.gp_derivation.specs.inside.Led.{LedBoth, Led}
 
 -- ---- the first ones of a list
 
-pub take_short : {X : Type 0} (n : ℕ) (xs ys : List X) → n ≤ length xs → take n (xs ++ ys) ≡ take n xs
-take_short zero xs ys h = refl
-take_short (suc n) [] ys h = absurd (omega arith)
-take_short (suc n) (x ∷ xs) ys h = ap (λ l. x ∷ l) (take_short n xs ys (omega arith))
-
-pub take_long : {X : Type 0} (n : ℕ) (xs : List X) → length xs ≤ n → take n xs ≡ xs
-take_long zero [] h = refl
-take_long zero (x ∷ xs) h = absurd (omega arith)
-take_long (suc n) [] h = refl
-take_long (suc n) (x ∷ xs) h = ap (λ l. x ∷ l) (take_long n xs (omega arith))
-
 length-taken : {X : Type 0} (n : ℕ) (xs : List X) → n ≤ length xs → length (take n xs) ≡ n
 length-taken zero xs h = refl
 length-taken (suc n) [] h = absurd (omega arith)
 length-taken (suc n) (x ∷ xs) h = ap suc (length-taken n xs (omega arith))
-
-no_more : (n k : ℕ) → n - k ≤ n
-no_more n k = omega arith
-
-one_less : (n k : ℕ) → (n + 1) - suc k ≡ n - k
-one_less n k = omega arith
-
-less_none : (n : ℕ) → n - 0 ≡ n
-less_none n = omega arith
 
 taken_all : {X : Type 0} (xs : List X) → take (length xs - 0) xs ≡ xs
 taken_all xs = take_long (length xs - 0) xs (omega arith)

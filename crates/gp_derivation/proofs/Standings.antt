@@ -1,8 +1,9 @@
 -- An upgrade stands behind one item more.
-use Rattle.std.proofs.Common.{◌≡◌, inl, inr, ℕ, zero, suc, ◌≤◌, ◌<◌, List, [], ◌∷◌, ◌++◌, length, take, sym, subst, ap, refl, ◌∙◌, arith, length-append}
+use Rattle.std.proofs.Common.{◌≡◌, inl, inr, ℕ, ◌≤◌, ◌<◌, List, [], ◌∷◌, ◌++◌, length, take, sym, subst, ap, refl, ◌∙◌, arith, length-append}
 use Rattle.std.specs.Prelude.{Option, Some, None, slice_get}
 use Rattle.std.specs.Option.{option_map}
 use Rattle.std.proofs.lemmas.Bool.{cases_lt}
+use Rattle.gp_memory.proofs.Basics.{some_same, take_long, take_none as none_taken, take_short}
 use Rattle.gp_values.specs.Graph.{Graph, IsGraph}
 use Rattle.gp_syntax.specs.declared.found.Item.TheVariants as trees
 use Rattle.gp_syntax.specs.Rule.{Rule, Found, kept_edges}
@@ -24,10 +25,7 @@ use Rattle.gp_derivation.proofs.Tables.{own_table, own_graph, all_today_length, 
 use Rattle.gp_derivation.proofs.Renumbered.{value_was, applies_on, applies_back, match_there}
 use Rattle.gp_derivation.proofs.OneStep.{one_step_anew}
 use Rattle.gp_derivation.proofs.Moves.{step_was, table_moved}
-use Rattle.gp_derivation.proofs.Stacks.{take_short, take_long, live_more, OneFits, fits_more, fits_last, anew_more, anew_split, steps_more, renumbers_more, as_long, items-more, led_both, length-was, length-now, led_back}
-
-some_same : {X : Type 0} {x y : X} → Some x ≡ Some y → x ≡ y
-some_same e = cc
+use Rattle.gp_derivation.proofs.Stacks.{live_more, OneFits, fits_more, fits_last, anew_more, anew_split, steps_more, renumbers_more, as_long, items-more, led_both, length-was, length-now, led_back}
 
 -- ---- one item more, of any kind
 
@@ -64,10 +62,6 @@ stands_more rules host s t i j table u h k us vs bs cs st r a b l =
     }
 
 -- ---- no items
-
-none_taken : {X : Type 0} (n : ℕ) → take {A = X} n [] ≡ []
-none_taken zero = refl
-none_taken (suc n) = refl
 
 pub stands_fresh : (rules : List Rule) (host : Graph) → IsGraph host → Stands rules host [] [] (own_numbers host 0 host.next_edge) host [] []
 stands_fresh rules host w =

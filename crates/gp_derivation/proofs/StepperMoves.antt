@@ -1,6 +1,7 @@
 -- One item, forward and back.
 use Rattle.std.proofs.Common.{◌≡◌, ℕ, zero, suc, ◌+◌, ◌<◌, List, [], ◌∷◌, ◌++◌, length, take, drop, Some, slice_get, add-one, sym, subst, ap, refl, ◌∙◌, arith}
 use Rattle.std.proofs.lemmas.Option.{same_Some}
+use Rattle.gp_memory.proofs.Basics.{drop_suc as dropped_next}
 use Rattle.gp_values.specs.Graph.{Graph}
 use Rattle.gp_syntax.specs.declared.found.Item as trees
 use Rattle.gp_syntax.specs.Rule.{Rule}
@@ -16,11 +17,6 @@ pub taken_next : {X : Type 0} (xs : List X) (n : ℕ) (x : X) → slice_get xs n
 taken_next [] n x e = absurd cc
 taken_next (y ∷ xs) zero x e = ap (λ z. z ∷ []) (same_Some y x e)
 taken_next (y ∷ xs) (suc n) x e = ap (λ l. y ∷ l) (taken_next xs n x e)
-
-pub dropped_next : {X : Type 0} (xs : List X) (n : ℕ) (x : X) → slice_get xs n ≡ Some x → drop n xs ≡ x ∷ drop (suc n) xs
-dropped_next [] n x e = absurd cc
-dropped_next (y ∷ xs) zero x e = ap (λ z. z ∷ xs) (same_Some y x e)
-dropped_next (y ∷ xs) (suc n) x e = dropped_next xs n x e
 
 pub leads_last : (rules : List Rule) (is : List Item) (i : Item) (t u : Trail) → Leads rules (is ++ i ∷ []) t u → (v : Trail) × Leads rules is t v × Goes rules i v u
 leads_last rules [] i t u w = (t, refl, subst (Goes rules i t) (sym w.2) w.1)

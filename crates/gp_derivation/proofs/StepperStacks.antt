@@ -1,13 +1,14 @@
 -- The numbers of live items.
 use Rattle.std.proofs.Common.{◌≡◌, ℕ, zero, suc, ◌+◌, ◌-◌, ◌≤◌, List, [], ◌∷◌, ◌++◌, length, take, drop, Some, slice_get, get_or, add-one, sym, subst, ap, refl, ◌∙◌, arith, length-drop}
 use Rattle.std.proofs.lemmas.Option.{slice_get-get_or}
+use Rattle.gp_memory.proofs.Basics.{drop_suc as dropped_next}
 use Rattle.gp_values.specs.Graph.{Graph}
 use Rattle.gp_syntax.specs.Rule.{Rule, Found}
 use Rattle.gp_syntax.specs.Run.{Item, Stepped, Turned, Back}
 use Rattle.gp_journal.specs.Trail.{Trail, undone, back_by}
 use Rattle.gp_journal.specs.Leads.{AppliesBy, Goes, Leads}
 use Rattle.gp_derivation.specs.inside.Stands.{Stacks, stacks_after, stacks_at, GoesOnly, StepsOn}
-use Rattle.gp_derivation.proofs.StepperMoves.{taken_next, dropped_next, leads_last}
+use Rattle.gp_derivation.proofs.StepperMoves.{taken_next, leads_last}
 
 -- ---- taking back
 

@@ -5,29 +5,13 @@ use Rattle.std.specs.Option.{option_map}
 use Rattle.std.specs.Ordering.{nat_cmp}
 use Rattle.std.specs.FinMap.{FinMap, get, get-empty}
 use Rattle.std.proofs.lemmas.Bool.{cases_lt}
+use Rattle.gp_memory.proofs.Basics.{first_step, here, is_some_of, later, some_same, some_there as some_of}
 use Rattle.gp_values.specs.Graph.{Graph, Edge, IsGraph, edge_at}
 use Rattle.gp_values.proofs.Graphs.{get-insert_here, get-insert_apart, same_graph}
-use Rattle.gp_graph.proofs.Numbers.{here, later}
 use Rattle.gp_derivation.specs.Upgrade.{AreAlike}
 use Rattle.gp_derivation.specs.inside.Table.{IsTable, today, all_today, put_if, renumbered, as_it_was, own_numbers}
 
 -- ---- options
-
-pub some_same : {X : Type 0} {x y : X} → Some x ≡ Some y → x ≡ y
-some_same e = cc
-
-pub is_some_of : {X : Type 0} (o : Option X) (x : X) → o ≡ Some x → IsSome o
-is_some_of None x e = cc
-is_some_of (Some y) x e = refl
-
-pub some_of : {X : Type 0} (o : Option X) → IsSome o → (x : X) × (o ≡ Some x)
-some_of None h = absurd cc
-some_of (Some x) h = (x, refl)
-
--- what comes of both steps, where something does
-pub first_step : {X Y : Type 0} (f : X → Option Y) (o : Option X) (y : Y) → option_and_then f o ≡ Some y → (x : X) × (o ≡ Some x) × (f x ≡ Some y)
-first_step f None y e = absurd cc
-first_step f (Some x) y e = (x, refl, e)
 
 pub mapped : {X Y : Type 0} (f : X → Y) (o : Option X) (y : Y) → option_map f o ≡ Some y → (x : X) × (o ≡ Some x) × (f x ≡ y)
 mapped f None y e = absurd cc

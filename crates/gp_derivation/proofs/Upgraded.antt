@@ -1,6 +1,7 @@
 -- Items that were brought up to date, or break at one of them.
 use Rattle.std.proofs.Common.{◌≡◌, ℕ, zero, suc, ◌+◌, ◌≤◌, ◌<◌, List, [], ◌∷◌, ◌++◌, length, take, get_or, add-one, sym, subst, ap, refl, ◌∙◌, arith}
 use Rattle.std.proofs.Math.Seq.{take-suc}
+use Rattle.gp_memory.proofs.Basics.{take_long}
 use Rattle.gp_values.specs.Graph.{Graph}
 use Rattle.gp_syntax.specs.declared.found.Item.{Item as ItemTree}
 use Rattle.gp_syntax.specs.Rule.{Rule}
@@ -12,7 +13,7 @@ use Rattle.gp_derivation.specs.declared.replay.Replay.{Replay}
 use Rattle.gp_derivation.specs.StepAnew.{ReplaysAnew}
 use Rattle.gp_derivation.specs.Upgrade.{IsUpgrade, BreaksAtItem}
 use Rattle.gp_derivation.specs.inside.Standing.{StandsIn, ReplaysToNone}
-use Rattle.gp_derivation.proofs.Stacks.{take_long, length-tables, items-more}
+use Rattle.gp_derivation.proofs.Stacks.{length-tables, items-more}
 
 pub as_high : (rules : List Rule) (host : Graph) (s : List Item) (x : Replay) → StandsIn rules host s x → length x.table.before ≡ length x.trail.before
 as_high rules host s x st = length-tables rules host (live s) (live (items_of x.items.items)) x.table.now x.trail.graph x.table.before x.trail.before st.led

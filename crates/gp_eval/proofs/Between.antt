@@ -10,37 +10,17 @@ use Rattle.std.proofs.Math.Dec.{T}
 use Rattle.std.proofs.lemmas.Bool.{eqb-true, eq-eqb}
 use Rattle.std.proofs.lemmas.Bool.Decides.{Decides-eqb}
 use Rattle.std.proofs.lemmas.Grind.{common_steps}
+use Rattle.gp_memory.proofs.Basics.{and_both, and_left, and_right, first_or_later, here, later, or_left, or_right}
 use Rattle.gp_values.specs.declared.atom.Atom.{Atom}
 use Rattle.gp_values.specs.declared.marks.EdgeMark.{EdgeMark}
 use Rattle.gp_values.specs.Atoms.{same_list}
 use Rattle.gp_values.specs.Graph.{Graph, Edge, edge_at}
 use Rattle.gp_graph.specs.Walks.{Walks, GoesBetween}
-use Rattle.gp_graph.proofs.Numbers.{here, later, first_or_later}
 use Rattle.gp_syntax.specs.Expression.{MarkPattern}
 use Rattle.gp_syntax.specs.Truth.{has_edge, has_edge_with, has_mark}
 use Rattle.gp_eval.specs.inside.Between.{carried, carries}
 
 -- ---- tests
-
-and_left : (a b : Bool) → (a && b) ≡ true → a ≡ true
-and_left true b h = refl
-and_left false b h = h
-
-and_right : (a b : Bool) → (a && b) ≡ true → b ≡ true
-and_right true b h = h
-and_right false b h = absurd cc
-
-and_both : (a b : Bool) → a ≡ true → b ≡ true → (a && b) ≡ true
-and_both true b h k = k
-and_both false b h k = absurd cc
-
-or_left : (a b : Bool) → a ≡ true → (a || b) ≡ true
-or_left true b h = refl
-or_left false b h = absurd cc
-
-or_right : (a b : Bool) → b ≡ true → (a || b) ≡ true
-or_right true b h = refl
-or_right false b h = h
 
 or_false : (a b : Bool) → a ≡ false → (a || b) ≡ true → b ≡ true
 or_false true b h k = absurd cc

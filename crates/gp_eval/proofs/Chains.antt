@@ -1,6 +1,6 @@
 -- Chains, operand by operand, and their sizes.
 use Rattle.std.proofs.Common.{◌≡◌, ℕ, zero, suc, ℤ, pos, negsuc, neg_ℤ, if◌then◌else◌, ◌+◌, ◌<◌, ◌≤◌, List, [], ◌∷◌, ◌++◌, length, map, drop, fold, get_or, All, refl, sym, ap, subst, ◌∙◌, arith, Result, Ok, Err, IsErrAnd, Bool, true, false, ◌==◌}
-use Rattle.std.specs.Prelude.{◌↔◌, IsTrue, Option, Some, None, IfSome, ◌+ℤ◌, ◌-ℤ◌, ◌*ℤ◌, int_div}
+use Rattle.std.specs.Prelude.{◌↔◌, IsTrue, Option, Some, None, ◌+ℤ◌, ◌-ℤ◌, ◌*ℤ◌, int_div}
 use Rattle.std.proofs.lemmas.Bool.Decides.{Decides-eqb}
 use Rattle.gp_values.specs.declared.atom.Atom.{Atom}
 use Rattle.gp_values.specs.declared.atom.Atom.TheVariants.{Str}
@@ -307,11 +307,6 @@ not_empty xs b e f s = let t : (length xs == 0) ≡ true = (Decides-eqb (length 
 -- a chain with further operands, where the list of them was asked
 pub some_left : {X : Type 0} (xs : List X) (b : Bool) → IsTrue b ↔ (xs ≡ []) → b ≡ false → xs ≡ [] → ⊥
 some_left xs b is f e = absurd (let d : false ≡ true = sym f ∙ is.1 e in cc)
-
--- what an integer that is found tells
-pub some_as : {X : Type 0} (o : Option X) (P Q : X → Type 0) → ((x : X) → P x → Q x) → IfSome o P → IfSome o Q
-some_as None P Q f h = h
-some_as (Some x) P Q f h = f x h
 
 -- ---- whether there is a value
 

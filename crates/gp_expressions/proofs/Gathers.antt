@@ -1,7 +1,8 @@
 -- Lists of trees, one tree more at a time.
-use Rattle.std.proofs.Common.{◌≡◌, List, [], ◌∷◌, ◌++◌, map, Option, Some, None, refl, sym, ap, append_assoc}
+use Rattle.std.proofs.Common.{◌≡◌, List, [], ◌∷◌, ◌++◌, map, refl, sym, ap, append_assoc}
 use Rattle.std.proofs.lemmas.List.{append-nil, map-append}
 use Rattle.std.specs.Option.{option_or}
+use Rattle.gp_memory.proofs.Basics.{or_assoc as regroup, or_none as none_last}
 use Rattle.gp_expressions.specs.declared.ranged.Ranged.{Ranged}
 use Rattle.gp_expressions.specs.Ranges.{first_past, joined, all_joined, chained}
 use Rattle.gp_expressions.specs.Expressions.{Tree, sum_tree, product_tree}
@@ -10,14 +11,6 @@ use Rattle.gp_syntax.specs.declared.expression.Signed.{Signed}
 use Rattle.gp_syntax.specs.declared.expression.SumSign.{SumSign}
 use Rattle.gp_syntax.specs.declared.expression.ProductSign.{ProductSign}
 use Rattle.gp_syntax.specs.declared.expression.Expr.TheVariants as e
-
-pub none_last : {A : Type 0} (p : Option A) → option_or p None ≡ p
-none_last None = refl
-none_last (Some x) = refl
-
-pub regroup : {A : Type 0} (p q r : Option A) → option_or (option_or p q) r ≡ option_or p (option_or q r)
-regroup None q r = refl
-regroup (Some x) q r = refl
 
 pub past_more : {A : Type 0} (rs : List (Ranged A)) (r : Ranged A) → first_past (rs ++ r ∷ []) ≡ option_or (first_past rs) r.past
 unfolding first_past

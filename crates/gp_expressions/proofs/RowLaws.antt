@@ -2,6 +2,7 @@
 use Rattle.std.proofs.Common.{◌≡◌, ℕ, zero, suc, Bool, true, false, List, [], ◌∷◌, ◌++◌, map, length, Option, Some, None, refl, sym, ap, ◌∙◌}
 use Rattle.std.specs.Prelude.{if◌then◌else◌}
 use Rattle.std.specs.Option.{option_or}
+use Rattle.gp_memory.proofs.Basics.{or_assoc as regroup, or_none as none_last}
 use Rattle.gp_tokens.specs.declared.token.Token.{Token}
 use Rattle.gp_tokens.specs.declared.want.Want.{Want}
 use Rattle.gp_tokens.specs.Grammar.{Grammar}
@@ -16,12 +17,11 @@ use Rattle.gp_syntax.specs.declared.expression.SumSign.TheVariants as sums
 use Rattle.gp_syntax.specs.declared.expression.ProductSign.TheVariants as products
 use Rattle.gp_expressions.specs.declared.ranged.Ranged.{Ranged}
 use Rattle.gp_expressions.specs.Ranges.{first_past, chained}
-use Rattle.gp_expressions.proofs.Gathers.{none_last, regroup}
 use Rattle.gp_expressions.specs.Signs.{and_word}
 use Rattle.gp_expressions.specs.Expressions.{Tree, headed, signed_by, unary, quotients, product, differences, sum, dots}
 use Rattle.gp_expressions.specs.Conditions.{CondTree, conjunction, no_condition}
 use Rattle.gp_expressions.specs.inside.Rows.{signed_row}
-use Rattle.gp_expressions.proofs.Gathers.{none_last, regroup, past_more}
+use Rattle.gp_expressions.proofs.Gathers.{past_more}
 
 -- ---- parts that are made of others
 

@@ -1,9 +1,10 @@
 -- Hosts have their nodes and edges.
-use Rattle.std.proofs.Common.{◌≡◌, ℕ, zero, suc, ◌+◌, ◌*◌, ◌-◌, ◌<◌, ◌≤◌, ◌%◌, Bool, true, false, List, [], ◌∷◌, ◌++◌, length, map, refl, sym, ap, ap₂, ◌∙◌, arith}
+use Rattle.std.proofs.Common.{◌≡◌, ℕ, zero, suc, ◌+◌, ◌*◌, ◌-◌, ◌<◌, ◌≤◌, ◌%◌, Bool, true, false, List, [], ◌∷◌, length, map, refl, sym, ap, ap₂, ◌∙◌, arith}
 use Rattle.std.proofs.Math.Nat.{mod-lt, mul-le-mul_right}
 use Rattle.std.proofs.lemmas.List.{length-append}
 use Rattle.std.specs.Prelude.{All, flat_map, if◌then◌else◌, ◌==◌}
 use Rattle.std.specs.List.{AllByRecursion, range_with_len, zip}
+use Rattle.gp_memory.proofs.Basics.{all_append as each_of_both, maps_twice as map_of_map}
 use Rattle.rand_core.specs.Steps.{first_words}
 use Rattle.rand_pcg.specs.Lcg.{Lcg}
 use Rattle.rand_pcg.specs.Pcg.{pcg32}
@@ -18,10 +19,6 @@ all_of_each : {A : Type 0} (P : A → Type 0) (xs : List A) → AllByRecursion P
 all_of_each P [] h i d lt = absurd (omega arith)
 all_of_each P (x ∷ xs) h zero d lt = h.0
 all_of_each P (x ∷ xs) h (suc i) d lt = all_of_each P xs h.1 i d (omega arith)
-
-each_of_both : {A : Type 0} (P : A → Type 0) (xs ys : List A) → AllByRecursion P xs → AllByRecursion P ys → AllByRecursion P (xs ++ ys)
-each_of_both P [] ys h k = k
-each_of_both P (x ∷ xs) ys h k = (h.0, each_of_both P xs ys h.1 k)
 
 each_number : (P : ℕ → Type 0) (a n : ℕ) → ((k : ℕ) → k < a + n → P k) → AllByRecursion P (range_with_len a n)
 each_number P a zero h = tt
@@ -38,10 +35,6 @@ each_in_rows P row (x ∷ xs) h = each_of_both P (row x) (flat_map row xs) h.0 (
 same_numbers : (f : ℕ → ℕ) → ((k : ℕ) → f k ≡ k) → (a n : ℕ) → map f (range_with_len a n) ≡ range_with_len a n
 same_numbers f same a zero = refl
 same_numbers f same a (suc n) = ap₂ (λ k l. k ∷ l) (same a) (same_numbers f same (a + 1) n)
-
-map_of_map : {A B C : Type 0} (g : B → C) (f : A → B) (xs : List A) → map g (map f xs) ≡ map (λ x. g (f x)) xs
-map_of_map g f [] = refl
-map_of_map g f (x ∷ xs) = ap (λ l. g (f x) ∷ l) (map_of_map g f xs)
 
 -- ---- edges by words
 

@@ -1,10 +1,11 @@
 -- The bodies of the index of pairs.
-use Rattle.std.proofs.Common.{inl, inr, ◌≡◌, ◌≢◌, ℕ, zero, suc, ◌+◌, ◌-◌, ◌<◌, ◌≤◌, ◌==◌, Bool, true, false, List, [], ◌∷◌, length, take, set, get_or, refl, sym, ap, ap₂, subst, ◌∙◌, arith, length-set}
-use Rattle.std.specs.Prelude.{◌⊎◌, ◌↔◌, ◌&&◌, Contains, Option, Some, None, IsSome, IsSomeAnd, IfSome, is_some, Result, Ok, Err, OnOk}
+use Rattle.std.proofs.Common.{inl, inr, ◌≡◌, ◌≢◌, ℕ, zero, suc, ◌+◌, ◌-◌, ◌<◌, ◌≤◌, ◌==◌, true, false, List, [], ◌∷◌, length, take, set, get_or, refl, sym, ap, ap₂, subst, ◌∙◌, arith, length-set}
+use Rattle.std.specs.Prelude.{◌⊎◌, ◌↔◌, Contains, Option, Some, None, IsSome, IsSomeAnd, IfSome, is_some, Result, Ok, Err, OnOk}
 use Rattle.std.specs.Result.{is_err}
 use Rattle.std.specs.Option.{option_map}
 use Rattle.std.proofs.lemmas.Bool.{cases_eq, eqb-true, eq-eqb}
 use Rattle.std.proofs.lemmas.List.{get_or-set_same, get_or-set_other}
+use Rattle.gp_memory.proofs.Basics.{and_both as both_to, both as both_of, first_or_later, get_any}
 use Rattle.gp_values.specs.Graph.{Edge}
 use Rattle.gp_graph.specs.Walks.{Walks, GoesBetween}
 use Rattle.gp_graph.specs.Chains.{Joins, AreRings, follow}
@@ -20,7 +21,7 @@ use Rattle.gp_graph.specs.declared.slots.EdgeSlot.{EdgeSlot}
 use Rattle.gp_graph.specs.declared.pairs.Pair.{Pair}
 use Rattle.gp_graph.specs.declared.rings.Side.TheVariants.{Beginning, Ending}
 use Rattle.gp_graph.proofs.SlotMaps.{seen_at}
-use Rattle.gp_graph.proofs.Numbers.{first_or_later, apart_more, few}
+use Rattle.gp_graph.proofs.Numbers.{apart_more, few}
 use Rattle.gp_graph.proofs.Rounds.{next_round, prev_round, length-follow}
 use Rattle.gp_graph.proofs.RingSets.{rings_agree, rings_by, rings_push, rings_remove, rings_turn, last_there, first_there}
 use Rattle.gp_graph.proofs.Links.{slot_within}
@@ -65,11 +66,6 @@ ring_here bs p q l = get_or-set_same bs p q _ l
 
 ring_else : (bs : List Ring) (p : ℕ) (q : Ring) (k : ℕ) → k ≢ p → ring_at (set bs p q) k ≡ ring_at bs k
 ring_else bs p q k ne = get_or-set_other bs p k q _ ne
-
-get_any : {X : Type 0} (xs : List X) (k : ℕ) (d e : X) → k < length xs → get_or xs k d ≡ get_or xs k e
-get_any [] k d e h = absurd (omega arith)
-get_any (x ∷ xs) zero d e h = refl
-get_any (x ∷ xs) (suc k) d e h = get_any xs k d e (omega arith)
 
 pub ring_is : (bs : List Ring) (p : ℕ) (r d : Ring) → p < length bs → r ≡ get_or bs p d → r ≡ ring_at bs p
 ring_is bs p r d l is = is ∙ get_any bs p d _ l
@@ -377,14 +373,6 @@ front_none [] = refl
 front_none (x ∷ xs) = refl
 
 -- ---- walks
-
-both_of : (x y : Bool) → (x && y) ≡ true → (x ≡ true) × (y ≡ true)
-both_of true y h = (refl, h)
-both_of false y h = absurd cc
-
-both_to : (x y : Bool) → x ≡ true → y ≡ true → (x && y) ≡ true
-both_to true y a b = b
-both_to false y a b = absurd cc
 
 between_pair-at : (count m n : ℕ) (p : Pair) (o : Option EdgeSlot) → HasEnds p o
     → IsSomeAnd (option_map edge_of o) (λ d. (d.source ≡ m) × (d.target ≡ n)) ↔ (IsSomeAnd (pair_in o) (λ q. bucket_of count q.0 q.1 ≡ bucket_of count m n) × (has_ends m n p ≡ true))

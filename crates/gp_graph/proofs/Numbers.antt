@@ -1,25 +1,13 @@
 -- Lists in which no number stands twice.
 use Rattle.std.proofs.Common.{inl, inr, ◌≡◌, ℕ, zero, suc, ◌+◌, ◌<◌, ◌≤◌, ◌==◌, Bool, true, false, if◌then◌else◌, List, [], ◌∷◌, length, get_or, refl, sym, ap, subst, ◌∙◌, arith}
-use Rattle.std.specs.Prelude.{◌⊎◌, ◌↔◌, Contains}
+use Rattle.std.specs.Prelude.{◌↔◌, Contains}
 use Rattle.std.proofs.lemmas.Bool.{cases_eq, eqb-true, eq-eqb}
 use Rattle.std.proofs.lemmas.List.{get_or_default}
 use Rattle.std.proofs.lemmas.List.Elements.{Contains-get_or}
+use Rattle.gp_memory.proofs.Basics.{first_or_later, here, later}
 use Rattle.gp_values.specs.Apart.{AreApart}
 use Rattle.gp_graph.specs.Walks.{Walks}
 use Rattle.gp_graph.specs.Chains.{without}
-
-pub here : (y : ℕ) (ys : List ℕ) (k : ℕ) → y ≡ k → Contains (y ∷ ys) k
-here y ys k e = (0, omega arith, e)
-
-pub later : (y : ℕ) (ys : List ℕ) (k : ℕ) → Contains ys k → Contains (y ∷ ys) k
-later y ys k h = (suc h.0, (let b = h.1 in omega arith), h.2)
-
-first_or_later-at : (y : ℕ) (ys : List ℕ) (k i : ℕ) → i < length (y ∷ ys) → get_or (y ∷ ys) i k ≡ k → (y ≡ k) ⊎ Contains ys k
-first_or_later-at y ys k zero b e = inl e
-first_or_later-at y ys k (suc i) b e = inr (i, omega arith, e)
-
-pub first_or_later : (y : ℕ) (ys : List ℕ) (k : ℕ) → Contains (y ∷ ys) k → (y ≡ k) ⊎ Contains ys k
-first_or_later y ys k h = first_or_later-at y ys k h.0 h.1 h.2
 
 pub kept : (b : Bool) (n : ℕ) (ns : List ℕ) (k : ℕ) → Contains ns k → Contains (if b then n ∷ ns else ns) k
 kept true n ns k h = later n ns k h

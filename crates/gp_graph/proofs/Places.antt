@@ -1,5 +1,5 @@
 -- What stands at a place of a list, and the places before it.
-use Rattle.std.proofs.Common.{◌≡◌, ℕ, zero, suc, ◌+◌, ◌<◌, ◌≤◌, List, [], ◌∷◌, ◌++◌, length, get_or, take, refl, ap, ap₂, ◌∙◌, arith}
+use Rattle.std.proofs.Common.{◌≡◌, ℕ, zero, suc, ◌+◌, ◌<◌, List, [], ◌∷◌, ◌++◌, length, get_or, take, refl, ap, ap₂, ◌∙◌, arith}
 use Rattle.std.specs.Prelude.{Option}
 use Rattle.gp_graph.specs.inside.Slots.{slot_in}
 
@@ -16,9 +16,3 @@ take_next (y ∷ ys) (suc k) x h is = let e : suc k + 1 ≡ suc (k + 1) = omega 
 -- one more of the list stands behind those that were taken
 pub taken_next : {X : Type 0} (xs : List X) (k : ℕ) (x y : X) (old new : List X) → k < length xs → x ≡ get_or xs k x → y ≡ x → old ≡ take k xs → new ≡ old ++ y ∷ [] → new ≡ take (k + 1) xs
 taken_next xs k x y old new h is same taken pushed = pushed ∙ ap₂ (λ l z. l ++ z ∷ []) taken same ∙ take_next xs k x h is
-
-pub take_all : {X : Type 0} (xs : List X) (k : ℕ) → length xs ≤ k → take k xs ≡ xs
-take_all [] zero h = refl
-take_all [] (suc k) h = refl
-take_all (x ∷ xs) zero h = absurd (omega arith)
-take_all (x ∷ xs) (suc k) h = ap (λ l. x ∷ l) (take_all xs k (omega arith))

@@ -4,10 +4,11 @@ use Rattle.std.specs.Prelude.{◌⊎◌, ◌↔◌, Contains}
 use Rattle.std.proofs.lemmas.Bool.{cases_eq, eqb-true, eq-eqb}
 use Rattle.std.proofs.lemmas.List.{get_or_append_left}
 use Rattle.std.proofs.lemmas.List.Elements.{Contains-push_cases, Contains-push, Contains-append_left}
+use Rattle.gp_memory.proofs.Basics.{first_or_later, here, later}
 use Rattle.gp_values.specs.Apart.{AreApart}
 use Rattle.gp_graph.specs.Walks.{Walks}
 use Rattle.gp_graph.specs.Chains.{without, follow, Goes, GoesRound, Joins, AreRings, Begins}
-use Rattle.gp_graph.proofs.Numbers.{here, later, first_or_later, first_new, others_apart, apart_more, length-without, Contains-without, Walks-same}
+use Rattle.gp_graph.proofs.Numbers.{first_new, others_apart, apart_more, length-without, Contains-without, Walks-same}
 use Rattle.gp_graph.proofs.Rounds.{frame_round, push_round, remove_round, turn_round, next_round, prev_round, follow-round, length-follow}
 
 pub apart_push : (xs : List ℕ) (e : ℕ) → AreApart xs → (Contains xs e → ⊥) → AreApart (xs ++ e ∷ [])

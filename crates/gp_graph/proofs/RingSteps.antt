@@ -3,6 +3,7 @@ use Rattle.std.proofs.Common.{inl, inr, ◌≡◌, ◌≢◌, ℕ, ◌+◌, ◌-
 use Rattle.std.specs.Prelude.{Contains, Option, Some, None, IsSome, IsSomeAnd}
 use Rattle.std.specs.Option.{option_map}
 use Rattle.std.proofs.lemmas.Bool.{cases_eq}
+use Rattle.gp_memory.proofs.Basics.{first_or_later}
 use Rattle.gp_values.specs.Graph.{Edge}
 use Rattle.gp_graph.specs.inside.Slots.{slot_in}
 use Rattle.gp_graph.specs.Chains.{Joins, follow}
@@ -13,7 +14,7 @@ use Rattle.gp_graph.specs.declared.slots.Ring.{Ring}
 use Rattle.gp_graph.specs.declared.slots.NodeSlot.{NodeSlot}
 use Rattle.gp_graph.specs.declared.slots.EdgeSlot.{EdgeSlot}
 use Rattle.gp_graph.specs.declared.rings.Side.{Side}
-use Rattle.gp_graph.proofs.Numbers.{first_or_later, apart_more, few}
+use Rattle.gp_graph.proofs.Numbers.{apart_more, few}
 use Rattle.gp_graph.proofs.Rounds.{next_round, prev_round, length-follow}
 use Rattle.gp_graph.proofs.RingSets.{rings_push, rings_remove, rings_turn, last_there, first_there}
 use Rattle.gp_graph.proofs.Links.{slot_within, ring_here, ring_elsewhere, ring_other_side, ring_seen, ring_roots}

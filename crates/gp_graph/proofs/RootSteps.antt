@@ -3,6 +3,7 @@ use Rattle.std.proofs.Common.{inl, inr, ◌≡◌, ◌≢◌, ℕ, zero, suc, �
 use Rattle.std.specs.Prelude.{Contains, Option, Some, None, IsSome, IsSomeAnd, slice_set}
 use Rattle.std.specs.Option.{option_map}
 use Rattle.std.proofs.lemmas.Bool.{cases_eq}
+use Rattle.gp_memory.proofs.Basics.{first_or_later}
 use Rattle.gp_values.specs.declared.atom.Atom.{Atom}
 use Rattle.gp_values.specs.declared.marks.NodeMark.{NodeMark}
 use Rattle.gp_graph.specs.inside.Slots.{slot_in}
@@ -15,7 +16,7 @@ use Rattle.gp_graph.specs.declared.slots.Ring.{Ring}
 use Rattle.gp_graph.specs.declared.slots.NodeSlot.{NodeSlot}
 use Rattle.gp_graph.specs.declared.rings.Side.{Side}
 use Rattle.gp_graph.specs.declared.rings.Side.TheVariants.{Beginning, Ending}
-use Rattle.gp_graph.proofs.Numbers.{first_or_later, apart_more, few}
+use Rattle.gp_graph.proofs.Numbers.{apart_more, few}
 use Rattle.gp_graph.proofs.Rounds.{next_round, prev_round, length-follow}
 use Rattle.gp_graph.proofs.RingSets.{rings_push, rings_remove, rings_agree, rings_by, last_there, first_there}
 use Rattle.gp_graph.proofs.Links.{kept, slot_within, slot_here, slot_other, changed_here}

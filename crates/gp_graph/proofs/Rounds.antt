@@ -2,9 +2,10 @@
 use Rattle.std.proofs.Common.{inl, inr, ◌≡◌, ℕ, zero, suc, ◌==◌, Bool, true, false, if◌then◌else◌, List, [], ◌∷◌, ◌++◌, length, refl, sym, ap, subst, ◌∙◌, arith}
 use Rattle.std.specs.Prelude.{◌⊎◌, Contains}
 use Rattle.std.proofs.lemmas.Bool.{eqb-true, eq-eqb}
+use Rattle.gp_memory.proofs.Basics.{first_or_later, here, later}
 use Rattle.gp_values.specs.Apart.{AreApart}
 use Rattle.gp_graph.specs.Chains.{without, follow, Joined, Goes, GoesRound, Joins}
-use Rattle.gp_graph.proofs.Numbers.{here, later, first_or_later, first_new, others_apart}
+use Rattle.gp_graph.proofs.Numbers.{first_new, others_apart}
 
 -- numbers that stand nowhere in a list are joined: the links go through it as before
 frame : (nx pv nx' pv' : ℕ → ℕ) (p q : ℕ) → Joins nx pv nx' pv' p q → (a : ℕ) (xs : List ℕ) (b : ℕ) → (a ≡ p → ⊥) → (Contains xs p → ⊥) → (Contains xs q → ⊥) → (b ≡ q → ⊥) → Goes nx pv a xs b → Goes nx' pv' a xs b

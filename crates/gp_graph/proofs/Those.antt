@@ -1,11 +1,12 @@
 -- Walks over those numbers of a walk that pass a test.
 use Rattle.std.proofs.Common.{inl, inr, ◌≡◌, ℕ, zero, suc, ◌+◌, ◌-◌, ◌<◌, ◌≤◌, Bool, true, false, if◌then◌else◌, List, [], ◌∷◌, length, refl, sym, ap, ◌∙◌, arith}
 use Rattle.std.specs.Prelude.{◌↔◌, Contains}
+use Rattle.gp_memory.proofs.Basics.{first_or_later, here, later}
 use Rattle.gp_values.specs.Apart.{AreApart}
 use Rattle.gp_graph.specs.Walks.{Walks}
 use Rattle.gp_graph.specs.Chains.{follow}
 use Rattle.gp_graph.specs.inside.Sought.{those}
-use Rattle.gp_graph.proofs.Numbers.{here, later, first_or_later, kept, first_kept, first_new, others_apart, apart_kept}
+use Rattle.gp_graph.proofs.Numbers.{kept, first_kept, first_new, others_apart, apart_kept}
 
 was-at : (p : ℕ → Bool) (x : ℕ) (xs : List ℕ) (k : ℕ) (b : Bool) → p x ≡ b → (Contains (those p xs) k → Contains xs k × (p k ≡ true)) → Contains (if b then x ∷ those p xs else those p xs) k → Contains (x ∷ xs) k × (p k ≡ true)
 was-at p x xs k true is rest h =

@@ -4,6 +4,7 @@ use Rattle.std.specs.Prelude.{FitsSigned, neg_ℤ, nat_le, nat_lt, if◌then◌e
 use Rattle.std.specs.Int.{w128}
 use Rattle.std.proofs.lemmas.Bool.{leb-true, ltb-true}
 use Rattle.std.proofs.lemmas.List.Elements.{All-nil, All-cons}
+use Rattle.gp_memory.proofs.Basics.{some_is}
 use Rattle.gp_tokens.specs.declared.fault.LexFault.{LexFault}
 use Rattle.gp_tokens.specs.declared.fault.LexFault.TheVariants as lex_faults
 use Rattle.gp_tokens.specs.declared.token.Token.{Token}
@@ -14,7 +15,7 @@ use Rattle.gp_tokens.specs.Grammar.{shape_of}
 use Rattle.gp_tokens.specs.Numerals.{signed}
 use Rattle.gp_tokens.specs.Shape.{Is, ◌then◌, Made, Many, one, other, none, more, second_of}
 use Rattle.gp_tokens.specs.SignWants.{colon}
-use Rattle.gp_tokens.proofs.Shapes.{bind_some, some_is}
+use Rattle.gp_tokens.proofs.Shapes.{bind_some}
 use Rattle.gp_values.specs.declared.atom.Atom.{Atom}
 use Rattle.gp_values.specs.declared.atom.Atom.TheVariants.{Int, Str}
 use Rattle.gp_values.specs.Atoms.{IsAtom, AreAtoms}

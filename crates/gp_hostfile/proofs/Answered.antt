@@ -2,6 +2,7 @@
 use Rattle.std.proofs.Common.{◌≡◌, ℕ, List, [], ◌∷◌, Option, Some, None, Ok, Err, refl, sym, subst, arith}
 use Rattle.std.specs.Prelude.{Result}
 use Rattle.std.proofs.lemmas.List.{length-map}
+use Rattle.gp_memory.proofs.Basics.{some_is}
 use Rattle.gp_tokens.specs.declared.fault.LexFault.{LexFault}
 use Rattle.gp_tokens.specs.declared.token.Token.{Token}
 use Rattle.gp_tokens.specs.Lexed.{tokens_of}
@@ -11,7 +12,7 @@ use Rattle.gp_tokens.specs.Shape.{one, other, second_of}
 use Rattle.gp_tokens.specs.SignWants.{less}
 use Rattle.gp_tokens.specs.Ahead.{◌>>=◌}
 use Rattle.gp_tokens.specs.Reading.{reader_of}
-use Rattle.gp_tokens.proofs.Shapes.{bind_some, some_is}
+use Rattle.gp_tokens.proofs.Shapes.{bind_some}
 use Rattle.gp_values.specs.Graph.{Graph, IsGraph, empty_graph, with_node, with_edge}
 use Rattle.gp_values.specs.Names.{Name, place_of}
 use Rattle.gp_values.proofs.Graphs.{IsGraph-empty, IsGraph-with_node, IsGraph-with_edge}

@@ -2,9 +2,10 @@
 use Rattle.std.proofs.Common.{◌≡◌, ℕ, zero, suc, ◌+◌, ◌<◌, ◌≢◌, Bool, true, false, cond, List, [], ◌∷◌, length, Option, Some, None, refl, sym, subst, ◌∙◌, arith}
 use Rattle.std.specs.Prelude.{slice_get, IsSome, option_map}
 use Rattle.std.specs.List.{position_from}
+use Rattle.gp_memory.proofs.Basics.{neither, some_at as slice_get_some, some_is}
 use Rattle.gp_tokens.specs.Ahead.{◌>>=◌}
 use Rattle.gp_tokens.specs.Numerals.{signed}
-use Rattle.gp_tokens.proofs.Shapes.{bind_some, some_is}
+use Rattle.gp_tokens.proofs.Shapes.{bind_some}
 use Rattle.gp_values.specs.declared.atom.Atom.{Atom}
 use Rattle.gp_values.specs.declared.atom.Atom.TheVariants.{Int, Str}
 use Rattle.gp_values.specs.declared.marks.NodeMark.{NodeMark}
@@ -18,7 +19,6 @@ use Rattle.gp_hostfile.specs.declared.tree.NodeTree.{NodeTree}
 use Rattle.gp_hostfile.specs.declared.tree.EdgeTree.{EdgeTree}
 use Rattle.gp_hostfile.specs.declared.fault.HostFault.TheVariants as faults
 use Rattle.gp_hostfile.specs.Host.{IsBuiltNode, IsBuiltEdge, atom_of, atoms_of, node_mark, edge_mark, first_found, unless}
-use Rattle.gp_hostfile.proofs.Faults.{neither}
 use Rattle.gp_hostfile.specs.inside.Stages.{one_node_more, nodes_made, one_edge_more, edges_made, AreNodes, atom_fault, label_fault, end_fault, ends_fault, node_mark_fault, edge_mark_fault}
 
 -- ---- places
@@ -82,11 +82,6 @@ nodes_sound (n ∷ ns) old new h =
     let v = bind_some (atoms_of n.label) (λ v. Some (with_node old (built_node n m.0 v))) a.0 m.2 in
     let e : a.0 ≡ with_node old (built_node n m.0 v.0) = sym (some_is (with_node old (built_node n m.0 v.0)) a.0 v.2) in
     first_node n ns old new m.0 v.0 m.1 v.1 (subst (λ (g : Graph). AreBuiltNodes ns g new) e (nodes_sound ns a.0 new a.2))
-
-slice_get_some : {A : Type 0} (xs : List A) (k : ℕ) → k < length xs → (x : A) × (slice_get xs k ≡ Some x)
-slice_get_some [] k lt = absurd (omega arith)
-slice_get_some (x ∷ xs) zero lt = (x, refl)
-slice_get_some (x ∷ xs) (suc k) lt = slice_get_some xs k (omega arith)
 
 pub are_nodes : (ns : List NodeTree) (names : List Name) (g : Graph) → length names ≡ length ns → nodes_made ns empty_graph ≡ Some g → AreNodes names g
 are_nodes ns names g count h k lt =

@@ -4,6 +4,7 @@ use Rattle.std.specs.Prelude.{option_map, flat_map, is_some, if◌then◌else◌
 use Rattle.std.specs.Option.{option_or}
 use Rattle.std.specs.List.{list_any, position_from}
 use Rattle.std.proofs.Common.{cond, ◌||◌, ℕ, ◌+◌}
+use Rattle.gp_memory.proofs.Basics.{neither, or_assoc}
 use Rattle.gp_values.specs.Names.{Name, same_name, has_name, place_of, first_doubled, first_unknown}
 use Rattle.gp_hostfile.specs.declared.tree.NodeTree.{NodeTree}
 use Rattle.gp_hostfile.specs.declared.tree.EdgeTree.{EdgeTree}
@@ -31,10 +32,6 @@ none_refused a b n m = rw n m
 
 -- ---- the first that is found
 
-or_assoc : {A : Type 0} (a b c : Option A) → option_or (option_or a b) c ≡ option_or a (option_or b c)
-or_assoc None b c = refl
-or_assoc (Some x) b c = refl
-
 map_or : {A B : Type 0} (f : A → B) (a b : Option A) → option_map f (option_or a b) ≡ option_or (option_map f a) (option_map f b)
 map_or f None b = refl
 map_or f (Some x) b = refl
@@ -54,10 +51,6 @@ found_flat f g (x ∷ xs) = found_append f (g x) (flat_map g xs) ∙ ap (option_
 found_alike : {A B : Type 0} (f g : A → Option B) → ((x : A) → f x ≡ g x) → (xs : List A) → first_found f xs ≡ first_found g xs
 found_alike f g e [] = refl
 found_alike f g e (x ∷ xs) = λ i. option_or (e x i) (found_alike f g e xs i)
-
-pub neither : {A : Type 0} (a b : Option A) → option_or a b ≡ None → (a ≡ None) × (b ≡ None)
-neither None b h = (refl, h)
-neither (Some x) b h = absurd cc
 
 -- ---- places
 

@@ -1,13 +1,14 @@
 -- Host texts.
 use Rattle.std.proofs.Common.{◌≡◌, ℕ, zero, suc, ◌+◌, ◌≤◌, List, [], ◌∷◌, length, Option, Some, None, Ok, Err, refl, sym, ap, subst, ◌∙◌, arith, inl, inr}
-use Rattle.std.specs.Prelude.{◌⊎◌, slice_get, IsSome, Result, IfOk}
+use Rattle.std.specs.Prelude.{◌⊎◌, slice_get, Result, IfOk}
+use Rattle.gp_memory.proofs.Basics.{neither, not_there as nothing, some_is}
 use Rattle.gp_tokens.specs.declared.token.Token.{Token}
 use Rattle.gp_tokens.specs.declared.fault.LexFault.{LexFault}
 use Rattle.gp_tokens.specs.declared.fault.LexFault.TheVariants as lex_faults
 use Rattle.gp_tokens.specs.Lexed.{tokens_of, Fails as LexFails}
 use Rattle.gp_tokens.specs.Ahead.{◌>>=◌}
 use Rattle.gp_tokens.specs.Reading.{reader_of}
-use Rattle.gp_tokens.proofs.Shapes.{bind_some, some_is}
+use Rattle.gp_tokens.proofs.Shapes.{bind_some}
 use Rattle.gp_values.specs.Names.{Name}
 use Rattle.gp_values.specs.Graph.{Node, Edge, Graph, IsGraph, node_at, edge_at, empty_graph}
 use Rattle.gp_values.proofs.Graphs.{same_graph}
@@ -23,7 +24,7 @@ use Rattle.gp_hostfile.specs.Host as spec
 use Rattle.gp_hostfile.specs.Laws.{AreSyntax}
 use Rattle.gp_hostfile.specs.inside.Stages.{Refuses, Fails, Makes, ReadsTree, ReadsText, HasTree, all_read, lex_fault, nodes_made, edges_made, graph_made, label_fault, node_mark_fault, edge_mark_fault}
 use Rattle.gp_hostfile.proofs.Grammars.{host_sound, host_again}
-use Rattle.gp_hostfile.proofs.Faults.{neither, clear}
+use Rattle.gp_hostfile.proofs.Faults.{clear}
 use Rattle.gp_hostfile.proofs.Making.{failed}
 use Rattle.gp_hostfile.proofs.Built.{AreBuiltNodes, AreBuiltEdges, nodes_sound, edges_sound, nodes_complete, edges_complete}
 
@@ -168,10 +169,6 @@ edge_alike names n a b p q =
     let s : p.source ≡ q.source = some_is _ _ (sym p.begins ∙ q.begins) in
     let t : p.target ≡ q.target = some_is _ _ (sym p.ends ∙ q.ends) in
     p.is ∙ (λ i. Some (record { source = s i; target = t i; label = v i; mark = m i })) ∙ sym q.is
-
-nothing : {A : Type 0} (o : Option A) → (IsSome o → ⊥) → o ≡ None
-nothing None h = refl
-nothing (Some x) h = absurd (h refl)
 
 one_graph : (d : HostTree) (g h : Graph) → IsBuilt d g → IsGraph g → IsBuilt d h → IsGraph h → g ≡ h
 one_graph d g h p v q w = same_graph g h nodes edges (p.next_node ∙ sym q.next_node) (p.next_edge ∙ sym q.next_edge)

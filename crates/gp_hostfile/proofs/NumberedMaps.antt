@@ -1,6 +1,6 @@
 -- Maps from numbers by their entries in order.
 use Rattle.std.proofs.Common.{◌≡◌, ℕ, zero, suc, ◌+◌, ◌^◌, ◌<◌, ◌≤◌, Bool, true, false, cond, List, [], ◌∷◌, ◌++◌, map, Option, Some, None, refl, sym, ap, subst, ◌∙◌, arith}
-use Rattle.std.specs.Prelude.{slice_get, option_map, ◌==◌, ◌&&◌}
+use Rattle.std.specs.Prelude.{slice_get, option_map, ◌==◌}
 use Rattle.std.specs.Ordering.{nat_cmp, is_lt}
 use Rattle.std.specs.Cmp.{unsigned_tied}
 use Rattle.std.specs.FinMap.Entries.{below_all, find, is_sorted}
@@ -9,6 +9,7 @@ use Rattle.std.proofs.Math.Dec.{T}
 use Rattle.std.proofs.lemmas.Bool.{eq-eqb, ne_eqb}
 use Rattle.std.proofs.lemmas.Bool.Decides.{Decides-eqb}
 use Rattle.std.proofs.lemmas.Grind.{common_steps}
+use Rattle.gp_memory.proofs.Basics.{both_true}
 use Rattle.gp_values.specs.Order.{numbered, entries_from}
 use Rattle.gp_hostfile.proofs.NumberNames.{RisesFrom}
 
@@ -52,10 +53,6 @@ number_there ((k, y) ∷ es) (suc i) q x h = number_there es i q x h
 abbrev pub numbered_on : {X : Type 0} → ℕ → List X → List (ℕ × X)
 numbered_on n [] = []
 numbered_on n (x ∷ xs) = (n, x) ∷ numbered_on (n + 1) xs
-
-both_true : (a b : Bool) → T a → T b → T (a && b)
-both_true true b h k = k
-both_true false b h k = absurd h
 
 above : {X : Type 0} (q n : ℕ) (xs : List X) → q < n → T (below_all nat_cmp q (numbered_on n xs))
 above q n [] lt = tt

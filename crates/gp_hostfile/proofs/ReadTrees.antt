@@ -2,8 +2,8 @@
 use Rattle.std.proofs.Common.{◌≡◌, ℕ, zero, suc, ◌+◌, ◌^◌, ◌≤◌, true, List, [], ◌∷◌, ◌++◌, length, map, Option, Some, None, ℤ, decimal, refl, ap, subst, ◌∙◌, arith}
 use Rattle.std.specs.Prelude.{slice_get, option_map, flat_map}
 use Rattle.std.specs.Option.{option_or}
+use Rattle.gp_memory.proofs.Basics.{some_is}
 use Rattle.gp_tokens.specs.Numerals.{signed}
-use Rattle.gp_tokens.proofs.Shapes.{some_is}
 use Rattle.gp_values.specs.declared.atom.Atom.{Atom}
 use Rattle.gp_values.specs.declared.atom.Atom.TheVariants.{Int}
 use Rattle.gp_values.specs.Names.{Name, has_name, first_doubled, first_unknown}

@@ -5,7 +5,7 @@ use Rattle.std.specs.FinMap.{entries}
 use Rattle.std.proofs.lemmas.Bool.{eq-eqb, ne_eqb}
 use Rattle.std.proofs.lemmas.Option.{slice_get-map, slice_get_within}
 use Rattle.std.proofs.lemmas.List.{length-map}
-use Rattle.gp_tokens.proofs.Shapes.{some_is}
+use Rattle.gp_memory.proofs.Basics.{some_is}
 use Rattle.gp_values.specs.Graph.{Node, Edge, Graph, IsGraph, node_at, edge_at}
 use Rattle.gp_values.specs.Atoms.{AreAtoms}
 use Rattle.gp_hostfile.specs.Renumbered.{IsPlace, IsMoved, IsRenumbered}

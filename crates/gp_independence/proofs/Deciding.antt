@@ -7,6 +7,7 @@ use Rattle.std.proofs.lemmas.Bool.{or_from}
 use Rattle.std.proofs.lemmas.Bool.Decides.{not_from_Decides, Decides-like, Decides-and, Decides-by_or}
 use Rattle.std.proofs.lemmas.List.{get_or_default}
 use Rattle.std.proofs.lemmas.Option.{none-some, slice_get-map, slice_get_within, get_or_from_slice_get}
+use Rattle.gp_memory.proofs.Basics.{from_map, some_at as element, some_same, standing, stands_in}
 use Rattle.gp_values.specs.declared.atom.Atom.{Atom}
 use Rattle.gp_values.specs.Atoms.{same_list}
 use Rattle.gp_values.specs.EqualityLaws.{same_list-Decides}
@@ -20,15 +21,12 @@ use Rattle.gp_syntax.specs.Match.{Agrees, FitsNode, setting_of}
 use Rattle.gp_syntax.specs.Step.{Applies}
 use Rattle.gp_syntax.specs.Tree.{rule_of_tree, right_node_of, expression_of, pattern_of}
 use Rattle.gp_syntax.specs.WellFormed.{IsWithin, IsWellFormed}
-use Rattle.gp_syntax.proofs.Declarations.{from_map}
 use Rattle.gp_syntax.proofs.Kept.{Decides-origin}
-use Rattle.gp_syntax.proofs.Unique.{element}
 use Rattle.gp_unify.specs.Matched.{IsAssignment}
 use Rattle.gp_eval.specs.Answer.{setting}
 use Rattle.gp_match.specs.Tests.{some_and, has_number, is_value, node_mark_rank, agrees, implies, alike, fits_node}
 use Rattle.gp_match.proofs.Judges.{Decides-below, Decides-has, same_node_mark, Decides-agrees, Decides-implies, Decides-alike}
 use Rattle.gp_step.specs.Laws.{IsNumbered}
-use Rattle.gp_step.proofs.Halves.{some_same, standing, stands_in}
 use Rattle.gp_step.proofs.Labels.{same_element, node_label, node_count}
 use Rattle.gp_step.proofs.Makes.{is_ready}
 use Rattle.gp_independence.specs.Independent.{looks_around, Preserves, Independent}

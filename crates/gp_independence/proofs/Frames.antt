@@ -5,6 +5,7 @@ use Rattle.std.specs.List.{list_any}
 use Rattle.std.specs.FinMap.{entries}
 use Rattle.std.proofs.lemmas.Bool.Decides.{Decides-eqb, same_from_decides}
 use Rattle.std.proofs.lemmas.List.{length-map}
+use Rattle.gp_memory.proofs.Basics.{is_some_of as is_some, some_at as element, some_same, standing, stands_in}
 use Rattle.gp_values.specs.Graph.{Graph, Edge, node_at, edge_at, in_degree, out_degree}
 use Rattle.gp_graph.specs.Walks.{Walks, BeginsAt, EndsAt}
 use Rattle.gp_graph.proofs.Numbers.{Walks-same}
@@ -14,12 +15,11 @@ use Rattle.gp_syntax.specs.Rule.{Rule, Found, kept_edge, kept_nodes, kept_edges}
 use Rattle.gp_syntax.specs.Match.{MatchBy, FitsEdge, setting_of}
 use Rattle.gp_syntax.specs.Step.{Places, MakesEdge, is_exchanged, StepBy}
 use Rattle.gp_syntax.specs.WellFormed.{IsWellFormed}
-use Rattle.gp_syntax.proofs.Unique.{element}
 use Rattle.gp_eval.proofs.Between.{at_any, any_at}
 use Rattle.gp_step.specs.Edits.{origin_of}
 use Rattle.gp_step.specs.Laws.{IsNumbered}
-use Rattle.gp_step.proofs.Halves.{Keeps, some_same, standing, stands_in, stood}
-use Rattle.gp_step.proofs.Afters.{is_some, keeps_nodes, keeps_edges}
+use Rattle.gp_step.proofs.Halves.{Keeps, stood}
+use Rattle.gp_step.proofs.Afters.{keeps_nodes, keeps_edges}
 
 pub some_at : {X : Type 0} (P : X → Type 0) (o : Option X) → IsSomeAnd o P → (x : X) × (o ≡ Some x) × P x
 some_at P None h = absurd h

@@ -3,14 +3,15 @@ use Rattle.std.proofs.Common.{◌≡◌, inl, inr, ℕ, zero, suc, ◌+◌, ◌<
 use Rattle.std.specs.Option.{option_map}
 use Rattle.std.proofs.lemmas.List.{length-map}
 use Rattle.std.proofs.lemmas.Option.{slice_get_within}
+use Rattle.gp_memory.proofs.Basics.{some_at as element, standing, stands_in}
 use Rattle.gp_values.specs.Graph.{Graph, node_at, edge_at}
 use Rattle.gp_syntax.specs.Rule.{Rule, RightEdge, Found, kept_edge, kept_nodes, kept_edges}
 use Rattle.gp_syntax.specs.Step.{Places, MakesEdge, is_exchanged, Step}
 use Rattle.gp_syntax.specs.WellFormed.{IsWellFormed}
-use Rattle.gp_syntax.proofs.Unique.{element, contained}
+use Rattle.gp_syntax.proofs.Unique.{contained}
 use Rattle.gp_step.specs.Edits.{origin_of}
 use Rattle.gp_step.specs.Laws.{IsNumbered}
-use Rattle.gp_step.proofs.Halves.{Keeps, standing, stands_in, count-cons, count_below}
+use Rattle.gp_step.proofs.Halves.{Keeps, count-cons, count_below}
 use Rattle.gp_step.proofs.Afters.{keeps_nodes, keeps_edges}
 use Rattle.gp_independence.specs.Independent.{Independent}
 use Rattle.gp_independence.specs.Laws.{moved}

@@ -1,13 +1,13 @@
 -- The two orders of two independent matches lead to one graph, but for the numbers of what is new.
-use Rattle.std.proofs.Common.{◌≡◌, ℕ, ◌+◌, ◌<◌, ◌≤◌, count_by, Option, Some, None, is_none, IsSome, Contains, refl, sym, ap, subst, ◌∙◌, arith}
+use Rattle.std.proofs.Common.{◌≡◌, ℕ, ◌+◌, ◌<◌, ◌≤◌, count_by, Option, Some, None, is_none, Contains, refl, sym, ap, subst, ◌∙◌, arith}
 use Rattle.std.specs.Option.{option_map}
 use Rattle.std.proofs.Math.Bool.{or_comm}
+use Rattle.gp_memory.proofs.Basics.{not_there, standing}
 use Rattle.gp_values.specs.Graph.{Graph, Edge, IsGraph, node_at, edge_at}
 use Rattle.gp_syntax.specs.Rule.{Rule, Found, kept_nodes, kept_edges}
 use Rattle.gp_syntax.specs.Step.{Step}
 use Rattle.gp_syntax.specs.WellFormed.{IsWellFormed}
 use Rattle.gp_step.specs.Laws.{IsNumbered}
-use Rattle.gp_step.proofs.Halves.{standing}
 use Rattle.gp_step.proofs.Afters.{numbered}
 use Rattle.gp_step.proofs.Wholes.{numbered_step}
 use Rattle.gp_independence.specs.Independent.{looks_around, Independent}
@@ -38,10 +38,6 @@ moved_back f b h None = refl
 moved_back f b h (Some d) = λ i. Some (record d { source = h d.source i; target = h d.target i })
 
 -- ---- numbers past the used ones
-
-not_there : {X : Type 0} (o : Option X) → (IsSome o → ⊥) → o ≡ None
-not_there None h = refl
-not_there (Some x) h = absurd (h refl)
 
 node_past : {g : Graph} → IsNumbered g → (n : ℕ) → g.next_node ≤ n → node_at g n ≡ None
 node_past {g = g} w n l = not_there (node_at g n) (λ s. let b = w.nodes_below n s in omega arith)

@@ -1,11 +1,12 @@
 -- Whether a match is beside others.
-use Rattle.std.proofs.Common.{◌≡◌, inl, inr, ℕ, zero, suc, ◌+◌, ◌<◌, ◌≤◌, Bool, true, false, List, [], ◌∷◌, map, length, get_or, Some, slice_get, refl, sym, ap, subst, ◌∙◌, arith}
+use Rattle.std.proofs.Common.{◌≡◌, inl, inr, ℕ, ◌+◌, ◌<◌, ◌≤◌, Bool, true, false, List, [], ◌∷◌, map, length, get_or, Some, slice_get, refl, sym, ap, subst, ◌∙◌, arith}
 use Rattle.std.specs.Bool.{Decides}
 use Rattle.std.proofs.lemmas.Bool.Decides.{not_from_Decides}
 use Rattle.std.proofs.lemmas.Bool.{cases_eq}
 use Rattle.std.proofs.lemmas.List.{length-map}
 use Rattle.std.proofs.lemmas.List.Elements.{Contains-get_or}
 use Rattle.std.proofs.lemmas.Option.{same_Some, slice_get_within}
+use Rattle.gp_memory.proofs.Basics.{get_any as get_or-other}
 use Rattle.gp_values.specs.Graph.{Graph}
 use Rattle.gp_syntax.specs.declared.found.EdgeImage.{EdgeImage}
 use Rattle.gp_syntax.specs.declared.rule.RuleParts.{RuleParts}
@@ -49,11 +50,6 @@ module _ (rules : List Rule) (g : Graph) (h m : Found) (r s : Rule) (first : sli
   beside_by false d = inr (λ i. not_from_Decides false d refl (i r s first second))
 
 -- ---- one after another
-
-get_or-other : {X : Type 0} (xs : List X) (n : ℕ) (d e : X) → n < length xs → get_or xs n d ≡ get_or xs n e
-get_or-other [] n d e l = absurd (omega arith)
-get_or-other (x ∷ xs) zero d e l = refl
-get_or-other (x ∷ xs) (suc n) d e l = get_or-other xs n d e (omega arith)
 
 module _ (rules : List Rule) (g : Graph) (held : List Found) (m : Found) where
   -- beside the first ones

@@ -7,6 +7,7 @@ use Rattle.std.proofs.lemmas.Bool.{or_left, or_right, or_cases, and_parts, eqb-t
 use Rattle.std.proofs.lemmas.List.Folds.{list_any-append}
 use Rattle.std.proofs.lemmas.Map.Keys.{any_passes_from_place}
 use Rattle.std.proofs.lemmas.Option.{slice_get-map, slice_get_within}
+use Rattle.gp_memory.proofs.Basics.{standing, stands_in}
 use Rattle.gp_values.specs.Atoms.{same_list}
 use Rattle.gp_values.specs.declared.marks.NodeMark.TheVariants as node_marks
 use Rattle.gp_values.specs.declared.marks.EdgeMark.TheVariants as edge_marks
@@ -25,7 +26,6 @@ use Rattle.gp_syntax.proofs.Unique.{contained}
 use Rattle.gp_step.specs.Laws.{IsNumbered}
 use Rattle.gp_step.proofs.Wholes.{at_label, all_left, all_right}
 use Rattle.gp_independence.specs.Independent.{has_degree, asks_edges, looks_around, Independent}
-use Rattle.gp_step.proofs.Halves.{standing, stands_in}
 use Rattle.gp_step.proofs.Afters.{keeps_nodes, keeps_edges}
 use Rattle.gp_independence.proofs.Frames.{some_at, at_some, found_below, Frame, frame, was, in_same, out_same, any_same}
 use Rattle.gp_independence.proofs.Values.{AlikeAround, value_same, truth_same, faults_same}

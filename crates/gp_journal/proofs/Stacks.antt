@@ -1,6 +1,7 @@
 -- What items lead to replays.
 use Rattle.std.proofs.Common.{◌≡◌, ℕ, zero, suc, ◌+◌, ◌-◌, ◌≤◌, List, [], ◌∷◌, ◌++◌, map, length, take, drop, reverse, sym, subst, ap, refl, ◌∙◌, arith, length-append, length-drop, add-one}
 use Rattle.std.proofs.lemmas.List.{reverse-append, length-reverse}
+use Rattle.gp_memory.proofs.Basics.{append_again, append_none as no_more_items, less_none, no_more, nothing_more as nothing_added, one_less, one_more as more_steps, take_none, take_short, take_whole as take_all}
 use Rattle.gp_values.specs.Graph.{Graph}
 use Rattle.gp_syntax.specs.Rule.{Rule, Found}
 use Rattle.gp_syntax.specs.Step.{Step}
@@ -30,29 +31,6 @@ steps_to rules [] g [] s = refl
 steps_to rules [] g (b ∷ bs) s = absurd s
 steps_to rules (f ∷ fs) g [] s = absurd s
 steps_to rules (f ∷ fs) g (b ∷ bs) s = rw last_first (steps_more rules (root_from b bs) (reverse fs) b g f (steps_to rules fs b bs s.1) s.0)
-
--- taking the last ones
-take_short : {X : Type 0} (n : ℕ) (xs ys : List X) → n ≤ length xs → take n (xs ++ ys) ≡ take n xs
-take_short zero xs ys h = refl
-take_short (suc n) [] ys h = absurd (omega arith)
-take_short (suc n) (x ∷ xs) ys h = ap (λ l. x ∷ l) (take_short n xs ys (omega arith))
-
-take_all : {X : Type 0} (xs : List X) → take (length xs) xs ≡ xs
-take_all [] = refl
-take_all (x ∷ xs) = ap (λ l. x ∷ l) (take_all xs)
-
-one_less : (n k : ℕ) → (n + 1) - suc k ≡ n - k
-one_less n k = omega arith
-
-take_none : {X : Type 0} (n : ℕ) → take {A = X} n [] ≡ []
-take_none zero = refl
-take_none (suc n) = refl
-
-less_none : (n : ℕ) → n - 0 ≡ n
-less_none n = omega arith
-
-no_more : (n k : ℕ) → n - k ≤ n
-no_more n k = omega arith
 
 less_last : {X : Type 0} (k : ℕ) (xs : List X) → take (length (reverse xs) - k) (reverse xs) ≡ reverse (drop k xs)
 less_last zero xs = rw (less_none (length (reverse xs))) (take_all (reverse xs))
@@ -140,23 +118,9 @@ ended n t u z e = sym e ∙ ap (λ k. back_by k t) z
 
 -- ---- live steps, and then items
 
-append_again : {X : Type 0} (xs ys zs : List X) → (xs ++ ys) ++ zs ≡ xs ++ (ys ++ zs)
-append_again [] ys zs = refl
-append_again (x ∷ xs) ys zs = ap (λ l. x ∷ l) (append_again xs ys zs)
-
-no_more_items : {X : Type 0} (xs : List X) → xs ++ [] ≡ xs
-no_more_items [] = refl
-no_more_items (x ∷ xs) = ap (λ l. x ∷ l) (no_more_items xs)
-
 live_steps : (ms fs : List Found) (is : List Item) → live_from ms (map Stepped fs ++ is) ≡ live_from (ms ++ fs) is
 live_steps ms [] is = ap (λ l. live_from l is) (sym (no_more_items ms))
 live_steps ms (f ∷ fs) is = live_steps (ms ++ f ∷ []) fs is ∙ ap (λ l. live_from l is) (append_again ms (f ∷ []) fs)
-
-more_steps : (n k : ℕ) → (n + 1) + k ≡ n + suc k
-more_steps n k = omega arith
-
-nothing_added : (n : ℕ) → n + 0 ≡ n
-nothing_added n = omega arith
 
 backs_steps : (n : ℕ) (fs : List Found) (is : List Item) → BacksFit (n + length fs) is → BacksFit n (map Stepped fs ++ is)
 backs_steps n [] is b = subst (λ k. BacksFit k is) (nothing_added n) b

@@ -4,6 +4,7 @@ use Rattle.std.specs.Prelude.{Some, None, Option, Result, Ok, Err, OnOk, slice_g
 use Rattle.std.specs.Option.{option_map}
 use Rattle.std.proofs.lemmas.List.{reverse-append}
 use Rattle.std.proofs.lemmas.Option.{none-some, slice_get-map, get_or_from_slice_get}
+use Rattle.gp_memory.proofs.Basics.{some_same}
 use Rattle.gp_values.specs.Graph.{Graph, IsGraph}
 use Rattle.gp_syntax.specs.declared.rule.RuleParts.{RuleParts}
 use Rattle.gp_syntax.specs.Rule.{Rule, Found}
@@ -18,9 +19,6 @@ use Rattle.gp_step.specs.Undo.{undone_by}
 use Rattle.gp_journal.specs.Trail.{Trail, led, led_by, advanced, undone, undone_of, back_by}
 use Rattle.gp_journal.specs.Leads.{AppliesBy, StepsBy, Goes}
 use Rattle.gp_journal.specs.inside.Held.{befores}
-
-some_same : {X : Type 0} {x y : X} → Some x ≡ Some y → x ≡ y
-some_same e = cc
 
 pub one_before : (us : List (List Inverse)) (u : List Inverse) (g h : Graph) → undone_by u h ≡ g → befores (reverse (us ++ u ∷ [])) h ≡ g ∷ befores (reverse us) g
 one_before us u g h back = ap (λ l. befores l h) (reverse-append us (u ∷ [])) ∙ (λ i. back i ∷ befores (reverse us) (back i))

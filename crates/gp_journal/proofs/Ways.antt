@@ -4,6 +4,7 @@ use Rattle.std.proofs.lemmas.Bool.{cases_eq}
 use Rattle.std.proofs.lemmas.Grind.{get_or-set_at}
 use Rattle.std.proofs.lemmas.List.{length-set, get_or-set_other}
 use Rattle.std.proofs.lemmas.Option.{get_or_from_slice_get, slice_get_within}
+use Rattle.gp_memory.proofs.Basics.{some_same as same_some, take_whole}
 use Rattle.gp_values.specs.Graph.{Graph}
 use Rattle.gp_syntax.specs.declared.found.Item.{Item}
 use Rattle.gp_syntax.specs.Rule.{Rule, Found}
@@ -19,9 +20,6 @@ use Rattle.gp_journal.proofs.Replays.{caught_back}
 
 well_formed_at : (rules : List Rule) (i : ℕ) (r : Rule) → All IsWellFormed rules → slice_get rules i ≡ Some r → IsWellFormed r
 well_formed_at rules i r w e = subst IsWellFormed (get_or_from_slice_get rules i r r e) (w i r (slice_get_within rules i r e))
-
-same_some : {X : Type 0} {x y : X} → Some x ≡ Some y → x ≡ y
-same_some e = cc
 
 one_graph : (rules : List Rule) (g : Graph) (m : Found) (h k : Graph) → All IsWellFormed rules → StepsBy rules g m h → StepsBy rules g m k → h ≡ k
 one_graph rules g m h k w a b =
@@ -45,10 +43,6 @@ caught_goes rules (Back k) t u a = ap (λ (x : Trail). x.caught) a.1 ∙ caught_
 pub caught_led : (rules : List Rule) (is : List meant.Item) (t u : Trail) → Leads rules is t u → u.caught ≡ t.caught
 caught_led rules [] t u a = ap (λ (x : Trail). x.caught) a
 caught_led rules (i ∷ is) t u a = caught_led rules is a.0 u a.2 ∙ caught_goes rules i t a.0 a.1
-
-pub take_whole : {X : Type 0} (xs : List X) → take (length xs) xs ≡ xs
-take_whole [] = refl
-take_whole (x ∷ xs) = ap (λ (l : List _). x ∷ l) (take_whole xs)
 
 pub length-items : (is : List Item) → length (items_of is) ≡ length is
 length-items [] = refl

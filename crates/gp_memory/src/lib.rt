@@ -2,7 +2,8 @@
 //!
 //! Every crate stands on this one. A call that can refuse nothing else answers `Result<_, NoMemory>`; a fault type with
 //! causes of its own has a variant `NoMemory`, and its definition gives that variant the row `Free` of `specs/Free`.
-//! The conversions let `?` hand on what the library's allocator answers.
+//! The conversions let `?` hand on what the library's allocator answers. `proofs/Basics` has the lemmas of truth values,
+//! options, lists and numbers that the proofs of several crates need.
 #![tactic(auto)]
 
 mod refusal;

@@ -1,5 +1,6 @@
 -- Programs are read without a doubt, and each has one tree.
-use Rattle.std.proofs.Common.{◌≡◌, ℕ, zero, suc, ◌⊎◌, inl, inr, Bool, true, false, List, [], ◌∷◌, ◌++◌, Some, refl}
+use Rattle.std.proofs.Common.{◌≡◌, ℕ, zero, suc, inl, inr, false, List, [], ◌∷◌, ◌++◌, Some, refl}
+use Rattle.gp_memory.proofs.Basics.{which}
 use Rattle.gp_tokens.specs.declared.token.Token.{Token}
 use Rattle.gp_tokens.specs.Kinds.{same_kind}
 use Rattle.gp_tokens.specs.declared.want.Want.{Want}
@@ -74,10 +75,6 @@ rules_avoid m = go all_enders (rule_avoids m)
     go : (ws : List Want) → AllAvoid ws (rule m) → AllAvoid ws (Repeated wants.RuleName (Made rule_decl (rule m)))
     go [] a = tt
     go (w ∷ ws) a = ((rule_is_full m, a.0), go ws a.1)
-
-which : (b : Bool) → (b ≡ true) ⊎ (b ≡ false)
-which true = inl refl
-which false = inr refl
 
 -- ---- declarations, inside which such declarations may stand
 

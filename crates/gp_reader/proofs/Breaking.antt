@@ -1,9 +1,10 @@
 -- What is found of commands that may break is so, and all of it is found.
-use Rattle.std.proofs.Common.{◌≡◌, ◌⊎◌, inl, inr, ℕ, suc, ◌+◌, ◌<◌, ◌≤◌, Bool, true, false, ◌||◌, List, [], ◌∷◌, ◌++◌, length, get_or, slice_get, Some, refl, sym, ap, ◌∙◌, subst, arith}
+use Rattle.std.proofs.Common.{◌≡◌, ◌⊎◌, inl, inr, ℕ, suc, ◌+◌, ◌<◌, ◌≤◌, Bool, true, ◌||◌, List, [], ◌∷◌, ◌++◌, length, get_or, slice_get, Some, refl, sym, ap, ◌∙◌, subst, arith}
 use Rattle.std.proofs.Math.ListN.{set}
 use Rattle.std.specs.Prelude.{Contains, slice_index_or}
 use Rattle.std.proofs.lemmas.Bool.{cases_eq}
 use Rattle.std.proofs.lemmas.List.Elements.{Contains-append_left, Contains-append_right, Contains-append_cases, Contains-push_cases}
+use Rattle.gp_memory.proofs.Basics.{or_cases, or_left, or_right}
 use Rattle.gp_syntax.specs.Run.{Command, Call, Seq, If, Try, Loop, Or, Skip, Fail, Break, Procedure}
 use Rattle.gp_syntax.specs.Scoped.{MayBreak, conditions_in}
 use Rattle.gp_syntax.specs.Scoped as may
@@ -11,18 +12,6 @@ use Rattle.gp_reader.specs.inside.Procedures.{IsMarked}
 use Rattle.gp_reader.specs.inside.Visits.{unmarked}
 use Rattle.gp_reader.specs.inside.Procedures.{procedures_alone}
 use Rattle.gp_reader.specs.inside.Judged.{is_known, breaks_by, strays_by, AreBreaking, AreAllBreaking}
-
-pub or_cases : (a b : Bool) → (a || b) ≡ true → (a ≡ true) ⊎ (b ≡ true)
-or_cases true b e = inl refl
-or_cases false b e = inr e
-
-pub or_left : (a b : Bool) → a ≡ true → (a || b) ≡ true
-or_left true b e = refl
-or_left false b e = cc
-
-pub or_right : (a b : Bool) → b ≡ true → (a || b) ≡ true
-or_right true b e = refl
-or_right false b e = e
 
 behind : (c k p q : Command) (x : Command) → Contains (conditions_in k ++ conditions_in p ++ conditions_in q) x → Contains (c ∷ (conditions_in k ++ conditions_in p ++ conditions_in q)) x
 behind c k p q x h = Contains-append_right (c ∷ []) (conditions_in k ++ conditions_in p ++ conditions_in q) x h

@@ -3,10 +3,10 @@ use Rattle.std.proofs.Common.{◌≡◌, ◌⊎◌, inl, inr, ℕ, zero, suc, �
 use Rattle.std.specs.Prelude.{Contains}
 use Rattle.std.proofs.lemmas.List.{length-map}
 use Rattle.std.proofs.lemmas.Option.{slice_get-map, get_or_from_slice_get}
+use Rattle.gp_memory.proofs.Basics.{some_at as element}
 use Rattle.gp_syntax.specs.Run.{Command, Program}
 use Rattle.gp_syntax.specs.Scoped.{procedures_in, CallsProcedure, IsChain, ReachesProcedure}
 use Rattle.gp_syntax.specs.Scoped as there
-use Rattle.gp_syntax.proofs.Unique.{element}
 use Rattle.gp_reader.specs.inside.Procedures.{Called, ReachesIn, directly, further, HasChain}
 use Rattle.gp_scope.specs.Fault.{IsDeep}
 

@@ -1,13 +1,13 @@
 -- Faults of names and calls: there is one at most, and where there is none, the text stands for a program.
 use Rattle.std.proofs.Common.{◌≡◌, ◌⊎◌, inl, inr, ℕ, zero, suc, ◌+◌, ◌<◌, ◌≤◌, Bool, List, [], ◌∷◌, map, flat_map, length, slice_get, Option, Some, None, refl, sym, ap, ◌∙◌, subst, arith}
 use Rattle.std.proofs.lemmas.List.{length-map}
+use Rattle.gp_memory.proofs.Basics.{some_at as element}
 use Rattle.gp_values.specs.Names.{Name}
 use Rattle.gp_syntax.specs.Rule as meant_rule
 use Rattle.gp_syntax.specs.Run as meant
 use Rattle.gp_syntax.specs.Tree.{command_of}
 use Rattle.gp_syntax.specs.Scoped.{IsScoped, IsChain, MayBreak, ReachesProcedure, bodies, conditions_in}
 use Rattle.gp_syntax.specs.Scoped as there
-use Rattle.gp_syntax.proofs.Unique.{element}
 use Rattle.gp_reader.specs.inside.Procedures.{ReachesIn, IsFirstIn, IsMarked, HasChain, MarksChains, Strays}
 use Rattle.gp_reader.proofs.Visits.{marked_within}
 use Rattle.gp_scope.specs.Outline.{Outline, rules_in}

@@ -1,5 +1,5 @@
 -- Elements of lists by their places.
-use Rattle.std.proofs.Common.{◌≡◌, ◌⊎◌, ℕ, ◌+◌, ◌<◌, Bool, true, false, not, List, [], ◌∷◌, ◌++◌, map, length, get_or, take, inl, inr, refl, sym, ap, ◌∙◌, arith}
+use Rattle.std.proofs.Common.{◌≡◌, ◌⊎◌, ℕ, ◌+◌, ◌<◌, Bool, false, List, [], ◌∷◌, ◌++◌, map, length, get_or, take, inl, inr, sym, ap, ◌∙◌, arith}
 use Rattle.std.specs.Prelude.{flat_map, Contains}
 use Rattle.std.proofs.lemmas.List.Elements.{at_from_Contains, Contains-from_at, Contains-append_left, Contains-append_right, Contains-append_cases}
 use Rattle.gp_reader.specs.inside.Procedures.{IsMarked}
@@ -14,10 +14,3 @@ none_marked called marks n e none h =
     let at = place_of_element called h.0 h.1.0 in
     let lt : at.0 < n = omega (arith, at.1) in
     none at.0 lt (ap (λ j. get_or marks j false) at.2 ∙ h.1.1)
-
-pub clash : (b : Bool) → b ≡ false → b ≡ true → ⊥
-clash b e f = cc
-
-pub from_not : (b : Bool) → not b ≡ false → b ≡ true
-from_not true e = refl
-from_not false e = cc

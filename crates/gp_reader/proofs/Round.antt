@@ -9,7 +9,6 @@ use Rattle.gp_syntax.specs.Run.{Command}
 use Rattle.gp_reader.specs.inside.Procedures.{IsMarked}
 use Rattle.gp_reader.specs.inside.Visits.{unmarked}
 use Rattle.gp_reader.specs.inside.Judged.{breaks_by, AreBreaking, AreAllBreaking, FindsMore}
-use Rattle.gp_reader.proofs.Lists.{clash}
 use Rattle.gp_reader.proofs.Visits.{marked_still, marked_before, marked_here, one_less}
 use Rattle.gp_reader.proofs.Breaking.{breaks_so}
 

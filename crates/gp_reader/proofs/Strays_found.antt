@@ -6,15 +6,14 @@ use Rattle.std.proofs.lemmas.List.{length-map}
 use Rattle.std.proofs.lemmas.Option.{slice_get-map, slice_get_read, get_or_from_slice_get}
 use Rattle.std.proofs.lemmas.List.Folds.{Any-from_list_any, list_any_at}
 use Rattle.std.proofs.lemmas.List.Elements.{Contains-append_right}
+use Rattle.gp_memory.proofs.Basics.{no_both as clash, or_cases, or_left, or_right, some_at as element}
 use Rattle.gp_syntax.specs.declared.command.Command.{Command as Tree}
 use Rattle.gp_syntax.specs.Tree.{command_of}
 use Rattle.gp_syntax.specs.Run.{Command}
 use Rattle.gp_syntax.specs.Scoped.{MayBreak, conditions_in}
-use Rattle.gp_syntax.proofs.Unique.{element}
 use Rattle.gp_reader.specs.inside.Procedures.{procedures_alone, Strays}
 use Rattle.gp_reader.specs.inside.Judged.{breaks_by, strays_by, MarksBreaking}
-use Rattle.gp_reader.proofs.Lists.{clash}
-use Rattle.gp_reader.proofs.Breaking.{or_cases, or_left, or_right, first_or, breaks_so, strays_so, breaks_all, strays_all}
+use Rattle.gp_reader.proofs.Breaking.{first_or, breaks_so, strays_so, breaks_all, strays_all}
 
 -- the body of a procedure, by its tree
 pub body_at : (ps : List Tree) (k : ℕ) (p : Tree) → k < length ps → p ≡ get_or ps k p → slice_get (map command_of ps) k ≡ Some (command_of p)

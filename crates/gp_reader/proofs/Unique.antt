@@ -1,5 +1,6 @@
 -- A text has one program or one fault.
 use Rattle.std.proofs.Common.{◌≡◌, ◌≢◌, ◌⊎◌, ℕ, ◌<◌, List, map, Some, None, Ok, Err, refl, sym, ap, ◌∙◌, subst, inl, inr, arith}
+use Rattle.gp_memory.proofs.Basics.{some_is}
 use Rattle.gp_values.specs.Names.{Name}
 use Rattle.gp_tokens.specs.declared.fault.LexFault.{LexFault}
 use Rattle.gp_tokens.specs.declared.token.Token.{Token}
@@ -48,9 +49,6 @@ is_told (scoping.Unknown n) = refl
 is_told (scoping.Recursive n) = refl
 is_told (scoping.DeepCalls n) = refl
 is_told scoping.StrayBreak = refl
-
-some_is : {A : Type 0} (x y : A) → Some x ≡ Some y → x ≡ y
-some_is x y h = cc
 
 told_by : (e : ScopeFault) (f : scoping.Fault) → told e ≡ Some f → e ≡ scope_answer f
 told_by scope_faults.NoMain f h = ap scope_answer (some_is scoping.NoMain f h)

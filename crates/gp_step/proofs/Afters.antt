@@ -1,7 +1,8 @@
 -- The edits of a step lead to the graph that the relation asks.
-use Rattle.std.proofs.Common.{◌≡◌, ℕ, zero, suc, ◌<◌, List, [], ◌∷◌, ◌++◌, map, length, Option, Some, None, IsSome, IsSomeAnd, slice_get, slice_index, refl, sym, ap, subst, ◌∙◌, arith}
+use Rattle.std.proofs.Common.{◌≡◌, ℕ, zero, suc, ◌<◌, List, [], ◌∷◌, ◌++◌, map, length, Option, Some, None, IsSome, slice_get, slice_index, refl, sym, ap, subst, ◌∙◌, arith}
 use Rattle.std.specs.Option.{option_map}
 use Rattle.std.proofs.lemmas.Option.{none-some, slice_get-map}
+use Rattle.gp_memory.proofs.Basics.{and_is_some as there, from_map, some_at as element, some_same}
 use Rattle.gp_values.specs.declared.atom.Atom.{Atom}
 use Rattle.gp_values.specs.Graph.{Graph, IsGraph, node_at, edge_at}
 use Rattle.gp_syntax.specs.declared.kinds.NumberKind.{NumberKind}
@@ -15,11 +16,9 @@ use Rattle.gp_step.specs.Halves.{images_from}
 use Rattle.gp_step.specs.Edits.{value_or_empty, made_node, made_edge, images_of, origin_of, stepped}
 use Rattle.gp_step.specs.After.{after_at, after}
 use Rattle.gp_step.specs.Laws.{IsNumbered}
-use Rattle.gp_syntax.proofs.Unique.{element}
-use Rattle.gp_syntax.proofs.Declarations.{from_map}
 use Rattle.gp_syntax.proofs.KeptEdges.{kept_edge_at}
 use Rattle.gp_unify.proofs.Candidates.{is_candidate, one_step}
-use Rattle.gp_step.proofs.Halves.{Keeps, places, stands, deleted, untouched, some_same}
+use Rattle.gp_step.proofs.Halves.{Keeps, places, stands, deleted, untouched}
 
 -- ---- values of right labels
 
@@ -40,17 +39,6 @@ both_values (e ∷ es) fs s h =
     (rw v.0 r.0, r.1)
 
 -- ---- the step
-
-pub some_is : {X : Type 0} (o : Option X) → IsSome o → (x : X) × (o ≡ Some x)
-some_is None s = absurd cc
-some_is (Some x) s = (x, refl)
-
-pub is_some : {X : Type 0} (o : Option X) (x : X) → o ≡ Some x → IsSome o
-is_some o x e = rw e refl
-
-pub there : {X : Type 0} (o : Option X) (P : X → Type 0) → IsSomeAnd o P → IsSome o
-there None P h = absurd h
-there (Some x) P h = refl
 
 module _ (r : Rule) (g : Graph) (m : Found) (a : Assignment) (whole : IsNumbered g) (w : MatchBy r g m a) (o : IsWellFormed r) where
   -- images of left nodes and edges are there

@@ -1,6 +1,7 @@
 -- What is collected of the right side, item by item.
 use Rattle.std.proofs.Common.{◌≡◌, ℕ, suc, ◌+◌, ◌<◌, ◌≤◌, Bool, true, false, if◌then◌else◌, List, [], ◌∷◌, ◌++◌, length, get_or, drop, drop-cons, append_assoc, add-one, Option, Some, None, slice_get, slice_index, refl, sym, ap, subst, ◌∙◌, arith}
 use Rattle.std.proofs.lemmas.List.{append-nil, at_drop_more, at_drop_all}
+use Rattle.gp_memory.proofs.Basics.{nothing_more}
 use Rattle.gp_step.specs.Halves.{gone}
 use Rattle.gp_step.specs.inside.Changes.{kept_first, new_first}
 use Rattle.gp_step.proofs.Labels.{same_element}
@@ -16,9 +17,6 @@ gone_same p q (n ∷ ns) h = let e = gone_same (λ i. p (suc i)) (λ i. q (suc i
 
 swapped : (n i : ℕ) → n + suc i ≡ (n + 1) + i
 swapped n i = omega arith
-
-nothing_more : (n : ℕ) → n + 0 ≡ n
-nothing_more n = omega arith
 
 -- of items whose numbers are viewed so
 pub gone_next : {X : Type 0} (number : X → ℕ) (view : List X → List ℕ) → ((x : X) (xs : List X) → view (x ∷ xs) ≡ number x ∷ view xs) → (kept : ℕ → Bool) (xs : List X) (n : ℕ) (d : X) (so end : List ℕ) → n < length xs

@@ -1,5 +1,5 @@
 -- One half of a graph after a step: what stands at each number.
-use Rattle.std.proofs.Common.{◌≡◌, ◌⊎◌, inl, inr, ℕ, zero, suc, ◌+◌, ◌<◌, ◌==◌, ◌||◌, Bool, true, false, cond, if◌then◌else◌, List, [], ◌∷◌, map, take, length, count_by, Option, Some, None, is_none, slice_get, slice_index, get_or, Contains, refl, sym, ap, subst, ◌∙◌, arith, true≢false}
+use Rattle.std.proofs.Common.{◌≡◌, ◌⊎◌, inl, inr, ℕ, zero, suc, ◌+◌, ◌<◌, ◌==◌, ◌||◌, Bool, true, false, cond, if◌then◌else◌, List, [], ◌∷◌, map, take, length, count_by, Option, Some, None, is_none, slice_get, slice_index, Contains, refl, sym, ap, subst, ◌∙◌, arith, true≢false}
 use Rattle.std.specs.Ordering.{nat_cmp}
 use Rattle.std.specs.FinMap.{FinMap, get, insert, remove}
 use Rattle.std.proofs.lemmas.Bool.{cases_eq, cases_lt}
@@ -7,33 +7,15 @@ use Rattle.std.proofs.lemmas.Bool.Decides.{Decides-eqb}
 use Rattle.std.proofs.lemmas.List.Sums.{sum_by-cons}
 use Rattle.std.proofs.lemmas.List.{get_or_default}
 use Rattle.std.proofs.lemmas.Option.{none-some, slice_get_within}
+use Rattle.gp_memory.proofs.Basics.{first_or_later as split_head, here as at_head, later as behind, none_in, some_at as element, some_same, standing, stands_in, take_whole}
 use Rattle.gp_values.specs.Apart.{AreApart}
 use Rattle.gp_values.proofs.Graphs.{get-insert_here, get-insert_apart, get-remove_here, get-remove_apart}
 use Rattle.gp_syntax.specs.Rule.{is_origin}
-use Rattle.gp_syntax.proofs.Unique.{element, contained}
+use Rattle.gp_syntax.proofs.Unique.{contained}
 use Rattle.gp_syntax.specs.Step.{Places}
 use Rattle.gp_step.specs.Halves.{image_of, next_of, images_from, stays, gone, cut, put_all, half_after}
 
-pub some_same : {X : Type 0} {x y : X} → Some x ≡ Some y → x ≡ y
-some_same e = cc
-
 -- ---- lists of numbers
-
-pub behind : (t : ℕ) (ts : List ℕ) (n : ℕ) → Contains ts n → Contains (t ∷ ts) n
-behind t ts n c = let l : c.0 < length ts = c.1 in (suc c.0, omega arith, c.2)
-
-pub at_head : (t : ℕ) (ts : List ℕ) (n : ℕ) → t ≡ n → Contains (t ∷ ts) n
-at_head t ts n e = (0, omega arith, e)
-
-pub split_head : (t : ℕ) (ts : List ℕ) (n : ℕ) → Contains (t ∷ ts) n → (t ≡ n) ⊎ Contains ts n
-split_head t ts n c = by c.0 c.1 c.2
-  where
-    by : (k : ℕ) → k < length (t ∷ ts) → get_or (t ∷ ts) k n ≡ n → (t ≡ n) ⊎ Contains ts n
-    by zero l e = inl e
-    by (suc k) l e = inr (k, omega arith, e)
-
-pub none_in : (n : ℕ) → Contains [] n → ⊥
-none_in n c = let l : c.0 < 0 = c.1 in omega arith
 
 pub apart_rest : (t : ℕ) (ts : List ℕ) → AreApart (t ∷ ts) → AreApart ts
 apart_rest t ts h i j l k e = h (suc i) (suc j) (omega arith) (omega arith) e
@@ -42,13 +24,6 @@ pub apart_head : (t : ℕ) (ts : List ℕ) → AreApart (t ∷ ts) → Contains 
 apart_head t ts h c =
     let l : c.0 < length ts = c.1 in
     h 0 (suc c.0) (omega arith) (omega arith) (sym (get_or_default ts c.0 0 t c.1 ∙ c.2))
-
--- the place at which a number stands, and the number at a place
-pub standing : (ns : List ℕ) (n : ℕ) (c : Contains ns n) → slice_index ns c.0 ≡ n
-standing ns n c = get_or_default ns c.0 0 n c.1 ∙ c.2
-
-pub stands_in : (ns : List ℕ) (i n : ℕ) → i < length ns → slice_index ns i ≡ n → Contains ns n
-stands_in ns i n l e = (i, l, sym (get_or_default ns i 0 n l) ∙ e)
 
 pub same_place : (ns : List ℕ) → AreApart ns → (i j : ℕ) → i < length ns → j < length ns → slice_index ns i ≡ slice_index ns j → i ≡ j
 same_place ns a i j k l e =
@@ -172,10 +147,6 @@ count_rises (o ∷ os) (suc i) (suc j) l h =
     let d = count-cons o (take i os) in
     let r = count_rises os i j (omega arith) h in
     omega arith
-
-take_whole : {X : Type 0} (xs : List X) → take (length xs) xs ≡ xs
-take_whole [] = refl
-take_whole (x ∷ xs) = ap (λ ys. x ∷ ys) (take_whole xs)
 
 pub count_below : (kept : List (Option ℕ)) (j : ℕ) → slice_get kept j ≡ Some None → count_by is_none (take j kept) < count_by is_none kept
 count_below kept j h = subst (λ os. count_by is_none (take j kept) < count_by is_none os) (take_whole kept) (count_rises kept j (length kept) (slice_get_within kept j None h) h)

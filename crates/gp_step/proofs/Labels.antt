@@ -1,8 +1,9 @@
 -- What a checked rule's right side asks for is there, where a match applies.
-use Rattle.std.proofs.Common.{◌≡◌, ℕ, ◌<◌, List, map, length, get_or, Option, Some, None, IsSome, IfSome, IsSomeAnd, slice_get, slice_index, slice_index_or, false, refl, sym, ap, subst, ◌∙◌, arith}
+use Rattle.std.proofs.Common.{◌≡◌, ℕ, ◌<◌, List, map, length, get_or, Option, Some, None, IsSome, IfSome, slice_get, slice_index, slice_index_or, false, refl, sym, ap, subst, ◌∙◌, arith}
 use Rattle.std.specs.Option.{option_map}
 use Rattle.std.proofs.lemmas.List.{get_or_default, length-map}
 use Rattle.std.proofs.lemmas.Option.{slice_get-map, get_or_from_slice_get}
+use Rattle.gp_memory.proofs.Basics.{and_is_some as there, some_and, some_at as element}
 use Rattle.gp_values.specs.declared.marks.EdgeMark.TheVariants as edge_marks
 use Rattle.gp_values.specs.Graph.{Graph, Edge, node_at, edge_at}
 use Rattle.gp_syntax.specs.declared.rule.RuleParts.{RuleParts}
@@ -18,14 +19,13 @@ use Rattle.gp_syntax.specs.Step.{made_mark, found_edge}
 use Rattle.gp_syntax.specs.Tree.{rule_of_tree, left_edge_of, right_node_of, right_edge_of, expression_of, pattern_of}
 use Rattle.gp_syntax.specs.WellFormed.{IsWithin}
 use Rattle.gp_eval.specs.Answer.{AreNodes}
-use Rattle.gp_syntax.proofs.Unique.{element}
 use Rattle.gp_syntax.proofs.KeptEdges.{kept_edge_at}
 use Rattle.gp_step.specs.Edits.{value_or_empty, made_edge}
 use Rattle.gp_step.specs.inside.Changes.{carried_by}
 use Rattle.gp_step.specs.inside.Made.{carried_at}
 use Rattle.gp_step.specs.inside.Scene.{SceneView, IsReady, IsRightLabel}
 use Rattle.gp_step.specs.inside.Same.{SaysSame, IsUnchanged}
-use Rattle.gp_step.proofs.Afters.{both_values, has_values, there}
+use Rattle.gp_step.proofs.Afters.{both_values, has_values}
 use Rattle.gp_step.proofs.Wholes.{all_left, at_label, all_right}
 
 pub images_are_nodes : (r : meant.Rule) (g : Graph) (m : meant.Found) (a : Assignment) → MatchBy r g m a → AreNodes g m.nodes
@@ -38,10 +38,6 @@ images_are_nodes r g m a w k d l =
 
 pub same_element : {X : Type 0} (xs : List X) (k : ℕ) (d : X) → k < length xs → slice_get xs k ≡ Some (get_or xs k d)
 same_element xs k d l = let e = element xs k l in e.1 ∙ ap (λ x. Some x) (sym (get_or_from_slice_get xs k e.0 d e.1))
-
-some_and : {X : Type 0} (o : Option X) (P : X → Type 0) → IsSomeAnd o P → (x : X) × (o ≡ Some x) × P x
-some_and None P h = absurd h
-some_and (Some x) P h = (x, refl, h)
 
 -- a pattern that a mark agrees with keeps it
 agreed_mark : {M : Type 0} (pattern : MarkPattern M) (found none : M) → Agrees pattern found → made_mark pattern (Some found) none ≡ found

@@ -4,6 +4,7 @@ use Rattle.std.specs.Option.{option_map}
 use Rattle.std.specs.FinMap.{get}
 use Rattle.std.proofs.lemmas.List.{length-map}
 use Rattle.std.proofs.lemmas.Option.{none-some, slice_get-map, slice_get_within}
+use Rattle.gp_memory.proofs.Basics.{from_map, some_at as element, some_there as some_is, standing, stands_in}
 use Rattle.gp_values.specs.Apart.{AreApart}
 use Rattle.gp_values.specs.Graph.{Graph, Node, Edge, HasNoEdges, node_at, edge_at}
 use Rattle.gp_syntax.specs.declared.rule.RuleParts.{RuleParts}
@@ -18,8 +19,6 @@ use Rattle.gp_unify.specs.Matched.{IsThatOfMatch, IsAssignment}
 use Rattle.gp_unify.proofs.Candidates.{is_candidate}
 use Rattle.gp_step.specs.After.{after_at, after}
 use Rattle.gp_step.specs.Laws.{IsNumbered}
-use Rattle.gp_syntax.proofs.Unique.{element}
-use Rattle.gp_syntax.proofs.Declarations.{from_map}
 use Rattle.gp_syntax.proofs.KeptEdges.{kept_ends}
 use Rattle.gp_step.specs.Halves.{images_from, stays, gone, cut}
 use Rattle.gp_step.specs.Edits.{made_node, made_edge, images_of, origin_of, stepped}
@@ -27,10 +26,10 @@ use Rattle.gp_step.specs.declared.made.KeptEdge.{KeptEdge}
 use Rattle.gp_step.specs.inside.Made.{KeepsAs, kept_edge_pairs}
 use Rattle.gp_step.specs.inside.Scene.{IsReady, scene}
 use Rattle.gp_step.specs.inside.Changes.{StepChanges, MayMake, made_by, changes_of, kept_of, carried_by, drop_edges, relabel_edges, drop_nodes, relabel_nodes, with_nodes}
-use Rattle.gp_step.proofs.Halves.{standing, stands_in, dropped, left, kept_or_gone, gone_place, gone_apart_images, places, stands, length-images}
+use Rattle.gp_step.proofs.Halves.{dropped, left, kept_or_gone, gone_place, gone_apart_images, places, stands, length-images}
 use Rattle.gp_step.proofs.Turns.{HasEnds, MayAs, write, add_all, placed, length-new, from_new, drop_edges_half, drop_nodes_half, relabel_nodes_half, with_nodes_half, with_edges_half, kept_relabeled, ends_stay, edges_may, nodes_may, kept_may, ends_may, gone_apart}
 use Rattle.gp_step.proofs.Staying.{numbers, kept_place, kept_apart, AreAsIn, stays_as}
-use Rattle.gp_step.proofs.Afters.{some_is, node_there, edge_there, keeps_nodes, keeps_edges, node_places}
+use Rattle.gp_step.proofs.Afters.{node_there, edge_there, keeps_nodes, keeps_edges, node_places}
 
 pub record MakesStep (r : Rule) (g : Graph) (m : Found) (a : Assignment) (p : StepChanges) : Type 0 where
   pub may : MayMake p g

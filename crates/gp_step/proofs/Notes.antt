@@ -3,7 +3,7 @@ use Rattle.std.proofs.Common.{◌≡◌, ℕ, suc, ◌+◌, ◌-◌, ◌<◌, �
 use Rattle.std.specs.Prelude.{Some, IsSome, IfSome, Option}
 use Rattle.std.specs.Ordering.{nat_cmp}
 use Rattle.std.specs.FinMap.{FinMap, insert}
-use Rattle.std.proofs.lemmas.List.{reverse-append}
+use Rattle.gp_memory.proofs.Basics.{is_some_of as is_some, last_first, less_one, some_there as some_is}
 use Rattle.gp_values.specs.declared.atom.Atom.{Atom}
 use Rattle.gp_values.specs.declared.marks.EdgeMark.{EdgeMark}
 use Rattle.gp_values.specs.Graph.{Graph, Node, Edge, IsGraph, HasNoEdges, node_at, edge_at, without_node, without_edge, with_node, with_edge, relabeled, relabeled_edge, without_node_number, without_edge_number}
@@ -17,11 +17,7 @@ use Rattle.gp_step.specs.inside.Changes.{drop_edges, drop_nodes, with_nodes, wit
 use Rattle.gp_step.specs.inside.Made.{node_of, edge_of, nodes_of, edges_of}
 use Rattle.gp_step.specs.Undo.{inverse_of, MayUndo, undone_by, Fits, Undoes}
 use Rattle.gp_step.specs.inside.Notes.{KeepsUndo, KeepsUndoBehind}
-use Rattle.gp_step.proofs.Afters.{some_is, is_some}
 use Rattle.gp_step.proofs.Turns.{edge_relabeled}
-
-pub last_first : {X : Type 0} (xs : List X) (x : X) → reverse (xs ++ x ∷ []) ≡ x ∷ reverse xs
-last_first xs x = reverse-append xs (x ∷ [])
 
 pub noted : (u : Inverse) (us : List Inverse) (g h : Graph) → MayUndo u h → inverse_of u h ≡ g → KeepsUndo us g (u ∷ us) h
 noted u us g h may e = λ before w. record { fits = (may, subst (Fits us) (sym e) w.fits); same = ap (undone_by us) e ∙ w.same }
@@ -35,9 +31,6 @@ edge_cut us g e d w was =
 pub node_cut : (us : List Inverse) (g : Graph) (n : ℕ) (x : Node) → IsGraph g → node_at g n ≡ Some x → KeepsUndo us g (PutNode n x.label x.mark x.root ∷ us) (without_node g n)
 node_cut us g n x w was =
     noted (PutNode n x.label x.mark x.root) us g (without_node g n) (w.nodes_below n (is_some _ x was), get-remove_here g.nodes n) (node_put_back g n x was)
-
-less_one : (n : ℕ) → n + 1 - 1 ≡ n
-less_one n = omega arith
 
 more_than_none : (n : ℕ) → 0 < n + 1
 more_than_none n = omega arith

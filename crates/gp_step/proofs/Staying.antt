@@ -4,6 +4,7 @@ use Rattle.std.specs.Ordering.{nat_cmp}
 use Rattle.std.specs.Cmp.{nat_cmp_total, unsigned_tied}
 use Rattle.std.specs.FinMap.{FinMap, get, insert, gets, same_map, nat_cmp-IsAntisymmetric}
 use Rattle.std.proofs.lemmas.Grind.{common_steps}
+use Rattle.gp_memory.proofs.Basics.{first_or_later as split_head, here as at_head, later as behind, none_in, some_there as some_is}
 use Rattle.gp_values.specs.declared.atom.Atom.{Atom}
 use Rattle.gp_values.specs.declared.marks.EdgeMark.{EdgeMark}
 use Rattle.gp_values.specs.Apart.{AreApart}
@@ -13,8 +14,7 @@ use Rattle.gp_step.specs.declared.made.KeptEdge.{KeptEdge}
 use Rattle.gp_step.specs.declared.made.KeptEdge.TheVariants.{Stays, Carries}
 use Rattle.gp_step.specs.inside.Changes.{kept_first, kept_of, relabel_edges}
 use Rattle.gp_step.specs.inside.Made.{carried_at, kept_edge_pairs, KeepsAs}
-use Rattle.gp_step.proofs.Halves.{none_in, split_head, at_head, behind, apart_rest, apart_head, same_place}
-use Rattle.gp_step.proofs.Afters.{some_is}
+use Rattle.gp_step.proofs.Halves.{apart_rest, apart_head, same_place}
 use Rattle.gp_step.proofs.Turns.{edge_relabeled, apart_more}
 
 abbrev pub numbers : {X : Type 0} → List (ℕ × X) → List ℕ

@@ -5,6 +5,7 @@ use Rattle.std.specs.Ordering.{nat_cmp}
 use Rattle.std.specs.Cmp.{nat_cmp_total, unsigned_tied}
 use Rattle.std.specs.FinMap.{FinMap, get, insert, gets, same_map, nat_cmp-IsAntisymmetric}
 use Rattle.std.proofs.lemmas.Grind.{common_steps}
+use Rattle.gp_memory.proofs.Basics.{here as at_head, later as behind, one_more, some_same, stands_in}
 use Rattle.gp_values.specs.declared.atom.Atom.{Atom}
 use Rattle.gp_values.specs.declared.marks.EdgeMark.{EdgeMark}
 use Rattle.gp_values.specs.Apart.{AreApart}
@@ -12,7 +13,7 @@ use Rattle.gp_values.specs.Graph.{Graph, Node, Edge, HasNoEdges, node_at, edge_a
 use Rattle.gp_values.proofs.Graphs.{get-remove_apart, get-insert_cases, IsSome-insert}
 use Rattle.gp_step.specs.Halves.{image_of, next_of, gone, cut, put_all}
 use Rattle.gp_step.specs.inside.Changes.{kept_first, kept_of, new_first, new_of, carried_by, drop_edges, relabel_edges, drop_nodes, relabel_nodes, with_nodes, with_edges, MayDropEdges, MayRelabelEdges, MayDropNodes, MayRelabelNodes, MayPutEdges}
-use Rattle.gp_step.proofs.Halves.{some_same, behind, at_head, apart_rest, apart_head, gone_place, stands_in, count-cons}
+use Rattle.gp_step.proofs.Halves.{apart_rest, apart_head, gone_place, count-cons}
 
 -- ---- one half
 
@@ -94,9 +95,6 @@ drop_nodes_half (n ∷ ns) g = drop_nodes_half ns (without_node g n)
 pub relabel_nodes_half : (ps : List (ℕ × Node)) (g : Graph) → relabel_nodes ps g ≡ record g { nodes = write ps g.nodes }
 relabel_nodes_half [] g = refl
 relabel_nodes_half (p ∷ ps) g = relabel_nodes_half ps (relabeled g p.0 p.1)
-
-one_more : (n k : ℕ) → (n + 1) + k ≡ n + suc k
-one_more n k = omega arith
 
 no_more : (n : ℕ) → n ≡ n + 0
 no_more n = omega arith

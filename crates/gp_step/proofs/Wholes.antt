@@ -3,6 +3,7 @@ use Rattle.std.proofs.Common.{◌≡◌, ◌⊎◌, inl, inr, ℕ, zero, suc, �
 use Rattle.std.specs.Option.{option_map}
 use Rattle.std.proofs.lemmas.Option.{none-some, slice_get-map, slice_get_within, get_or_from_slice_get}
 use Rattle.std.proofs.lemmas.List.{length-map}
+use Rattle.gp_memory.proofs.Basics.{is_some_of as is_some, some_at as element, some_same, some_there as some_is, standing, stands_in}
 use Rattle.gp_values.specs.declared.atom.Atom.{Atom}
 use Rattle.gp_values.specs.Atoms.{AreAtoms}
 use Rattle.gp_values.specs.Graph.{Graph, Node, Edge, IsGraph, node_at, edge_at}
@@ -15,9 +16,9 @@ use Rattle.gp_syntax.specs.WellFormed.{IsWellFormed}
 use Rattle.gp_step.specs.Edits.{origin_of}
 use Rattle.gp_step.specs.After.{after}
 use Rattle.gp_step.specs.Laws.{MakesAtoms, IsNumbered, HasOneStep}
-use Rattle.gp_syntax.proofs.Unique.{element, contained}
-use Rattle.gp_step.proofs.Halves.{some_same, standing, stands_in, stood, image_below}
-use Rattle.gp_step.proofs.Afters.{some_is, is_some, keeps_nodes, keeps_edges, leads_on, only_steps, numbered}
+use Rattle.gp_syntax.proofs.Unique.{contained}
+use Rattle.gp_step.proofs.Halves.{stood, image_below}
+use Rattle.gp_step.proofs.Afters.{keeps_nodes, keeps_edges, leads_on, only_steps, numbered}
 
 -- ---- labels
 

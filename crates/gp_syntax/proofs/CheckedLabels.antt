@@ -2,6 +2,7 @@
 use Rattle.std.proofs.Common.{◌≡◌, ℕ, ◌+◌, ◌<◌, Bool, true, false, cond, ◌||◌, ◌&&◌, List, [], ◌∷◌, ◌++◌, length, Option, Some, None, refl, sym, ap, ◌∙◌, inl, inr, arith}
 use Rattle.std.specs.Prelude.{◌⊎◌, nat_le}
 use Rattle.std.proofs.lemmas.Bool.{leb-true}
+use Rattle.gp_memory.proofs.Basics.{both, neither}
 use Rattle.gp_values.specs.Names.{Name, same_name, has_name, first_unknown}
 use Rattle.gp_syntax.specs.declared.kinds.VariableType.{VariableType}
 use Rattle.gp_syntax.specs.declared.kinds.VariableType.TheVariants as types
@@ -13,7 +14,7 @@ use Rattle.gp_syntax.specs.WellFormed.{IsWithin, IsConditionWithin}
 use Rattle.gp_syntax.specs.Declaration.{variables_in, nodes_in, nodes_in_condition, place_in}
 use Rattle.gp_syntax.specs.Fault.{first_told, unless, variables_in_condition, is_well_typed, is_well_typed_condition, has_no_operation, has_one_string, is_simple}
 use Rattle.gp_syntax.proofs.Declarations.{place_below, same_name_told, has_append}
-use Rattle.gp_syntax.proofs.Told.{neither, both, passes, told_append, unknown_append}
+use Rattle.gp_syntax.proofs.Told.{passes, told_append, unknown_append}
 use Rattle.gp_syntax.proofs.Simples.{simple_iff}
 
 -- variables, nodes: the names that have places

@@ -7,6 +7,7 @@ use Rattle.std.proofs.lemmas.Bool.{ltb-false}
 use Rattle.std.proofs.lemmas.List.{length-map}
 use Rattle.std.proofs.lemmas.List.Elements.{All-map}
 use Rattle.std.proofs.lemmas.Option.{none-some, same_Some, slice_get-map, slice_get_within, get_or_from_slice_get}
+use Rattle.gp_memory.proofs.Basics.{both, from_map, neither, not_false as on}
 use Rattle.gp_values.specs.Names.{Name, same_name, has_name, place_of, first_doubled, first_unknown}
 use Rattle.gp_syntax.specs.Expression.{Expression, Marked, AnyMark}
 use Rattle.gp_syntax.specs.Rule.{Rule, LeftNode, LeftEdge, RightNode, RightEdge}
@@ -17,8 +18,8 @@ use Rattle.gp_syntax.specs.WellFormed.{IsWellFormed, IsWithin, IsConditionWithin
 use Rattle.gp_syntax.specs.Declaration.{Declaration, DeclaredNode, DeclaredEdge, DeclaredVariable, Side, IsWellNamed, IsSmall, node_names, edge_names, end_names, labels, variables_in, nodes_in, nodes_in_condition, left_variables, place_in, label_in, origin_in, node_mark_of, edge_mark_of, edge_named, rule_of}
 use Rattle.gp_syntax.specs.Fault.{Fault, first_told, unless, when, fault_of, is_large, variable_names, twice_declared, unknown_at_node, unknown_at_edge, unknown_degree, unknown_in_side, unknown_node, bad_interface, variables_in_side, variables_in_condition, unbound, type_named, is_well_typed, is_well_typed_condition, is_simple, is_any, keeps_node_mark, keeps_edge_mark, keeps_direction, joins_the_same, bad_bidi, node_named}
 use Rattle.gp_syntax.specs.Checked.{IsChecked}
-use Rattle.gp_syntax.proofs.Declarations.{same_name_itself, from_map, place_has, stands_once, fits_declaration}
-use Rattle.gp_syntax.proofs.Told.{neither, both, passes, passed, told_append, told_flat, told_map, told_none, told_weaker, told_stronger, told_both, all_pass, unknown_told, unknown_flat, among_themselves}
+use Rattle.gp_syntax.proofs.Declarations.{same_name_itself, place_has, stands_once, fits_declaration}
+use Rattle.gp_syntax.proofs.Told.{passes, passed, told_append, told_flat, told_map, told_none, told_weaker, told_stronger, told_both, all_pass, unknown_told, unknown_flat, among_themselves}
 use Rattle.gp_syntax.proofs.CheckedNames as names
 use Rattle.gp_syntax.proofs.CheckedLabels as labels_of
 
@@ -35,10 +36,6 @@ unmapped g (Some x) h = absurd cc
 off : (a b : Bool) → (a || b) ≡ false → (a ≡ false) × (b ≡ false)
 off true b h = absurd cc
 off false b h = (refl, h)
-
-on : (b : Bool) → not b ≡ false → b ≡ true
-on true h = refl
-on false h = absurd cc
 
 record Clauses (d : Declaration) : Type 0 where
   left_small : is_large d.left ≡ false

@@ -5,8 +5,8 @@ use Rattle.gp_values.specs.declared.marks.NodeMark.TheVariants as node_marks
 use Rattle.gp_syntax.specs.declared.kinds.VariableType.TheVariants as types
 use Rattle.gp_syntax.specs.Expression.{Marked, Variable, Number, Plus}
 use Rattle.gp_syntax.specs.Step.{Step}
-use Rattle.gp_syntax.specs.Run.{Run, Call, Stepped, Gives, Fails, call_steps, call_fails, seq, if_then, try_then, try_else, or_first, or_second, procedure, loop_stands, loop_goes_on, loop_ends, loop_breaks, skips, fails, breaks}
-use Rattle.gp_syntax.specs.Rows.{plain, del, inc, program, start, raised, no_nodes, at_first, IfTakesBack, TryTakesBack, FailedBodyIsTakenBack, BreakKeepsBody, EmptySetEndsLoop, SkipLoopStands, raised_twice, ThenBegins, OrTakesEither, ProceduresRun}
+use Rattle.gp_syntax.specs.Run.{Run, Call, Stepped, Gives, Fails, call_steps, call_fails, seq, seq_fails, seq_breaks, if_then, if_else, try_then, try_else, or_first, or_second, procedure, loop_stands, loop_goes_on, loop_ends, loop_breaks, skips, fails, breaks}
+use Rattle.gp_syntax.specs.Rows.{plain, del, inc, program, start, raised, no_nodes, at_first, IfTakesBack, TryTakesBack, FailedBodyIsTakenBack, BreakKeepsBody, EmptySetEndsLoop, SkipLoopStands, raised_twice, ThenBegins, ElseBegins, FirstPartEnds, OrTakesEither, ProceduresRun}
 use Rattle.gp_syntax.proofs.Small.{step_deleted, step_kept, blocked_nothing}
 use Rattle.gp_syntax.proofs.Blocked.{red_blocked}
 
@@ -63,6 +63,12 @@ second_call = call_steps refl (record { in_set = (0, let l : 0 < 1 = omega arith
 
 pub then_begins : ThenBegins
 then_begins = record { of_try = try_then inc_call second_call refl refl; of_if = if_then inc_call inc_call refl refl }
+
+pub else_begins : ElseBegins
+else_begins = if_else (seq del_call fails refl refl) inc_call refl refl
+
+pub first_part_ends : FirstPartEnds
+first_part_ends = record { by_fail = seq_fails fails; by_break = loop_breaks (seq_breaks breaks) refl }
 
 pub or_takes_either : OrTakesEither
 or_takes_either = record { first = or_first skips refl; second = or_second fails refl }

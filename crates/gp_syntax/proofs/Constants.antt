@@ -1,6 +1,7 @@
 -- Constants have their value, and rules without arithmetic are not faulty.
 use Rattle.std.proofs.Common.{◌≡◌, inl, inr, ℕ, suc, true, List, [], ◌∷◌, ◌++◌, map, slice_get, Some, None, refl, sym, ap, subst, ◌∙◌}
 use Rattle.std.proofs.lemmas.Option.{none-some}
+use Rattle.gp_memory.proofs.Basics.{from_map}
 use Rattle.gp_values.specs.declared.atom.Atom.{Atom}
 use Rattle.gp_values.specs.declared.atom.Atom.TheVariants.{Str}
 use Rattle.gp_values.specs.Graph.{Graph}
@@ -14,7 +15,6 @@ use Rattle.gp_syntax.specs.Match.{setting_of}
 use Rattle.gp_syntax.specs.Step.{IsFaulty, kind_or, first_fault, right_labels}
 use Rattle.gp_syntax.specs.Constant.{IsConstant, constant_of, HasNoArithmetic, IsFaultless}
 use Rattle.gp_syntax.specs.Laws.{ConstantsHaveTheirValue, MatchesApply}
-use Rattle.gp_syntax.proofs.Declarations.{from_map}
 
 -- the value of a joined list, from those of its parts
 joined : (v w : Valued (List Atom)) (x y : List Atom) → v ≡ Value x → w ≡ Value y → (v >>= λ a. w >>= λ b. Value (a ++ b)) ≡ Value (x ++ y)

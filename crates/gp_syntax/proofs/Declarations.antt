@@ -4,6 +4,7 @@ use Rattle.std.specs.List.{position_from}
 use Rattle.std.specs.Cmp.Lexicographic.{same_text, other_text}
 use Rattle.std.proofs.lemmas.List.{length-map}
 use Rattle.std.proofs.lemmas.Option.{same_Some, none-some, slice_get-map}
+use Rattle.gp_memory.proofs.Basics.{from_map}
 use Rattle.gp_values.specs.Names.{Name, same_name, has_name, place_of, first_doubled_behind, first_unknown}
 use Rattle.gp_syntax.specs.Rule.{LeftEdge, RightNode, RightEdge}
 use Rattle.gp_syntax.specs.Declaration.{Declaration, DeclaredNode, DeclaredEdge, IsWellNamed, node_names, place_in, origin_in, rule_of}
@@ -135,12 +136,6 @@ ends_known known (d ∷ es) h zero e s =
     let k = known_both known d.source d.target _ h in
     subst (λ (x : DeclaredEdge). (has_name known x.source ≡ true) × (has_name known x.target ≡ true)) (same_Some d e s) (k.0, k.1)
 ends_known known (d ∷ es) h (suc i) e s = ends_known known es (known_both known d.source d.target _ h).2 i e s
-
--- what stands at a place of a mapped list comes from what stands there in the list
-pub from_map : {X Y : Type 0} (f : X → Y) (xs : List X) (i : ℕ) (y : Y) → slice_get (map f xs) i ≡ Some y → (x : X) × (slice_get xs i ≡ Some x) × (f x ≡ y)
-from_map f [] i y e = absurd (none-some y e)
-from_map f (x ∷ xs) zero y e = (x, refl, same_Some (f x) y e)
-from_map f (x ∷ xs) (suc i) y e = from_map f xs i y e
 
 -- ---- the rule
 

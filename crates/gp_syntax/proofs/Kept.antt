@@ -3,11 +3,8 @@ use Rattle.std.proofs.Common.{◌≡◌, ℕ, ◌==◌, Bool, List, Option, Some
 use Rattle.std.specs.List.{list_any}
 use Rattle.std.proofs.lemmas.Bool.Decides.{Decides-eqb, Decides-like, Decides-by_or}
 use Rattle.std.proofs.lemmas.Option.{slice_get_within, get_or_from_slice_get}
+use Rattle.gp_memory.proofs.Basics.{some_at as element, some_same}
 use Rattle.gp_syntax.specs.Rule.{Rule, RightNode, IsKept, is_origin, is_kept}
-use Rattle.gp_syntax.proofs.Unique.{element}
-
-some_same : {X : Type 0} {x y : X} → Some x ≡ Some y → x ≡ y
-some_same e = cc
 
 Decides-some_element : {X : Type 0} (xs : List X) (t : X → Bool) (Q : X → Type 0) → ((x : X) → Decides (t x) (Q x)) → Decides (list_any t xs) ((j : ℕ) × (x : X) × (slice_get xs j ≡ Some x) × Q x)
 Decides-some_element xs t Q each =

@@ -4,6 +4,7 @@ use Rattle.std.specs.Prelude.{option_and_then}
 use Rattle.std.specs.Option.{option_map, option_map_or}
 use Rattle.std.proofs.lemmas.Bool.{false≢true}
 use Rattle.std.proofs.lemmas.Option.{none-some, slice_get-map}
+use Rattle.gp_memory.proofs.Basics.{both, some_same}
 use Rattle.gp_values.specs.Graph.{Graph, Edge, edge_at}
 use Rattle.gp_syntax.specs.Value.{Assignment}
 use Rattle.gp_syntax.specs.Rule.{Rule, LeftEdge, RightNode, RightEdge, Found, is_origin, differ, keeps_node, is_same_edge, kept_edge, kept_nodes}
@@ -11,9 +12,6 @@ use Rattle.gp_syntax.specs.Match.{MatchBy, FitsEdge, setting_of}
 use Rattle.gp_syntax.specs.Step.{Places, is_exchanged}
 use Rattle.gp_syntax.specs.Laws.{KeptEdgesStay}
 use Rattle.gp_syntax.proofs.Kept.{Decides-origin}
-
-some_same : {X : Type 0} {x y : X} → Some x ≡ Some y → x ≡ y
-some_same e = cc
 
 -- ---- the left edge that is kept
 
@@ -36,10 +34,6 @@ kept_edge_at r q i h = by q.origin refl h
     by (Some k) e h = at_origin r q i k (slice_get r.left_edges k) e refl h
 
 -- ---- the ends
-
-both : (a b : Bool) → (a && b) ≡ true → (a ≡ true) × (b ≡ true)
-both true b h = (refl, h)
-both false b h = absurd cc
 
 -- a right node that is a left one lies at its image
 kept_lies : (r : Rule) (m : Found) (next : ℕ) (images : List ℕ) → Places (kept_nodes r) m.nodes next images → (j i : ℕ) → keeps_node r j i ≡ true → slice_index images j ≡ slice_index m.nodes i

@@ -6,6 +6,7 @@ use Rattle.std.specs.Ordering.{nat_cmp}
 use Rattle.std.specs.Cmp.{unsigned_tied}
 use Rattle.std.specs.Option.{option_map, option_map_or}
 use Rattle.std.specs.FinMap as map
+use Rattle.gp_memory.proofs.Basics.{none_in as nothing_contains}
 use Rattle.gp_values.specs.declared.atom.Atom.{Atom}
 use Rattle.gp_values.specs.declared.marks.NodeMark.{NodeMark}
 use Rattle.gp_values.specs.declared.marks.NodeMark.TheVariants as node_marks
@@ -38,10 +39,6 @@ only_contains n k c = go c.0 c.1 c.2
     go : (i : ℕ) → i < 1 → get_or (n ∷ []) i k ≡ k → n ≡ k
     go zero l e = e
     go (suc i) l e = absurd (omega arith)
-
--- the empty list has nothing
-pub nothing_contains : (k : ℕ) → Contains [] k → ⊥
-nothing_contains k c = let l : c.0 < 0 = c.1 in omega arith
 
 -- ---- where the right side lies
 

@@ -1,18 +1,11 @@
 -- The first that is told, over lists; and names that are unknown or doubled.
-use Rattle.std.proofs.Common.{◌≡◌, ℕ, zero, suc, ◌<◌, Bool, true, false, if◌then◌else◌, ◌||◌, ◌&&◌, List, [], ◌∷◌, ◌++◌, map, flat_map, length, get_or, Option, Some, None, refl, sym, ap, subst, ◌∙◌, arith}
+use Rattle.std.proofs.Common.{◌≡◌, ℕ, zero, suc, ◌<◌, Bool, true, false, if◌then◌else◌, ◌||◌, List, [], ◌∷◌, ◌++◌, map, flat_map, length, get_or, Option, Some, None, refl, sym, ap, subst, ◌∙◌, arith}
 use Rattle.std.specs.Option.{option_or}
 use Rattle.std.specs.List.{list_all}
+use Rattle.gp_memory.proofs.Basics.{both, neither, or_assoc}
 use Rattle.gp_values.specs.Names.{Name, has_name, first_unknown}
 use Rattle.gp_syntax.specs.Fault.{first_told, unless}
 use Rattle.gp_syntax.proofs.Declarations.{has_append, same_name_itself}
-
-pub neither : {A : Type 0} (a b : Option A) → option_or a b ≡ None → (a ≡ None) × (b ≡ None)
-neither None b h = (refl, h)
-neither (Some x) b h = absurd cc
-
-pub both : (a b : Bool) → (a && b) ≡ true → (a ≡ true) × (b ≡ true)
-both true b h = (refl, h)
-both false b h = absurd cc
 
 pub passes : (b : Bool) (n : Name) → unless b n ≡ None → b ≡ true
 passes true n h = refl
@@ -20,10 +13,6 @@ passes false n h = absurd cc
 
 pub passed : (b : Bool) (n : Name) → b ≡ true → unless b n ≡ None
 passed b n h = rw h refl
-
-or_assoc : {A : Type 0} (a b c : Option A) → option_or (option_or a b) c ≡ option_or a (option_or b c)
-or_assoc None b c = refl
-or_assoc (Some x) b c = refl
 
 pub told_append : {A B : Type 0} (f : A → Option B) (xs ys : List A) → first_told f (xs ++ ys) ≡ option_or (first_told f xs) (first_told f ys)
 told_append f [] ys = refl

@@ -1,9 +1,9 @@
 -- A match leads to one graph: all that stands at a number of the new graph is told by the rule, the match and the
 -- assignment.
-use Rattle.std.proofs.Common.{◌≡◌, ◌⊎◌, inl, inr, ℕ, zero, suc, ◌<◌, ◌≤◌, List, [], ◌∷◌, length, slice_get, slice_index, get_or, Option, Some, None, Contains, sym, ap, subst, ◌∙◌, arith, ext_get_or}
+use Rattle.std.proofs.Common.{◌≡◌, ◌⊎◌, inl, inr, ℕ, zero, suc, ◌<◌, List, [], ◌∷◌, length, slice_get, slice_index, get_or, Option, Some, None, Contains, sym, ap, subst, ◌∙◌, arith, ext_get_or}
 use Rattle.std.proofs.lemmas.Bool.{cases_eq}
-use Rattle.std.proofs.lemmas.Option.{slice_get_cases}
-use Rattle.std.proofs.lemmas.List.{get_or_default, length-map, nil_from_length}
+use Rattle.std.proofs.lemmas.List.{length-map, nil_from_length}
+use Rattle.gp_memory.proofs.Basics.{some_at as element, standing}
 use Rattle.gp_values.specs.Graph.{Graph, Node, Edge, node_at, edge_at}
 use Rattle.gp_values.proofs.Graphs.{same_graph}
 use Rattle.gp_syntax.specs.declared.kinds.VariableType.{VariableType}
@@ -27,14 +27,6 @@ contained (m ∷ ns) n =
         | inr apart ↦ inr (λ c. apart (in_tail m ns n c.0 c.1 c.2 d))
       ]
     ]
-
--- the place at which a number stands
-standing : (ns : List ℕ) (n : ℕ) (c : Contains ns n) → slice_index ns c.0 ≡ n
-standing ns n c = get_or_default ns c.0 0 n c.1 ∙ c.2
-
--- a place below the length of a list has an element
-pub element : {X : Type 0} (xs : List X) (i : ℕ) → i < length xs → (x : X) × (slice_get xs i ≡ Some x)
-element xs i l = elim (slice_get_cases xs i).1 [ inl s ↦ (s.0, s.2) | inr p ↦ (let h : length xs ≤ i = p.0 in absurd (omega arith)) ]
 
 -- ---- the images of the right side
 

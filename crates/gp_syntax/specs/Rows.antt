@@ -292,6 +292,15 @@ pub record ThenBegins : Type 0 where
   pub of_try : Run program (Try (Call 1) (Call 1) Skip) start [] (Stepped (at_first 1) ∷ Stepped (at_first 1) ∷ []) (Gives raised_twice)
   pub of_if : Run program (If (Call 1) (Call 1) Skip) start [] (Stepped (at_first 1) ∷ Back 1 ∷ Stepped (at_first 1) ∷ []) (Gives raised)
 
+-- if (del; fail) then fail else inc: `else` begins at the first graph
+abbrev pub ElseBegins : Type 0
+ElseBegins = Run program (If (Seq (Call 0) Fail) Fail (Call 1)) start [] (Stepped (at_first 0) ∷ Back 1 ∷ Stepped (at_first 1) ∷ []) (Gives raised)
+
+-- fail; inc, and (break; inc)!: what stands behind is not begun
+pub record FirstPartEnds : Type 0 where
+  pub by_fail : Run program (Seq Fail (Call 1)) start [] [] (Fails start)
+  pub by_break : Run program (Loop (Seq Break (Call 1))) start [] (Turned ∷ []) (Gives start)
+
 -- skip or fail
 pub record OrTakesEither : Type 0 where
   pub first : Run program (Or Skip Fail) start (false ∷ []) [] (Gives start)

@@ -4,7 +4,7 @@ ghost use Rattle.gp_syntax.specs.Laws.{StepIsUnique, StepWithoutVariablesIsUniqu
 ghost use Rattle.gp_syntax.specs.Simple.{SimpleLabelsAreThese};
 ghost use Rattle.gp_values.specs.Names.{Name};
 ghost use Rattle.std.specs.Prelude.{ℕ};
-ghost use Rattle.gp_syntax.specs.Rows.{DanglingEdgeBlocks, IsolatedNodeIsDeleted, OneEdgeIsNotTwo, ParallelEdgesMatch, RootWantsRoot, RootIsTakenAway, OtherWantsNoRoot, AnyKeepsMark, IfTakesBack, TryTakesBack, FailedBodyIsTakenBack, BreakKeepsBody, EmptySetEndsLoop, SkipLoopStands, ThenBegins, OrTakesEither, ProceduresRun, StringPatterns, KeptEdgeIsRelabelled, OtherEndsAreAnotherEdge, DirectionIsKept, OneWayIsAnotherEdge, AnyKeepsMarkOfEdge, KeptBesideRemoved, SharesGoByFirstNode};
+ghost use Rattle.gp_syntax.specs.Rows.{DanglingEdgeBlocks, IsolatedNodeIsDeleted, OneEdgeIsNotTwo, ParallelEdgesMatch, RootWantsRoot, RootIsTakenAway, OtherWantsNoRoot, AnyKeepsMark, IfTakesBack, TryTakesBack, FailedBodyIsTakenBack, BreakKeepsBody, EmptySetEndsLoop, SkipLoopStands, ThenBegins, ElseBegins, FirstPartEnds, OrTakesEither, ProceduresRun, StringPatterns, KeptEdgeIsRelabelled, OtherEndsAreAnotherEdge, DirectionIsKept, OneWayIsAnotherEdge, AnyKeepsMarkOfEdge, KeptBesideRemoved, SharesGoByFirstNode};
 ghost use Rattle.gp_syntax.specs.ValueRows.{ArithmeticHasEnds, DivisionTruncates, FirstKindIsTold, LengthGoesByType, DegreesCountLoops, ChainsJoin, SecondPartWaits, EdgeTests, OtherTests};
 
 /// A match leads, by its assignment, to one graph.
@@ -73,6 +73,8 @@ pub fn command_examples()
     ensures empty_set { EmptySetEndsLoop }
     ensures standing { SkipLoopStands }
     ensures then_begins { ThenBegins }
+    ensures else_begins { ElseBegins }
+    ensures first_part { FirstPartEnds }
     ensures either { OrTakesEither }
     ensures procedures { ProceduresRun }
 {}

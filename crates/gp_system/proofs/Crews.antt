@@ -1,9 +1,10 @@
 -- Where the trails of a crew are.
-use Rattle.std.proofs.Common.{◌≡◌, inl, inr, ℕ, zero, suc, ◌+◌, ◌-◌, ◌^◌, ◌<◌, ◌≤◌, List, [], ◌∷◌, ◌++◌, map, length, set, get_or, take, drop, All, Option, Some, refl, sym, ap, subst, ◌∙◌, arith}
+use Rattle.std.proofs.Common.{◌≡◌, inl, inr, ℕ, zero, suc, ◌+◌, ◌-◌, ◌^◌, ◌<◌, List, [], ◌∷◌, ◌++◌, map, length, set, get_or, take, drop, All, Option, Some, refl, sym, ap, subst, ◌∙◌, arith}
 use Rattle.std.proofs.lemmas.Bool.{cases_eq}
 use Rattle.std.proofs.lemmas.Grind.{get_or-set_at}
 use Rattle.std.proofs.lemmas.List.{length-drop, length-set, get_or-set_other}
 use Rattle.std.proofs.lemmas.List.Elements.{All-weaker}
+use Rattle.gp_memory.proofs.Basics.{take_front, take_long, take_whole}
 use Rattle.gp_values.specs.Graph.{Graph}
 use Rattle.gp_syntax.specs.declared.found.Item.{Item}
 use Rattle.gp_syntax.specs.declared.command.ProgramParts.{ProgramParts}
@@ -26,7 +27,7 @@ use Rattle.gp_journal.specs.Trail.{Trail, root_of, rooted, fresh, led, advanced}
 use Rattle.gp_journal.specs.Leads.{StepsBy, Goes, Leads, CaughtUp}
 use Rattle.gp_journal.specs.Journal.{items_of, IsJournalOf}
 use Rattle.gp_system.specs.inside.Noted.{noted}
-use Rattle.gp_journal.proofs.Ways.{one_way, take_whole, length-items}
+use Rattle.gp_journal.proofs.Ways.{one_way, length-items}
 use Rattle.gp_system.specs.declared.goal.CallGoal.{CallGoal}
 use Rattle.gp_system.specs.declared.goal.Fault.{Fault}
 use Rattle.gp_system.specs.Gp.{RuleSystem, rules_of, gp_means}
@@ -83,19 +84,9 @@ module _ {State Found Goal Reason : Type 0} (m : Meaning State Found Goal Reason
 
 -- ---- each of them
 
-take_front : {X : Type 0} (xs zs : List X) → take (length xs) (xs ++ zs) ≡ xs
-take_front [] zs = refl
-take_front (x ∷ xs) zs = ap (λ (l : List _). x ∷ l) (take_front xs zs)
-
 -- a list that was written whole
 pub all_written : {X : Type 0} (P : X → Type 0) (n : ℕ) (xs zs : List X) → n ≡ length xs → All P xs → All P (take n (xs ++ zs))
 all_written P n xs zs e h = subst (λ l. All P l) (sym (ap (λ (k : ℕ). take k (xs ++ zs)) e ∙ take_front xs zs)) h
-
-take_long : {X : Type 0} (n : ℕ) (xs : List X) → length xs ≤ n → take n xs ≡ xs
-take_long zero [] l = refl
-take_long zero (x ∷ xs) l = absurd (omega arith)
-take_long (suc n) [] l = refl
-take_long (suc n) (x ∷ xs) l = ap (λ (k : List _). x ∷ k) (take_long n xs (omega arith))
 
 whole_drop : {X : Type 0} (k : ℕ) (xs : List X) → take (length xs - k) (drop k xs) ≡ drop k xs
 whole_drop k xs = take_long (length xs - k) (drop k xs) (let e = length-drop k xs in omega arith)

@@ -1,6 +1,7 @@
 -- What a goal that a crew pursued came to, as what an engine answers.
 use Rattle.std.proofs.Common.{◌≡◌, inl, inr, ℕ, zero, suc, ◌+◌, ◌-◌, ◌*◌, ◌<◌, ◌%◌, min, Bool, true, false, List, [], ◌∷◌, ◌++◌, map, length, take, slice_get, Contains, All, Option, Some, None, refl, sym, ap, subst, ◌∙◌, arith, append_assoc}
 use Rattle.std.specs.Prelude.{if◌then◌else◌}
+use Rattle.gp_memory.proofs.Basics.{some_at as element}
 use Rattle.gp_values.specs.Graph.{Graph}
 use Rattle.gp_syntax.specs.declared.found.Item.{Item}
 use Rattle.gp_syntax.specs.declared.found.Item.TheVariants as items
@@ -13,7 +14,6 @@ use Rattle.gp_syntax.specs.Run.{Program, Call, Stepped, Turned, Gives, Fails, At
 use Rattle.gp_syntax.specs.Tree.{rule_of_tree, program_of_tree, item_of}
 use Rattle.gp_syntax.specs.WellFormed.{IsWellFormed}
 use Rattle.gp_syntax.proofs.Loops.{SoFar, at_first}
-use Rattle.gp_syntax.proofs.Unique.{element}
 use Rattle.gp_match.specs.Judge.{judged}
 use Rattle.gp_match.specs.Judge as matches
 use Rattle.gp_match.specs.Laws.{IsJudged}

@@ -1,6 +1,7 @@
 -- What a crew made of a goal, as items of a trail and as a run.
 use Rattle.std.proofs.Common.{◌≡◌, inl, inr, ℕ, zero, suc, ◌+◌, ◌*◌, ◌%◌, List, [], ◌∷◌, ◌++◌, length, take, slice_get, Contains, All, Option, Some, None, refl, sym, ap, subst, ◌∙◌, arith, append_assoc, append-nil}
 use Rattle.std.specs.Prelude.{Result, Ok, Err, OnOk}
+use Rattle.gp_memory.proofs.Basics.{some_same}
 use Rattle.gp_values.specs.Graph.{Graph}
 use Rattle.gp_syntax.specs.declared.found.Item.{Item}
 use Rattle.gp_syntax.specs.declared.found.Item.TheVariants as items
@@ -26,7 +27,7 @@ use Rattle.gp_system.specs.declared.goal.CallGoal.{CallGoal}
 use Rattle.gp_system.specs.Gp.{RuleSystem, rules_of, has, judged_by, judged_in, gp_means}
 use Rattle.gp_system.specs.Laws.{EntriesAreCalls}
 use Rattle.gp_system.specs.inside.Pursued.{HasUsed, turns_first, noted_but_last_turn}
-use Rattle.gp_system.proofs.Systems.{contains_has, step_of, by_set, some_same, well_formed_at}
+use Rattle.gp_system.proofs.Systems.{contains_has, step_of, by_set, well_formed_at}
 
 -- ---- one entry
 

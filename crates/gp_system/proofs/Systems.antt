@@ -3,6 +3,7 @@ use Rattle.std.proofs.Common.{◌≡◌, ℕ, zero, suc, ◌+◌, ◌-◌, ◌<�
 use Rattle.std.specs.Prelude.{if◌then◌else◌}
 use Rattle.std.specs.Option.{option_map_or}
 use Rattle.std.proofs.lemmas.Option.{slice_get-get_or, get_or_from_slice_get, slice_get_within}
+use Rattle.gp_memory.proofs.Basics.{or_right}
 use Rattle.gp_values.specs.Graph.{Graph}
 use Rattle.gp_syntax.specs.declared.kinds.NumberKind.{NumberKind}
 use Rattle.gp_syntax.specs.declared.command.ProgramParts.{ProgramParts}
@@ -34,18 +35,11 @@ use Rattle.gp_system.specs.inside.Planned.{verdict_of, sought_of}
 use Rattle.gp_plan.proofs.Pairs.{rule_here}
 use Rattle.gp_system.proofs.Sessions.{set_within}
 
-pub some_same : {X : Type 0} {x y : X} → Some x ≡ Some y → x ≡ y
-some_same e = cc
-
 pub same_back : (s : RuleSystem) (k : ℕ) (t : Trail) → back_by k t ≡ undone_by (gp_means s) k t
 same_back s zero t = refl
 same_back s (suc k) t = same_back s k (undone t)
 
 -- ---- membership
-
-or_right : (b c : Bool) → c ≡ true → (b || c) ≡ true
-or_right true c e = refl
-or_right false c e = e
 
 pub has_it : (set : List ℕ) (k i : ℕ) → i < length set → slice_index_or set i k ≡ k → has k set ≡ true
 has_it [] k i l e = absurd (omega arith)

@@ -1,6 +1,7 @@
 -- Each tree of a grammar that fits is read.
-use Rattle.std.proofs.Common.{◌≡◌, ◌⊎◌, ℕ, Bool, true, false, List, [], ◌∷◌, ◌++◌, length, refl, sym, ◌∙◌, subst, inl, inr, arith}
+use Rattle.std.proofs.Common.{◌≡◌, ℕ, Bool, true, false, List, [], ◌∷◌, ◌++◌, length, refl, sym, ◌∙◌, subst, inl, inr, arith}
 use Rattle.std.specs.Prelude.{if◌then◌else◌}
+use Rattle.gp_memory.proofs.Basics.{which}
 use Rattle.gp_tokens.specs.declared.token.Kind.TheVariants as k
 use Rattle.gp_tokens.specs.declared.token.Token.{Token}
 use Rattle.gp_tokens.specs.declared.want.Want.{Want}
@@ -15,10 +16,6 @@ use Rattle.gp_tokens.proofs.Strings.{number_at_again, number_at_begins, number_a
 use Rattle.gp_tokens.specs.Grammar.{Grammar, One, Number, NumberAt, String, Then, Made, At, If, Absent, Repeated, Separated, Never, shape_of}
 use Rattle.gp_tokens.specs.Reading.{reader_of}
 use Rattle.gp_tokens.specs.Fits.{nullable, enders, NoneOf, OnTrue, BeginsBy, Avoids, AllAvoid, AllExcluded, Fits}
-
-which : (b : Bool) → (b ≡ true) ⊎ (b ≡ false)
-which true = inl refl
-which false = inr refl
 
 on_true : (b : Bool) (T : Type 0) → b ≡ true → OnTrue b T → T
 on_true true T e x = x

@@ -7,6 +7,7 @@ use Rattle.std.proofs.Math.Seq.{take-suc, take-length, drop-cons}
 use Rattle.std.proofs.lemmas.List.Sums.{prefix_len-le-length, prefix_len_stops}
 use Rattle.std.proofs.lemmas.Bool.{leb-true, leb-false, ltb-true, ltb-false}
 use Rattle.std.proofs.lemmas.Bool.Decides.{Decides-eqb}
+use Rattle.gp_memory.proofs.Basics.{both}
 use Rattle.gp_tokens.specs.declared.fault.LexFault.TheVariants as fault
 use Rattle.gp_tokens.specs.declared.front.Class.TheVariants as class
 use Rattle.gp_tokens.specs.declared.front.First.{First}
@@ -29,10 +30,6 @@ Fits at z (f.Fault e) = IsStuck at z e
 fits_if : (at : ℕ) (z : List ℕ) (b : Bool) (x y : First) → (b ≡ true → Fits at z x) → (b ≡ false → Fits at z y) → Fits at z (if b then x else y)
 fits_if at z true x y p q = p refl
 fits_if at z false x y p q = q refl
-
-pub both : (a b : Bool) → (a && b) ≡ true → (a ≡ true) × (b ≡ true)
-both true b h = (refl, h)
-both false b h = absurd cc
 
 -- ---- comments
 

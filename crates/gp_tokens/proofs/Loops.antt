@@ -2,6 +2,7 @@
 use Rattle.std.proofs.Common.{◌≡◌, ℕ, zero, suc, ◌-◌, ◌<◌, true, false, List, [], ◌∷◌, ◌++◌, length, Option, Some, None, refl, sym, ap, ◌∙◌, append_assoc, arith}
 use Rattle.std.proofs.lemmas.List.{append-nil}
 use Rattle.std.specs.Prelude.{option_map}
+use Rattle.gp_memory.proofs.Basics.{some_is as inside}
 use Rattle.gp_tokens.specs.declared.token.Token.{Token}
 use Rattle.gp_tokens.specs.declared.error.ReadError.{ReadError}
 use Rattle.gp_tokens.specs.declared.error.ReadError.TheVariants as error
@@ -26,9 +27,6 @@ with_nothing (Some x) = refl
 regroup : {A : Type 0} (front : List A) (x : A) (read : Option (List A × List Token)) → with_front front (read >>= λ xs. Some (x ∷ xs.0, xs.1)) ≡ with_front (front ++ x ∷ []) read
 regroup front x None = refl
 regroup front x (Some y) = ap (λ (xs : List _). Some (xs, y.1)) (simp append_assoc)
-
-inside : {A : Type 0} (x y : A) → Some x ≡ Some y → x ≡ y
-inside x y e = cc
 
 module _ {A : Type 0} (want : Want) (one : Reader A) where
   link : (n : ℕ) (ts : List Token) → begins want ts ≡ true → 0 < n → many want one n ts ≡ (one ts >>= λ x. many want one (n - 1) x.1 >>= λ xs. Some (x.0 ∷ xs.0, xs.1))

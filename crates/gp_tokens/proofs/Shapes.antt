@@ -1,6 +1,7 @@
 -- What is read has the shape, and what has the shape is read: once for each part that grammars are made of.
 use Rattle.std.proofs.Common.{◌≡◌, ℕ, zero, suc, ◌≤◌, Bool, true, false, List, [], ◌∷◌, length, Option, Some, None, refl, subst, arith}
 use Rattle.std.specs.Prelude.{if◌then◌else◌, option_map}
+use Rattle.gp_memory.proofs.Basics.{some_is}
 use Rattle.gp_tokens.specs.declared.token.Kind.TheVariants as k
 use Rattle.gp_tokens.specs.declared.token.Token.{Token}
 use Rattle.gp_tokens.specs.Numbers.{checked_number}
@@ -17,9 +18,6 @@ use Rattle.gp_tokens.proofs.Wants.{excluded}
 pub bind_some : {A B : Type 0} (o : Option A) (f : A → Option B) (y : B) → (o >>= f) ≡ Some y → (x : A) × (o ≡ Some x) × (f x ≡ Some y)
 bind_some None f y h = absurd cc
 bind_some (Some x) f y h = (x, refl, h)
-
-pub some_is : {A : Type 0} (x y : A) → Some x ≡ Some y → x ≡ y
-some_is x y h = cc
 
 -- ---- what is read has the shape
 

@@ -5,10 +5,11 @@ use Rattle.std.specs.List.{prefix_len, list_all}
 use Rattle.std.specs.Str.{bytes_eq}
 use Rattle.std.proofs.lemmas.List.{length-append}
 use Rattle.std.proofs.Math.Seq.{take-append_seam, get_or-append_seam}
-use Rattle.std.proofs.lemmas.Bool.{lt-ltb, ltb-true, lt-leb, le-leb}
+use Rattle.std.proofs.lemmas.Bool.{lt-ltb, lt-leb, le-leb}
 use Rattle.std.proofs.lemmas.Bool.Decides.{Decides-eqb}
 use denote.Enum.Bare.{same_true}
 use Rattle.std.proofs.Common.{rules}
+use Rattle.gp_memory.proofs.Basics.{both, not_less, not_true}
 use Rattle.gp_tokens.specs.contracts.token.Kind.{the_type}
 use Rattle.gp_tokens.specs.declared.fault.LexFault.TheVariants as fault
 use Rattle.gp_tokens.specs.declared.front.Class.TheVariants as class
@@ -22,7 +23,7 @@ use Rattle.gp_tokens.specs.Kinds.{same_kind}
 use Rattle.gp_tokens.specs.Numbers.{number_of, checked_number}
 use Rattle.gp_tokens.specs.Cut.{EndsComment, closes, goes_on, BeginsComment, HasNoLongerSign}
 use Rattle.gp_tokens.proofs.Runs.{passes}
-use Rattle.gp_tokens.proofs.Fronts.{both, two_are, found, longest, begun, stands_there, none_stands, goods}
+use Rattle.gp_tokens.proofs.Fronts.{two_are, found, longest, begun, stands_there, none_stands, goods}
 
 -- ---- runs
 
@@ -102,13 +103,6 @@ word_word at text behind words mixed stops =
     let first : take (length text) (text ++ behind) ≡ text = take-append_seam text behind in
     let more : nat_lt (run class.Digit text) (length text) ≡ true = lt-ltb (run class.Digit text) (length text) (part_run is_digit text mixed) in
     rw (size, first, more) refl
-
-not_less : (n : ℕ) → nat_lt n n ≡ false
-not_less n = go (nat_lt n n) refl
-  where
-    go : (b : Bool) → nat_lt n n ≡ b → nat_lt n n ≡ false
-    go true e = let lt = ltb-true n n e in absurd (omega arith)
-    go false e = e
 
 word_number : (at : ℕ) (text behind : List ℕ) → list_all is_digit text ≡ true → is_word_byte (slice_index behind 0) ≡ false → word at (text ++ behind) ≡ number_token at (length text) (checked_number text)
 word_number at text behind digits stops =
@@ -264,10 +258,6 @@ begins_sign b = not (is_blank b) && not (is_word_byte b) && not (b == 34)
 
 firsts : (s : Kind × List ℕ) → Contains signs s → begins_sign (slice_index s.1 0) ≡ true
 firsts = passes (λ (s : Kind × List ℕ). begins_sign (slice_index s.1 0)) signs refl
-
-not_true : (b : Bool) → not b ≡ true → b ≡ false
-not_true true h = absurd cc
-not_true false h = refl
 
 signed_at : (at b : ℕ) (t : List ℕ) → is_blank b ≡ false → is_word_byte b ≡ false → (b == 34) ≡ false → (BeginsComment (b ∷ t) → ⊥) → front at (b ∷ t) ≡ signed at (sign b (slice_index t 0))
 unfolding front

@@ -3,6 +3,7 @@ use Rattle.std.proofs.Common.{◌≡◌, ℕ, suc, Bool, true, false, List, [], 
 use Rattle.std.specs.Prelude.{if◌then◌else◌, option_map, ◌&&◌, ◌==◌, not, nat_le, nat_eq}
 use Rattle.std.proofs.lemmas.Bool.{leb-true, le-leb, eqb-true, eq-eqb, ne_eqb}
 use Rattle.std.proofs.lemmas.List.Elements.{All-nil, All-cons, All-head, All-tail}
+use Rattle.gp_memory.proofs.Basics.{both, some_is}
 use Rattle.gp_tokens.specs.Bytes.{is_string_byte}
 use Rattle.gp_values.specs.Texts.{IsCharacter, IsText}
 use Rattle.gp_tokens.specs.declared.token.Kind.TheVariants as k
@@ -12,11 +13,7 @@ use Rattle.gp_tokens.specs.declared.want.Want.TheVariants as wants
 use Rattle.gp_tokens.specs.Shape.{Is, IsNumberAt, IsString}
 use Rattle.gp_tokens.specs.Reading.{token, number_at, closed, quoted, IsQuoted, string}
 use Rattle.gp_tokens.specs.GrammarLaws.{Sound, Again, Anything, Begins, Shrinks}
-use Rattle.gp_tokens.proofs.Shapes.{bind_some, some_is, token_sound, token_again, token_begins, token_shrinks}
-
-both : (a b : Bool) → (a && b) ≡ true → (a ≡ true) × (b ≡ true)
-both true b h = (refl, h)
-both false b h = absurd cc
+use Rattle.gp_tokens.proofs.Shapes.{bind_some, token_sound, token_again, token_begins, token_shrinks}
 
 pub told : (b : ℕ) → is_string_byte b ≡ true → IsCharacter b
 told b h =

@@ -5,6 +5,7 @@ use Rattle.std.proofs.lemmas.Bool.{leb-true}
 use Rattle.std.specs.Char.{is_ascii_uppercase, is_ascii_lowercase}
 use Rattle.std.specs.Str.{bytes_eq}
 use Rattle.std.proofs.lemmas.Slice.Eq.{bytes_eq-Decides}
+use Rattle.gp_memory.proofs.Basics.{both}
 use denote.Enum.Bare.{same_true, true_same}
 use Rattle.gp_tokens.specs.contracts.token.Kind.{the_type}
 use Rattle.gp_tokens.specs.declared.token.Kind.{Kind}
@@ -23,10 +24,6 @@ kind_true a b h = same_true the_type (search rules) a b h
 pub kind_same : (a : Kind) → same_kind a a ≡ true
 unfolding same_kind
 kind_same a = true_same the_type a a refl
-
-both : (a b : Bool) → (a && b) ≡ true → (a ≡ true) × (b ≡ true)
-both true b h = (refl, h)
-both false b h = absurd cc
 
 false_by : (b : Bool) → (b ≡ true → ⊥) → b ≡ false
 false_by true h = absurd (h refl)

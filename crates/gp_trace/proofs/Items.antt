@@ -6,13 +6,14 @@ use Rattle.std.specs.Str.{all_ascii_digits}
 use Rattle.std.specs.Char.{is_ascii_digit}
 use Rattle.std.proofs.lemmas.Fmt.{decimal_injective}
 use Rattle.std.proofs.lemmas.List.{append_cancel_left, append_cancel_right}
+use Rattle.gp_memory.proofs.Basics.{and_both}
 use Rattle.gp_syntax.specs.declared.found.EdgeImage.{EdgeImage}
 use Rattle.gp_syntax.specs.Rule.{Found}
 use Rattle.gp_syntax.specs.Run.{Item, Stepped, Turned, Back}
 use Rattle.gp_trace.specs.TraceText.{image_word, images_of, found_words, item_words, item_line}
 use Rattle.gp_trace.specs.Reading.{IsNumber, IsHeld, CanBeHeld}
 use Rattle.gp_trace.specs.inside.Lines.{item_lines}
-use Rattle.gp_trace.proofs.Bytes.{and_left, and_right, and_both, lacks, lacks_append, no_cut, first_of, rest_of, cut_same, digits, lacks_digits, list_all_append, split_joined, join_lacks}
+use Rattle.gp_trace.proofs.Bytes.{lacks, lacks_append, no_cut, first_of, rest_of, cut_same, digits, lacks_digits, list_all_append, split_joined, join_lacks}
 
 pub all_tail : {A : Type 0} (P : A → Type 0) (x : A) (xs : List A) → All P (x ∷ xs) → All P xs
 all_tail P x xs h k d b = h (suc k) d (omega arith)

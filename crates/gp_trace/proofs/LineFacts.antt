@@ -7,6 +7,7 @@ use Rattle.std.specs.Cmp.Lexicographic.{pointwise}
 use Rattle.std.proofs.Math.Dec.{eqb}
 use Rattle.std.proofs.lemmas.Slice.Eq.{slice_eq-Decides}
 use Rattle.std.proofs.lemmas.Bool.Decides.{Decides-eqb}
+use Rattle.gp_memory.proofs.Basics.{map_push as map_more}
 use Rattle.gp_syntax.specs.declared.found.Item.{Item as Recorded}
 use Rattle.gp_syntax.specs.Tree.{item_of}
 use Rattle.gp_syntax.specs.Run.{Item}
@@ -85,10 +86,6 @@ stop_at text items rest n k line word b was ends e tested off is none c =
     read_stop text (map item_of items) rest n k was ends
     (λ h. absurd (let t : b ≡ true = (slice_eq-Decides Decides-eqb line word b tested).1 (e ∙ h ∙ sym is) in let u : true ≡ false = sym t ∙ off in cc))
     (subst IsLineOfNone e none) (omega arith)
-
-map_more : {A B : Type 0} (f : A → B) (xs : List A) (x : A) → map f (xs ++ x ∷ []) ≡ map f xs ++ f x ∷ []
-map_more f [] x = refl
-map_more f (y ∷ xs) x = ap (λ l. f y ∷ l) (map_more f xs x)
 
 pub more_at : (text : List ℕ) (items items' : List Recorded) (rest rest' : List ℕ) (n : ℕ) (line : List ℕ) (i : Recorded) → HasRead text (map item_of items) rest → EndsLine rest n → line ≡ take n rest → rest' ≡ drop (n + 1) rest → IsLineOf line (item_of i)
     → items' ≡ items ++ i ∷ [] → HasRead text (map item_of items') rest'

@@ -1,6 +1,6 @@
 -- What is put on a sheet, one after the other.
 use Rattle.std.proofs.Common.{◌≡◌, List, [], ◌++◌, ℕ, sym, ap, subst, ◌∙◌, append_assoc, append-nil}
-use Rattle.std.specs.Prelude.{Result, Ok, Err, IfOk, false}
+use Rattle.std.specs.Prelude.{false}
 use Rattle.gp_trace.specs.declared.sheet.Sheet.{Sheet}
 use Rattle.gp_trace.specs.inside.Puts.{Puts}
 
@@ -20,8 +20,3 @@ told {a} {b} e h = subst (λ (l : List ℕ). Puts a b l) (sym e) h
 -- on an empty sheet it stands alone
 pub alone : {a b : Sheet} {ps : List ℕ} → a.text.items ≡ [] → Puts a b ps → b.refused ≡ false → b.text.items ≡ ps
 alone {ps = ps} e h r = h.behind r ∙ ap (λ l. l ++ ps) e
-
--- what holds of a text on a sheet holds of the text that is taken from it
-pub taken : {T E : Type 0} {P Q : T → Type 0} (r : Result T E) → ((x : T) → P x → Q x) → IfOk r P → IfOk r Q
-taken (Ok x) f h = f x h
-taken (Err e) f h = tt

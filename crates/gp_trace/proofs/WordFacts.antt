@@ -12,6 +12,7 @@ use Rattle.std.proofs.lemmas.Bool.Decides.{Decides-eqb}
 use Rattle.std.proofs.lemmas.Fmt.{decimal_injective, parse-decimal}
 use Rattle.std.proofs.lemmas.List.{append_cancel_right, length-map, take-map, drop-map}
 use Rattle.std.proofs.lemmas.List.Splits.{join_with_byte-slice_split}
+use Rattle.gp_memory.proofs.Basics.{map_append, within_of}
 use Rattle.gp_syntax.specs.declared.found.EdgeImage.{EdgeImage}
 use Rattle.gp_syntax.specs.declared.found.Item.{Item as Recorded}
 use Rattle.gp_syntax.specs.Tree.{item_of}
@@ -25,11 +26,6 @@ use Rattle.gp_trace.proofs.Items.{all_head, all_tail, not_word, words_back}
 -- the texts of words
 abbrev pub texts : List (Bor (List ℕ)) → List (List ℕ)
 texts ws = map (λ (w : Bor (List ℕ)). w.now) ws
-
-pub within_of : {A : Type 0} (xs : List A) (k : ℕ) (x : A) → slice_get xs k ≡ Some x → k < length xs
-within_of [] k x h = absurd cc
-within_of (y ∷ xs) zero x h = omega arith
-within_of (y ∷ xs) (suc k) x h = let b = within_of xs k x h in omega arith
 
 pub text_at : (ws : List (Bor (List ℕ))) (k : ℕ) (d : Bor (List ℕ)) → k < length ws → slice_get (texts ws) k ≡ Some ((get_or ws k d).now)
 text_at [] k d b = absurd (omega arith)
@@ -74,21 +70,11 @@ take_more [] k x h = absurd cc
 take_more (y ∷ xs) zero x h = ap (λ z. z ∷ []) (same_Some y x h)
 take_more (y ∷ xs) (suc k) x h = let e : suc k + 1 ≡ suc (k + 1) = omega arith in rw e (ap (λ l. y ∷ l) (take_more xs k x h))
 
-map_append : {A B : Type 0} (f : A → B) (xs ys : List A) → map f (xs ++ ys) ≡ map f xs ++ map f ys
-map_append f [] ys = refl
-map_append f (x ∷ xs) ys = ap (λ l. f x ∷ l) (map_append f xs ys)
-
 all_more : {A : Type 0} (P : A → Type 0) (xs : List A) (x : A) → All P xs → P x → All P (xs ++ x ∷ [])
 all_more P [] x h p zero d b = p
 all_more P [] x h p (suc k) d b = absurd (omega arith)
 all_more P (y ∷ xs) x h p zero d b = h 0 y (omega arith)
 all_more P (y ∷ xs) x h p (suc k) d b = all_more P xs x (all_tail P y xs h) p k d (omega arith)
-
-take_past : {A : Type 0} (xs : List A) (k : ℕ) → length xs ≤ k → take k xs ≡ xs
-take_past [] zero b = refl
-take_past [] (suc k) b = refl
-take_past (x ∷ xs) zero b = absurd (omega arith)
-take_past (x ∷ xs) (suc k) b = ap (λ l. x ∷ l) (take_past xs k (omega arith))
 
 pub nodes_more : (ws : List (List ℕ)) (k : ℕ) (w : List ℕ) (n : ℕ) (m0 m : Found) → slice_get ws k ≡ Some w → SpellsNumber w n → PutsNodes (take k ws) m0 m
     → (m' : Found) → m' ≡ record m { nodes = m.nodes ++ n ∷ [] } → PutsNodes (take (k + 1) ws) m0 m'

@@ -1,9 +1,10 @@
 -- What is told is taken back.
 use Rattle.std.proofs.Common.{◌≡◌, inl, inr, ℕ, zero, suc, ◌+◌, ◌<◌, ◌≤◌, min, List, [], ◌∷◌, ◌++◌, length, take, drop, Option, Some, None, slice_get, slice_set, refl, sym, ap, subst, ◌∙◌, arith, append-nil, append_assoc, length-append, All}
-use Rattle.std.proofs.lemmas.Option.{none-some, same_Some}
+use Rattle.std.proofs.lemmas.Option.{none-some}
 use Rattle.std.proofs.lemmas.Bool.{cases_eq, cases_lt}
 use Rattle.std.proofs.lemmas.List.{length-set, drop-append-le, drop_all, take-append-le, take_all}
 use Rattle.std.proofs.lemmas.List.Elements.{All-append, All-nil, All-cons}
+use Rattle.gp_memory.proofs.Basics.{set_back}
 use Rattle.gp_values.specs.declared.atom.Atom.{Atom}
 use Rattle.gp_syntax.specs.Assigned.{PartialAssignment}
 use Rattle.gp_unify.specs.Extension.{known_of}
@@ -12,11 +13,6 @@ use Rattle.gp_unify.specs.Unify.{with_value}
 use Rattle.gp_unify.proofs.Unifies.{with_here, with_apart}
 
 -- ---- lists
-
-set_back : {X : Type 0} (xs : List X) (i : ℕ) (y n : X) → slice_get xs i ≡ Some n → slice_set (slice_set xs i y) i n ≡ xs
-set_back [] i y n e = absurd (none-some n e)
-set_back (x ∷ xs) zero y n e = ap (λ z. z ∷ xs) (sym (same_Some x n e))
-set_back (x ∷ xs) (suc i) y n e = ap (λ z. x ∷ z) (set_back xs i y n e)
 
 set_here : {X : Type 0} (xs : List X) (i : ℕ) (y n : X) → slice_get xs i ≡ Some n → slice_get (slice_set xs i y) i ≡ Some y
 set_here [] i y n e = absurd (none-some n e)

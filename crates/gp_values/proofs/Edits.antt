@@ -5,6 +5,7 @@ use Rattle.std.specs.Ordering.{nat_cmp}
 use Rattle.std.specs.Cmp.{nat_cmp_total, unsigned_tied}
 use Rattle.std.specs.FinMap.{FinMap, get, insert, remove, len, gets, get-empty, len-insert, len-remove, empty_of_len, same_map, nat_cmp-IsAntisymmetric}
 use Rattle.std.proofs.lemmas.Grind.{common_steps}
+use Rattle.gp_memory.proofs.Basics.{less_one, not_there as vacant}
 use Rattle.gp_values.specs.Atoms.{AreAtoms}
 use Rattle.gp_values.specs.Graph.{Node, Edge, Graph, IsGraph, node_at, edge_at, node_count, with_node, with_edge, without_node, without_edge, relabeled, with_node_at, with_edge_at, without_node_number, without_edge_number}
 use Rattle.gp_values.proofs.Graphs.{IsSome-insert, IsSome-inserted, each-insert}
@@ -48,10 +49,6 @@ some_there m k h = let ne : len m ≢ 0 = none_in_empty m k h in omega arith
 
 -- ---- numbers that are vacant
 
-vacant : {X : Type 0} (o : Option X) → (IsSome o → ⊥) → o ≡ None
-vacant None h = refl
-vacant (Some x) h = absurd (h refl)
-
 pub next_node_vacant : (g : Graph) → IsGraph g → node_at g g.next_node ≡ None
 next_node_vacant g w = vacant (node_at g g.next_node) (λ s. let b : g.next_node < g.next_node = w.nodes_below g.next_node s in omega arith)
 
@@ -85,9 +82,6 @@ edge_put_back g e d h = ap (λ (m : FinMap nat_cmp Edge). record g { edges = m }
 
 pub relabeled_back : (g : Graph) (n : ℕ) (x y : Node) → node_at g n ≡ Some x → relabeled (relabeled g n y) n x ≡ g
 relabeled_back g n x y h = ap (λ (m : FinMap nat_cmp Node). record g { nodes = m }) (insert-inserted g.nodes n x y h)
-
-less_one : (n : ℕ) → n + 1 - 1 ≡ n
-less_one n = omega arith
 
 pub node_dropped : (g : Graph) (x : Node) → IsGraph g → without_node_number (without_node (with_node g x) g.next_node) ≡ g
 node_dropped g x w =

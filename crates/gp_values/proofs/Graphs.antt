@@ -8,6 +8,7 @@ use Rattle.std.specs.FinMap.{FinMap, get, insert, remove, gets, get-empty, same_
 use Rattle.std.proofs.lemmas.Bool.{cases_eq}
 use Rattle.std.proofs.lemmas.Grind.{common_steps}
 use Rattle.std.proofs.lemmas.Option.{none-some}
+use Rattle.gp_memory.proofs.Basics.{is_some_of as some_of, some_is as same_some}
 use Rattle.gp_values.specs.declared.atom.Atom.{Atom}
 use Rattle.gp_values.specs.declared.marks.EdgeMark.{EdgeMark}
 use Rattle.gp_values.specs.Atoms.{AreAtoms}
@@ -54,9 +55,6 @@ get-removed m k q v h =
 
 pub IsSome-removed : {X : Type 0} (m : FinMap nat_cmp X) (k q : ℕ) → IsSome (get (remove m k) q) → IsSome (get m q)
 IsSome-removed m k q h = grind (gets, arith, common_steps, unsigned_tied q k)
-
-same_some : {X : Type 0} (a b : X) → Some a ≡ Some b → a ≡ b
-same_some a b e = cc
 
 -- a fact of what a map has at each key, after one key was given something of which it holds
 pub each-insert : {X : Type 0} (P : X → Type 0) (m : FinMap nat_cmp X) (k : ℕ) (v : X) → P v → ((q : ℕ) (x : X) → get m q ≡ Some x → P x) → (q : ℕ) (x : X) → get (insert m k v) q ≡ Some x → P x
@@ -129,10 +127,6 @@ IsGraph-relabeled g k x w s v = record {
   node_labels = each-insert (λ (y : Node). AreAtoms y.label) g.nodes k x v w.node_labels;
   edge_labels = w.edge_labels;
 }
-
-some_of : {X : Type 0} (o : Option X) (x : X) → o ≡ Some x → IsSome o
-some_of None x e = cc
-some_of (Some y) x e = refl
 
 relabeled_edge-at : (g : Graph) (k : ℕ) (l : List Atom) (m : EdgeMark) (o : Option Edge) → edge_at g k ≡ o → IsGraph g → AreAtoms l
     → IsGraph (option_map_or (λ (d : Edge). with_edge_at g k (record d { label = l; mark = m })) o g)

@@ -1,6 +1,6 @@
 -- A walk over the numbers meets the entries of a map in order.
-use Rattle.std.proofs.Common.{inl, inr, ◌≡◌, ℕ, zero, suc, ◌+◌, ◌<◌, ◌≤◌, Bool, true, false, cond, List, ◌++◌, refl, sym, ap, ◌∙◌, arith, append_assoc, append-nil}
-use Rattle.std.specs.Prelude.{◌⊎◌, Option, Some, None, IsSome, ◌==◌, ◌&&◌}
+use Rattle.std.proofs.Common.{inl, inr, ◌≡◌, ℕ, zero, suc, ◌+◌, ◌<◌, ◌≤◌, true, false, cond, List, ◌++◌, refl, sym, ap, ◌∙◌, arith, append_assoc, append-nil}
+use Rattle.std.specs.Prelude.{◌⊎◌, Option, Some, None, IsSome, ◌==◌}
 use Rattle.std.specs.Ordering.{nat_cmp, is_lt}
 use Rattle.std.specs.Cmp.{unsigned_tied}
 use Rattle.std.specs.FinMap.Entries.{below_all, find, is_sorted}
@@ -8,6 +8,7 @@ use Rattle.std.specs.FinMap.{FinMap, get, entries, from_sorted, get-from_sorted,
 use Rattle.std.specs.Cmp.{nat_cmp_total}
 use Rattle.std.proofs.Math.Dec.{T}
 use Rattle.std.proofs.lemmas.Grind.{common_steps}
+use Rattle.gp_memory.proofs.Basics.{both_true, not_there as none_of}
 use Rattle.gp_values.specs.Order.{numbered, entries_from}
 
 apart : (q n : ℕ) → (q < n) ⊎ (n < q) → (q == n) ≡ false
@@ -51,10 +52,6 @@ find-within m q n (suc count) h past =
       | inr b ↦ find-past q n (get m n) (entries_from m (n + 1) count) (apart q n (inr b)) ∙ find-within m q (n + 1) count (omega arith) (λ k. past (omega arith))
     ]
 
-both_true : (a b : Bool) → T a → T b → T (a && b)
-both_true true b h k = k
-both_true false b h k = absurd h
-
 above_one : {X : Type 0} (q n : ℕ) (o : Option X) (rest : List (ℕ × X)) → q < n → T (below_all nat_cmp q rest) → T (below_all nat_cmp q (numbered n o ++ rest))
 above_one q n None rest h all = all
 above_one q n (Some x) rest h all = let e : is_lt (nat_cmp q n) ≡ true = grind (arith, common_steps) in rw e all
@@ -70,10 +67,6 @@ in_order_one n (Some x) rest all sorted = both_true _ _ all sorted
 in_order : {X : Type 0} (m : FinMap nat_cmp X) (n count : ℕ) → T (is_sorted nat_cmp (entries_from m n count))
 in_order m n zero = tt
 in_order m n (suc count) = in_order_one n (get m n) (entries_from m (n + 1) count) (above m n (n + 1) count (omega arith)) (in_order m (n + 1) count)
-
-none_of : {X : Type 0} (o : Option X) → (IsSome o → ⊥) → o ≡ None
-none_of None never = refl
-none_of (Some x) never = absurd (never refl)
 
 -- a map with no entry from this number on has the entries that the walk to it meets
 pub entries-walk : {X : Type 0} (m : FinMap nat_cmp X) (count : ℕ) → ((q : ℕ) → IsSome (get m q) → q < count) → entries m ≡ entries_from m 0 count

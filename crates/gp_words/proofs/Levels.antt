@@ -1,6 +1,7 @@
 -- The commands of a table, each with its words.
-use Rattle.std.proofs.Common.{◌≡◌, ◌<◌, ◌≤◌, ◌+◌, ◌&&◌, Bool, true, false, List, [], ◌∷◌, map, drop, length, get_or, ℕ, zero, suc, Bor, ap, sym, refl, ◌∙◌, arith}
+use Rattle.std.proofs.Common.{◌≡◌, ◌<◌, ◌≤◌, ◌+◌, ◌&&◌, Bool, true, List, [], ◌∷◌, map, drop, length, get_or, ℕ, zero, suc, Bor, ap, sym, ◌∙◌, arith}
 use Rattle.std.proofs.lemmas.List.{at_drop_more, at_drop_all}
+use Rattle.gp_memory.proofs.Basics.{and_left as left_true, and_right as right_true}
 use Rattle.clap.specs.Words.{App, new_app, with_subcommand}
 use Rattle.gp_words.specs.CommandLine.{gp2, top}
 use Rattle.gp_words.specs.inside.Words.{AddsLevel, with_words}
@@ -27,14 +28,6 @@ are_plain (level ∷ levels) = (level_of level).top.is_plain && are_plain levels
 pub record Left (levels : List Level) (k : ℕ) (app : App) : Type 0 where
   pub makes : with_levels app (drop k levels) ≡ gp2
   pub plain : are_plain levels ≡ true
-
-left_true : (a b : Bool) → (a && b) ≡ true → a ≡ true
-left_true true b e = refl
-left_true false b e = absurd cc
-
-right_true : (a b : Bool) → (a && b) ≡ true → b ≡ true
-right_true true b e = e
-right_true false b e = absurd cc
 
 plain_at : (levels : List Level) (k : ℕ) (d : Level) → are_plain levels ≡ true → k < length levels → (level_of (get_or levels k d)).top.is_plain ≡ true
 plain_at [] k d e h = absurd (omega (arith, h))

@@ -1,10 +1,11 @@
 -- Numbers of the command line.
-use Rattle.std.proofs.Common.{◌≡◌, ℕ, ◌<◌, ◌^◌, ◌&&◌, Bool, true, false, [], ◌∷◌, refl, sym, subst, arith, None}
+use Rattle.std.proofs.Common.{◌≡◌, ℕ, ◌<◌, ◌^◌, Bool, true, false, [], ◌∷◌, refl, sym, subst, arith, None}
 use Rattle.std.specs.Prelude.{nat_le}
 use Rattle.std.specs.Str.{all_ascii_digits}
 use Rattle.std.specs.Str.Parse.{IsNumeral, digits_value, without_leading_plus}
 use Rattle.std.proofs.lemmas.Bool.{leb-true}
 use Rattle.std.proofs.lemmas.Str.Parse.{numerals_by_value, tells_all_ascii_digits, without_leading_plus_none, not_in_digits}
+use Rattle.gp_memory.proofs.Basics.{and_right as second}
 use Rattle.gp_values.specs.Names.{Name}
 use Rattle.gp_words.specs.CommandLine.{is_numeral, is_between, number_between}
 
@@ -14,10 +15,6 @@ no_plus [] h = absurd cc
 no_plus (d ∷ ds) h =
     let m = numerals_by_value (λ t. all_ascii_digits t ≡ true) tells_all_ascii_digits in
     (without_leading_plus_none (d ∷ ds) (not_in_digits m (d ∷ ds) 43 h (λ r. omega (arith, r.0)) 0 (omega arith)), (omega arith, m.to (d ∷ ds) h))
-
-second : (a b : Bool) → (a && b) ≡ true → b ≡ true
-second true b e = e
-second false b e = absurd cc
 
 -- what is no number of 64 bits is none that is small enough
 pub too_great : (least most : ℕ) (ds : Name) → most < 2 ^ 64 → (IsNumeral 10 (without_leading_plus ds) × (digits_value 10 (without_leading_plus ds) < 2 ^ 64) → ⊥) → number_between least most ds ≡ None

@@ -2,6 +2,7 @@
 use Rattle.std.proofs.Common.{◌≡◌, ℕ, ◌^◌, ◌<◌, ◌≤◌, Bool, true, false, List, ◌++◌, length, decimal, refl, arith}
 use Rattle.std.specs.Prelude.{◌&&◌, ◌==◌, not, if◌then◌else◌, nat_lt, slice_index, Contains}
 use Rattle.std.specs.List.{list_all}
+use Rattle.gp_memory.proofs.Basics.{both, not_true}
 use Rattle.gp_tokens.specs.declared.front.First.TheVariants as f
 use Rattle.gp_tokens.specs.declared.keyword.Keyword.{Keyword}
 use Rattle.gp_tokens.specs.declared.keyword.Keyword.TheVariants as words
@@ -25,14 +26,6 @@ use Rattle.gp_fmt.specs.inside.Spelled.{IsWordText, IsWellSpelled}
 use Rattle.gp_fmt.proofs.Cut.Behind.{Ends}
 
 -- ---- the byte behind
-
-not_true : (b : Bool) → not b ≡ true → b ≡ false
-not_true true h = absurd cc
-not_true false h = refl
-
-both : (a b : Bool) → (a && b) ≡ true → (a ≡ true) × (b ≡ true)
-both true b h = (refl, h)
-both false b h = absurd cc
 
 -- what such a byte is not
 record IsNone (b : ℕ) : Type 0 where

@@ -1,5 +1,6 @@
 -- Labels and conditions, nested no deeper than their texts.
 use Rattle.std.proofs.Common.{◌≡◌, ℕ, zero, suc, ◌≤◌, true, false, List, [], ◌∷◌, ◌++◌, map, Option, Some, None, refl, sym, ◌∙◌, ap, ap₂, subst, arith}
+use Rattle.gp_memory.proofs.Basics.{maps_twice}
 use Rattle.gp_tokens.specs.declared.token.Token.{Token}
 use Rattle.gp_tokens.specs.declared.token.Kind.TheVariants as k
 use Rattle.gp_tokens.specs.declared.keyword.Keyword.TheVariants as words
@@ -30,7 +31,7 @@ use Rattle.gp_fmt.proofs.Deep.Quiet.{quiet_hash, quiet_comma, quiet_item, quiet_
 use Rattle.gp_fmt.proofs.Deep.Texts.{then_deeper, recast, wrap, Covers, other_covers, opening_covers, closing_covers, not_covers, name_covers, word_covers, then_covers, made_covers, seen_covers, either_covers, absent_covers, raised_covers, sign_covers}
 use Rattle.gp_fmt.proofs.Forms.{of-HasType, of-HasEdge, of-HasEdgeWith, of-Compared, of-Not, of-And, of-Or}
 use Rattle.gp_fmt.proofs.Deep.Parts.{tree_of, IsParted, Parts, roles_if, operand_deeper, tight, bracketed, either_parts, chain_parts}
-use Rattle.gp_fmt.proofs.Deep.Expressions.{expression_roles, list_covers, chain_roles, maps_twice}
+use Rattle.gp_fmt.proofs.Deep.Expressions.{expression_roles, list_covers, chain_roles}
 
 -- ---- labels
 

@@ -1,6 +1,7 @@
 -- Expressions, nested no deeper than their texts.
 use Rattle.std.proofs.Common.{◌≡◌, ℕ, zero, suc, ◌≤◌, ◌^◌, pos, negsuc, neg_ℤ, Bool, true, false, ◌||◌, nat_le, nat_lt, if◌then◌else◌, List, [], ◌∷◌, ◌++◌, map, Some, None, refl, sym, ◌∙◌, ap, ap₂, subst, arith}
 use Rattle.std.specs.Prelude.{flat_map}
+use Rattle.gp_memory.proofs.Basics.{maps_twice}
 use Rattle.gp_tokens.specs.declared.token.Token.{Token}
 use Rattle.gp_tokens.specs.declared.token.Kind.TheVariants as k
 use Rattle.gp_tokens.specs.declared.keyword.Keyword.TheVariants as words
@@ -182,11 +183,6 @@ chain_flat sign l part (x ∷ xs) =
 pub chain_roles : {Y : Type 0} (sign : Piece) (l : ℕ) (part : Y → Part) (first : Part) (xs : List Y)
     → roles (chain sign l first (map part xs)).pieces ≡ member_roles l first.level (roles first.pieces) ++ flat_map (λ z. piece_role sign ∷ member_roles l (part z).level (roles (part z).pieces)) xs
 chain_roles sign l part first xs = roles_append (member l first) (flat_map (λ y. sign ∷ member l y) (map part xs)) ∙ ap₂ (λ a b. a ++ b) (roles_if (nat_le first.level l) first.pieces) (chain_flat sign l part xs)
-
--- where each part of a chain is the part of a tree
-pub maps_twice : {A B C : Type 0} (f : B → C) (g : A → B) (xs : List A) → map f (map g xs) ≡ map (λ x. f (g x)) xs
-maps_twice f g [] = refl
-maps_twice f g (x ∷ xs) = ap (λ l. f (g x) ∷ l) (maps_twice f g xs)
 
 signed_flat : {S : Type 0} (sign : S → Piece) (l : ℕ) (ys : List (Signed S Tree))
     → roles (flat_map (λ (y : Signed S Part). sign y.sign ∷ member l y.operand) (operands ys)) ≡ flat_map (λ (y : Signed S Tree). piece_role (sign y.sign) ∷ member_roles l (expression_level y.operand) (expression_roles y.operand)) ys

@@ -2,6 +2,7 @@
 use Rattle.std.proofs.Common.{◌≡◌, ℕ, Bool, true, false, not, ◌&&◌, ◌||◌, List, [], ◌∷◌, ◌++◌, map, refl, sym, ◌∙◌, ap}
 use Rattle.std.specs.Str.{bytes_eq}
 use Rattle.std.proofs.lemmas.List.{map-append}
+use Rattle.gp_memory.proofs.Basics.{both, or_right as or_second}
 use Rattle.gp_tokens.specs.declared.keyword.Keyword.{Keyword}
 use Rattle.gp_tokens.specs.declared.keyword.Keyword.TheVariants as words
 use Rattle.gp_tokens.specs.declared.token.Kind.{Kind}
@@ -53,10 +54,6 @@ pub sign_role : (kind : Kind) (r : Role) (t : Token) → ((n : Bool) → role_by
 unfolding meets role_of
 sign_role kind r t all m = ap (λ x. role_by x (is_word words.Not t)) (kind_true t.kind kind m) ∙ all (is_word words.Not t)
 
-both : (a b : Bool) → (a && b) ≡ true → (a ≡ true) × (b ≡ true)
-both true b h = (refl, h)
-both false b h = absurd cc
-
 pub not_role : (t : Token) → meets not_word t ≡ true → role_of t ≡ role.Not
 unfolding meets role_of
 not_role t m = ap (λ x. role_by x (is_word words.Not t)) (kind_true t.kind k.Word (both _ _ m).0) ∙ ap (λ n. role_by k.Word n) m
@@ -78,10 +75,6 @@ kind_is other text s m = absurd cc
 name_kept : (t : Token) → IsSpelledToken t → may_be_name t.kind ≡ true → role_of t ≡ name_role t.text
 unfolding role_of name_role
 name_kept t s m = ap (λ x. role_by x (same_kind x k.Word && bytes_eq t.text (keyword_text words.Not))) (sym (kind_is t.kind t.text s m))
-
-or_second : (a b : Bool) → b ≡ true → (a || b) ≡ true
-or_second true b h = refl
-or_second false b h = h
 
 item : (a b c : Bool) → (a || (b && c)) ≡ true → (a || b) ≡ true
 item true b c h = refl

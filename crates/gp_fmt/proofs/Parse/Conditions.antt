@@ -1,5 +1,6 @@
 -- Each condition that is read of the tokens of a text is read again.
 use Rattle.std.proofs.Common.{ℕ, zero, suc, Option, Some, None}
+use Rattle.gp_memory.proofs.Basics.{neither as none_of}
 use Rattle.gp_tokens.specs.declared.token.Token.{Token}
 use Rattle.gp_values.specs.Names.{Name}
 use Rattle.gp_tokens.specs.declared.want.Want.{Want}
@@ -21,7 +22,7 @@ use Rattle.gp_expressions.specs.Conditions.{CondTree, means, comparison, compare
 use Rattle.gp_fmt.proofs.Parse.Printed.{Anything}
 use Rattle.gp_fmt.proofs.Parse.Gives.{Gives, AllOfSome, any_token, then_gives, behind_gives, made_gives, either_gives, absent_gives, separated_gives}
 use Rattle.gp_fmt.proofs.Parse.Names.{IsNamed, item, name_gives}
-use Rattle.gp_fmt.proofs.Parse.Ranges.{InRange, none_of, chained_is}
+use Rattle.gp_fmt.proofs.Parse.Ranges.{InRange, chained_is}
 use Rattle.gp_fmt.proofs.Parse.Parts.{IsGood}
 use Rattle.gp_fmt.proofs.Parse.Expressions.{list_gives}
 use Rattle.gp_fmt.proofs.Parse.Labels.{between_gives, IsGoodLabel, label_gives}

@@ -1,6 +1,7 @@
 -- Names as they are read and printed.
-use Rattle.std.proofs.Common.{◌≡◌, ◌⊎◌, inl, inr, ℕ, Bool, true, false, not, List, [], ◌∷◌, refl, sym, ap, subst, ◌∙◌}
-use Rattle.std.specs.Prelude.{◌&&◌, ◌||◌, if◌then◌else◌}
+use Rattle.std.proofs.Common.{◌≡◌, inl, inr, ℕ, Bool, true, not, List, [], ◌∷◌, refl, sym, ap, subst, ◌∙◌}
+use Rattle.std.specs.Prelude.{if◌then◌else◌}
+use Rattle.gp_memory.proofs.Basics.{both, or_cases as either}
 use Rattle.gp_tokens.specs.declared.token.Kind.{Kind}
 use Rattle.gp_tokens.specs.declared.token.Kind.TheVariants as k
 use Rattle.gp_tokens.specs.declared.token.Token.{Token}
@@ -51,14 +52,6 @@ a_number : (want : Want) (t : Token) → IsFound want t → t.kind ≡ k.Number 
 a_number want t f e =
     let s : IsSpelledNumber t.text = subst (λ (kind : Kind). IsSpelledAs kind t.text) e f.spelled in
     of_kind want t f (ap (λ (b : Bool). if b then k.Number else k.Word) s.digits ∙ sym e) s.word
-
-both : (a b : Bool) → (a && b) ≡ true → (a ≡ true) × (b ≡ true)
-both true b h = (refl, h)
-both false b h = absurd cc
-
-either : (a b : Bool) → (a || b) ≡ true → (a ≡ true) ⊎ (b ≡ true)
-either true b h = inl refl
-either false b h = inr h
 
 -- the classes of names
 pub data IsClass : Want → Type 0 where

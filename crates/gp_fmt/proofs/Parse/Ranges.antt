@@ -1,7 +1,7 @@
 -- Trees without numerals that are out of range.
-use Rattle.std.proofs.Common.{◌≡◌, List, [], ◌∷◌, ◌++◌, map, Option, Some, None, refl, ap}
-use Rattle.std.specs.Option.{option_or}
+use Rattle.std.proofs.Common.{◌≡◌, List, [], ◌∷◌, map, None, refl, ap}
 use Rattle.std.specs.List.{AllByRecursion}
+use Rattle.gp_memory.proofs.Basics.{all_append, neither as none_of}
 use Rattle.gp_expressions.specs.declared.ranged.Ranged.{Ranged}
 use Rattle.gp_expressions.specs.Ranges.{whole, first_past, gathered, joined, all_joined, chained}
 use Rattle.gp_fmt.proofs.Parse.Gives.{AllOfSome}
@@ -22,18 +22,10 @@ trees_whole (x ∷ xs) = ap (λ l. x ∷ l) (trees_whole xs)
 pub gathered_whole : {A : Type 0} (xs : List A) → gathered (map whole xs) ≡ whole xs
 gathered_whole xs = λ i. record { tree = trees_whole xs i; past = past_whole xs i }
 
-pub none_of : {A : Type 0} (a b : Option A) → option_or a b ≡ None → (a ≡ None) × (b ≡ None)
-none_of None b h = (refl, h)
-none_of (Some x) b h = absurd cc
-
 pub gathered_all : {A : Type 0} (P : A → Type 0) (rs : List (Ranged A)) → AllByRecursion (InRange P) rs → first_past rs ≡ None → AllByRecursion P (map (λ (r : Ranged A). r.tree) rs)
 unfolding first_past
 gathered_all P [] h e = tt
 gathered_all P (r ∷ rs) h e = let n = none_of r.past (first_past rs) e in (h.0 n.0, gathered_all P rs h.1 n.1)
-
-all_append : {A : Type 0} (P : A → Type 0) (xs ys : List A) → AllByRecursion P xs → AllByRecursion P ys → AllByRecursion P (xs ++ ys)
-all_append P [] ys h k = k
-all_append P (x ∷ xs) ys h k = (h.0, all_append P xs ys h.1 k)
 
 all_of_all : {A : Type 0} (P : A → Type 0) (xss : List (List A)) → AllByRecursion (AllByRecursion P) xss → AllByRecursion P (joined xss)
 unfolding joined

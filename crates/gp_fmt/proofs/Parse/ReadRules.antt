@@ -2,6 +2,7 @@
 use Rattle.std.proofs.Common.{◌≡◌, ℕ, List, [], Option, None}
 use Rattle.std.specs.Option.{option_or}
 use Rattle.std.specs.List.{AllByRecursion}
+use Rattle.gp_memory.proofs.Basics.{neither as none_of}
 use Rattle.gp_tokens.specs.declared.token.Token.{Token}
 use Rattle.gp_values.specs.Names.{Name}
 use Rattle.gp_tokens.specs.declared.want.Want.{Want}
@@ -23,7 +24,7 @@ use Rattle.gp_fmt.proofs.Parse.Printed.{Anything}
 use Rattle.gp_fmt.proofs.Parse.Gives.{Gives, any_token, then_gives, behind_gives, made_gives, either_gives, absent_gives, many_gives, separated_gives, gives_all, leaves_spelled}
 use Rattle.gp_fmt.proofs.Parse.Names.{IsNamed, item, name_gives}
 use Rattle.gp_fmt.proofs.Parse.Names as names
-use Rattle.gp_fmt.proofs.Parse.Ranges.{InRange, none_of, gathered_all}
+use Rattle.gp_fmt.proofs.Parse.Ranges.{InRange, gathered_all}
 use Rattle.gp_fmt.proofs.Parse.Labels.{IsGoodLabel, label_gives}
 use Rattle.gp_fmt.proofs.Parse.ConditionParts.{IsGoodCondition}
 use Rattle.gp_fmt.proofs.Parse.Conditions.{condition_gives}

@@ -2,6 +2,7 @@
 use Rattle.std.proofs.Common.{ℕ, zero, suc, ◌≤◌, List, [], ◌∷◌, length, All, None, refl, arith}
 use Rattle.std.specs.List.{AllByRecursion}
 use Rattle.std.proofs.lemmas.List.Elements.{recursion_from_All, All-from_recursion}
+use Rattle.gp_memory.proofs.Basics.{neither as none_of}
 use Rattle.gp_tokens.specs.declared.token.Token.{Token}
 use Rattle.gp_values.specs.Names.{Name}
 use Rattle.gp_tokens.specs.declared.want.Want.TheVariants as wants
@@ -23,7 +24,7 @@ use Rattle.gp_fmt.proofs.Parse.Printed.{Anything, printed_whole}
 use Rattle.gp_fmt.proofs.Parse.Gives.{Gives, then_gives, behind_gives, made_gives, either_gives, absent_gives, many_gives}
 use Rattle.gp_fmt.proofs.Parse.Names.{IsNamed, name_gives}
 use Rattle.gp_fmt.proofs.Parse.Names as names
-use Rattle.gp_fmt.proofs.Parse.Ranges.{InRange, none_of, gathered_all, joined_all}
+use Rattle.gp_fmt.proofs.Parse.Ranges.{InRange, gathered_all, joined_all}
 use Rattle.gp_fmt.proofs.Parse.Labels.{between_gives}
 use Rattle.gp_fmt.proofs.Parse.CommandParts.{IsGoodCommand}
 use Rattle.gp_fmt.proofs.Parse.Commands.{commands_give}

@@ -1,7 +1,8 @@
 use Rattle.std.proofs.Common.{refl}
+use Rattle.gp_memory.proofs.Basics.{no_both}
 use Rattle.gp_syntax.specs.Tree.{rule_of_tree}
 use Rattle.gp_match.proofs.Judges.{judged_match}
-use Rattle.gp_certify.proofs.Walks.{no_both, applies_at}
+use Rattle.gp_certify.proofs.Walks.{applies_at}
 use Rattle.gp_certify.proofs.along.applies.Goals as goal
 
 pub returns-in-Faulty : goal.returns-in-Faulty

@@ -1,7 +1,8 @@
 use Rattle.std.proofs.Common.{◌∙◌, List, ℕ, [], ◌∷◌, ◌++◌, map, length, ap, arith}
+use Rattle.gp_memory.proofs.Basics.{no_both}
 use Rattle.gp_syntax.specs.Tree.{rule_of_tree, item_of}
 use Rattle.gp_journal.specs.Trail.{fresh}
-use Rattle.gp_certify.proofs.Walks.{no_both, item_there, walked_none, walked_more, walked_whole, breaks_off}
+use Rattle.gp_certify.proofs.Walks.{item_there, walked_none, walked_more, walked_whole, breaks_off}
 use Rattle.gp_certify.proofs.along.walk.Goals as goal
 
 pub returns-then-not-branch-clause-none : goal.returns-then-not-branch-clause-none

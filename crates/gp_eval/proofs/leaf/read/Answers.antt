@@ -2,11 +2,11 @@ use Rattle.std.proofs.Common.{◌≡◌, rules, ℕ, length, ap, sym, subst, ◌
 use mir.Val.{SFits}
 use mir.Syntax.{w128}
 use Rattle.std.proofs.lemmas.Int.{to_z-of_z}
+use Rattle.gp_memory.proofs.Basics.{some_map as some_as}
 use Rattle.gp_syntax.specs.Tree.{expression_of}
 use Rattle.gp_syntax.specs.Value.{Value, number}
 use Rattle.gp_syntax.specs.WellFormed.{IsWithin}
 use Rattle.gp_syntax.proofs.Trees.{expression_of-Number, expression_of-Variable, expression_of-InDegree, expression_of-OutDegree, expression_of-Length}
-use Rattle.gp_eval.proofs.Chains.{some_as}
 use Rattle.gp_eval.proofs.leaf.read.Goals as goal
 
 pub value_at-requires-clause-known : goal.value_at-requires-clause-known

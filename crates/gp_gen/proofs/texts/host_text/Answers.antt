@@ -1,5 +1,6 @@
 use Rattle.std.proofs.Common.{◌∙◌}
-use Rattle.gp_gen.proofs.Puts.{and_then, alone, taken}
+use Rattle.gp_memory.proofs.Basics.{taken}
+use Rattle.gp_gen.proofs.Puts.{and_then, alone}
 use Rattle.gp_gen.proofs.texts.host_text.Goals as goal
 
 pub returns : goal.returns

@@ -1,6 +1,7 @@
 use Rattle.std.proofs.Common.{◌≡◌, sym, ap, ◌∙◌}
 use Rattle.std.specs.Prelude.{Some}
-use Rattle.gp_graph.proofs.Places.{taken_next, take_all}
+use Rattle.gp_memory.proofs.Basics.{take_past as take_all}
+use Rattle.gp_graph.proofs.Places.{taken_next}
 use Rattle.gp_graph.proofs.slots.copy_of.Goals as goal
 use Rattle.gp_graph.proofs.slots.copy_of.Goals.{in-Some+in_ok-copy-in-Some, in-None}
 

@@ -1,5 +1,5 @@
 use Rattle.std.proofs.Common.{◌≡◌, ◌∙◌, ◌<◌, ◌^◌, List, length, sym, subst, ℕ, arith}
-use Rattle.gp_reader.proofs.Lists.{clash}
+use Rattle.gp_memory.proofs.Basics.{no_both as clash}
 use Rattle.gp_reader.proofs.Visits.{marked_within}
 use Rattle.gp_reader.specs.inside.Procedures.{InRange, ReachesIn, IsFirstIn, IsMarked, MarksChains}
 use Rattle.gp_scope.specs.Outline.{outline}

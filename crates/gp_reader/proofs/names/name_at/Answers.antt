@@ -1,8 +1,8 @@
 use Rattle.std.proofs.Common.{◌≡◌, ◌∙◌, ◌<◌, ap, sym, List, [], length, append-nil, slice_get, Option, Some, None, Bor, ℕ, arith, refl}
 use Rattle.std.specs.Option.{IsSome, option_or, option_copied}
 use Rattle.std.proofs.lemmas.Option.{slice_get_past}
+use Rattle.gp_memory.proofs.Basics.{some_at as element}
 use Rattle.gp_values.specs.Names.{Name}
-use Rattle.gp_syntax.proofs.Unique.{element}
 use Rattle.gp_scope.specs.Outline.{outline}
 use Rattle.gp_reader.specs.inside.Named.{procedure_names}
 use Rattle.gp_reader.proofs.Joined.{if_ok}

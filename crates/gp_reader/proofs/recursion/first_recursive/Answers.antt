@@ -1,6 +1,6 @@
+use Rattle.gp_memory.proofs.Basics.{no_both as clash}
 use borrow.Author.Count.{below_more}
 use Rattle.gp_reader.specs.inside.Procedures.{ReachesIn}
-use Rattle.gp_reader.proofs.Lists.{clash}
 use Rattle.gp_reader.proofs.recursion.first_recursive.Goals as goal
 use Rattle.gp_reader.proofs.recursion.first_recursive.Goals.{else-may_recur-via-then-may_recur+in_ok-reaches_itself+else-branch, else-may_recur-via-else-may_recur}
 

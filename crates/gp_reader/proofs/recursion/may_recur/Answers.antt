@@ -1,4 +1,4 @@
-use Rattle.gp_reader.proofs.Lists.{from_not}
+use Rattle.gp_memory.proofs.Basics.{not_false as from_not}
 use Rattle.gp_reader.proofs.Called.{none_recurs, none_unmarked}
 use Rattle.gp_reader.proofs.recursion.may_recur.Goals as goal
 

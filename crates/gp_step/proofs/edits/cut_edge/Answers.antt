@@ -1,5 +1,6 @@
 use Rattle.std.proofs.Common.{reverse}
-use Rattle.gp_step.proofs.Notes.{last_first, edge_cut}
+use Rattle.gp_memory.proofs.Basics.{last_first}
+use Rattle.gp_step.proofs.Notes.{edge_cut}
 use Rattle.gp_step.proofs.edits.cut_edge.Goals as goal
 
 pub returns-clause-undo : goal.returns-clause-undo

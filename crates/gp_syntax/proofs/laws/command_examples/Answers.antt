@@ -1,4 +1,4 @@
-use Rattle.gp_syntax.proofs.Commands.{if_takes_back, try_takes_back, failed_body_is_taken_back, break_keeps_body, empty_set_ends_loop, skip_loop_stands, then_begins, or_takes_either, procedures_run}
+use Rattle.gp_syntax.proofs.Commands.{if_takes_back, try_takes_back, failed_body_is_taken_back, break_keeps_body, empty_set_ends_loop, skip_loop_stands, then_begins, else_begins, first_part_ends, or_takes_either, procedures_run}
 use Rattle.gp_syntax.proofs.laws.command_examples.Goals as goal
 
 pub returns-clause-condition : goal.returns-clause-condition
@@ -21,6 +21,12 @@ returns-clause-standing c = skip_loop_stands
 
 pub returns-clause-then_begins : goal.returns-clause-then_begins
 returns-clause-then_begins c = then_begins
+
+pub returns-clause-else_begins : goal.returns-clause-else_begins
+returns-clause-else_begins c = else_begins
+
+pub returns-clause-first_part : goal.returns-clause-first_part
+returns-clause-first_part c = first_part_ends
 
 pub returns-clause-either : goal.returns-clause-either
 returns-clause-either c = or_takes_either

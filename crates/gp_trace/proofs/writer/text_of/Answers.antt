@@ -1,5 +1,6 @@
 use Rattle.std.proofs.Common.{◌∙◌}
-use Rattle.gp_trace.proofs.Puts.{and_then, alone, taken}
+use Rattle.gp_memory.proofs.Basics.{taken}
+use Rattle.gp_trace.proofs.Puts.{and_then, alone}
 use Rattle.gp_trace.proofs.writer.text_of.Goals as goal
 
 pub returns-clause-text : goal.returns-clause-text

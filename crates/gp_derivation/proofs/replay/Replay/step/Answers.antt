@@ -1,8 +1,9 @@
 use Rattle.std.proofs.Common.{sym, subst, ◌∙◌, map, arith}
+use Rattle.gp_memory.proofs.Basics.{no_both}
 use Rattle.gp_syntax.specs.Step.{Applies}
 use Rattle.gp_syntax.specs.Tree.{rule_of_tree}
 use Rattle.gp_derivation.proofs.Standings.{stands_step}
-use Rattle.gp_derivation.proofs.Followed.{no_both, same_rule, applies_by, without_rule, without_edge, without_match}
+use Rattle.gp_derivation.proofs.Followed.{same_rule, applies_by, without_rule, without_edge, without_match}
 use Rattle.gp_derivation.proofs.replay.Replay.step.Goals as goal
 
 pub returns-then-number-rules : goal.returns-then-number-rules

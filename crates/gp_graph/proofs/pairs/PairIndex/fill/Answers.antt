@@ -1,8 +1,9 @@
 use Rattle.std.proofs.Common.{◌≡◌, ◌<◌, ◌≤◌, ◌+◌, length, take, sym, ap, subst, ◌∙◌, arith}
 use Rattle.std.specs.Prelude.{IsSome}
+use Rattle.gp_memory.proofs.Basics.{take_past as take_all}
 use Rattle.gp_graph.specs.inside.Pairs.{pair_in, IsIndex}
 use Rattle.gp_graph.specs.declared.pairs.PairIndex.{PairIndex}
-use Rattle.gp_graph.proofs.Places.{slot_is, take_all}
+use Rattle.gp_graph.proofs.Places.{slot_is}
 use Rattle.gp_graph.proofs.Buckets.{index_none, index_taken, index_same, none_of, front_same, slot_front, slot_behind, front_more, front_none}
 use Rattle.gp_graph.proofs.Indexing.{take_short}
 use Rattle.gp_graph.proofs.pairs.PairIndex.fill.Goals as goal
