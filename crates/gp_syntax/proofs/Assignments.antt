@@ -1,8 +1,10 @@
 -- Assignments without values, and those with one value more or less.
-use Rattle.std.proofs.Common.{◌≡◌, ℕ, zero, suc, true, ◌+◌, length, List, [], ◌∷◌, ◌++◌, refl, ap, sym, ◌∙◌, replicate, arith}
+use Rattle.std.proofs.Common.{subst, take, drop, ◌≡◌, ℕ, zero, suc, true, ◌+◌, length, List, [], ◌∷◌, ◌++◌, refl, ap, sym, ◌∙◌, replicate, arith}
 use Rattle.std.specs.Prelude.{Option, Some, None, slice_get, slice_set}
+use Rattle.std.specs.List.{refill}
 use Rattle.std.proofs.lemmas.List.{length-replicate, length-set, get_or-replicate}
 use Rattle.std.proofs.lemmas.Option.{none-some, same_Some, slice_get_within, slice_get-get_or}
+use Rattle.gp_memory.proofs.Basics.{take_front}
 use Rattle.gp_values.specs.declared.atom.Atom.{Atom}
 use Rattle.gp_syntax.specs.declared.kinds.VariableType.{VariableType}
 use Rattle.gp_syntax.specs.Assigned.{PartialAssignment, IsInTypes, declared_type}
@@ -58,3 +60,10 @@ still_in_types types vs now i o e h new = rw e (record {
   count = length-set vs i o ∙ h.count;
   in_types = written (λ x v. is_of (declared_type (record { types = types; values = vs }) x) v ≡ true) vs i o h.in_types new;
 })
+
+-- a list that is lent and comes back with one place written
+pub written_back : {X : Type 0} (xs lent : List X) (i : ℕ) (x : X) → lent ≡ xs → refill (length xs) xs (slice_set lent i x) ≡ slice_set xs i x
+written_back xs lent i x e =
+    let now = slice_set xs i x in
+    let whole : take (length xs) (now ++ drop (length now) xs) ≡ now = subst (λ n. take n (now ++ drop (length now) xs) ≡ now) (length-set xs i x) (take_front now (drop (length now) xs)) in
+    subst (λ l. refill (length xs) xs (slice_set l i x) ≡ now) (sym e) whole

@@ -8,14 +8,18 @@ ghost use Rattle.gp_syntax.specs.Value.{is_of};
 use crate::kinds::VariableType;
 use gp_memory::NoMemory;
 use gp_values::List;
+use smallvec::SmallVec;
 use std::alloc::Global;
 use std::marker::Model;
+
+/// So many variables stand in an assignment itself; more take memory.
+const INLINE_VARIABLES: usize = 4;
 
 /// The values of the variables of a rule's left labels, by their places: each has a value of its declared type, or none
 /// yet.
 pub struct Assignment {
-    types: Vec<VariableType>,
-    values: Vec<Option<List>>,
+    types: SmallVec<VariableType, { INLINE_VARIABLES }>,
+    values: SmallVec<Option<List>, { INLINE_VARIABLES }>,
 }
 
 impl Drop for Assignment {
@@ -41,12 +45,12 @@ impl Assignment {
     pub fn new(alloc: Global, types: &[VariableType]) -> Result<Assignment, NoMemory>
         ensures { IfOk result (λ a. a ≡ record { types = types.now; values = replicate (length types.now) None }) }
     {
-        let mut values = Vec::new(alloc);
+        let mut values = SmallVec::with_capacity(alloc, types.len())?;
         for _ in types {
             values.push(None)?;
         }
         Ok(Assignment {
-            types: Vec::from_slice(alloc, types)?,
+            types: SmallVec::from_slice(alloc, types)?,
             values,
         })
     }

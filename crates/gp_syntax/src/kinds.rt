@@ -7,12 +7,13 @@ use gp_values::Atom;
 
 /// The declared type of a variable (Plump 2012, section 2: char is a subtype of string; int and string are subtypes
 /// of atom; atom is a subtype of list).
-#[derive(Clone, Copy, PartialEq, Eq)]
+#[derive(Clone, Copy, Default, PartialEq, Eq)]
 pub enum VariableType {
     Int,
     Char,
     String,
     Atom,
+    #[default]
     List,
 }
 
