@@ -1,6 +1,8 @@
 -- The loops that make a graph, one item after the other.
-use Rattle.std.proofs.Common.{◌≡◌, [], ◌++◌, append_assoc, append-nil, ℕ, suc, ◌+◌, ◌<◌, ◌≤◌, List, ◌∷◌, length, get_or, drop, Option, Some, refl, sym, ap, ◌∙◌, None, add-one, drop-cons}
+use Rattle.std.proofs.Common.{subst, take, zero, arith, ◌≡◌, [], ◌++◌, append_assoc, append-nil, ℕ, suc, ◌+◌, ◌<◌, ◌≤◌, List, ◌∷◌, length, get_or, drop, Option, Some, refl, sym, ap, ◌∙◌, None, add-one, drop-cons}
 use Rattle.std.specs.Prelude.{option_map}
+use Rattle.std.specs.List.{AllZip}
+use Rattle.std.proofs.Math.Seq.{take-suc}
 use Rattle.std.proofs.Math.ListN.{drop_of_length-le}
 use Rattle.gp_tokens.specs.Ahead.{◌>>=◌}
 use Rattle.gp_values.specs.declared.atom.Atom.{Atom}
@@ -87,13 +89,7 @@ not_found e fault None f h = stays _ e
 not_found e fault (Some x) f h = unrefused e (f x) h
 
 module _ (nodes : List Name) (e : EdgeTree) (g : Graph) where
-  pub source_missing : (r fault : HostFault) → Refuses r (unless fault (place_of nodes e.source)) → Fails r (one_edge_more nodes e g)
-  source_missing r fault h = not_found r fault (place_of nodes e.source) _ h
-
   module _ (s : ℕ) (from : place_of nodes e.source ≡ Some s) where
-    pub target_missing : (r fault : HostFault) → Refuses r (unless fault (place_of nodes e.target)) → Fails r (one_edge_more nodes e g)
-    target_missing r fault h = rw (from) (not_found r fault (place_of nodes e.target) _ h)
-
     module _ (t : ℕ) (to : place_of nodes e.target ≡ Some t) where
       pub mark_missing : (r fault : HostFault) → Refuses r (unless fault (edge_mark e.mark)) → Fails r (one_edge_more nodes e g)
       mark_missing r fault h = rw (from, to) (not_found r fault (edge_mark e.mark) _ h)
@@ -134,3 +130,29 @@ module _ (label : List AtomTree) (i : ℕ) (a : AtomTree) (lt : i < length label
 
 pub atoms_end : (label : List AtomTree) (i : ℕ) (old : List Atom) (whole : Option (List Atom)) → length label ≤ i → option_map (λ xs. old ++ xs) (atoms_of (drop i label)) ≡ whole → whole ≡ Some old
 atoms_end label i old whole le same = sym same ∙ ap (λ l. option_map (λ xs. old ++ xs) (atoms_of l)) (drop_of_length-le label le) ∙ ap Some (append-nil old)
+
+-- ---- the ends of edges, beside the edges
+
+pub zip_push : {A B : Type 0} (R : A → B → Type 0) (xs : List A) (ys : List B) (x : A) (y : B) → AllZip R xs ys → R x y → AllZip R (xs ++ x ∷ []) (ys ++ y ∷ [])
+zip_push R [] [] x y h r = (r, tt)
+zip_push R [] (b ∷ ys) x y h r = absurd h
+zip_push R (a ∷ xs) [] x y h r = absurd h
+zip_push R (a ∷ xs) (b ∷ ys) x y h r = (h.0, zip_push R xs ys x y h.1 r)
+
+pub zip_at : {A B : Type 0} (R : A → B → Type 0) (xs : List A) (ys : List B) (i : ℕ) (x : A) (d : B) → AllZip R xs ys → i < length xs → x ≡ get_or xs i x → R x (get_or ys i d)
+zip_at R [] ys i x d h l e = absurd (omega arith)
+zip_at R (a ∷ xs) [] i x d h l e = absurd h
+zip_at R (a ∷ xs) (b ∷ ys) zero x d h l e = subst (λ z. R z b) (sym e) h.0
+zip_at R (a ∷ xs) (b ∷ ys) (suc i) x d h l e = zip_at R xs ys i x d h.1 (omega arith) e
+
+pub zip_long : {A B : Type 0} (R : A → B → Type 0) (xs : List A) (ys : List B) → AllZip R xs ys → length xs ≡ length ys
+zip_long R [] [] h = refl
+zip_long R [] (b ∷ ys) h = absurd h
+zip_long R (a ∷ xs) [] h = absurd h
+zip_long R (a ∷ xs) (b ∷ ys) h = ap suc (zip_long R xs ys h.1)
+
+-- one more of the edges that were passed
+pub zip_on : {A B : Type 0} (R : A → B → Type 0) (xs : List A) (ys now : List B) (i : ℕ) (x : A) (y : B) → i < length xs → x ≡ get_or xs i x → AllZip R (take i xs) ys → R x y → now ≡ ys ++ y ∷ [] → AllZip R (take (i + 1) xs) now
+zip_on R xs ys now i x y l e h r more =
+    let longer : take (i + 1) xs ≡ take i xs ++ x ∷ [] = rw add-one (take-suc xs i x l ∙ ap (λ z. take i xs ++ z ∷ []) (sym e)) in
+    rw (longer, more) (zip_push R (take i xs) ys x y h r)

@@ -3,24 +3,26 @@
 ghost use Rattle.std.specs.Prelude.{◌≡◌, IfOk};
 ghost use Rattle.gp_values.specs.Graph.{IsGraph};
 ghost use Rattle.gp_hostfile.specs.Host.{atom_of, atoms_of, node_names};
-ghost use Rattle.gp_hostfile.specs.inside.Stages.{Makes, AreNodes, tree_in, one_node_more, nodes_made, one_edge_more, edges_made, graph_made};
+ghost use Rattle.std.specs.List.{AllZip};
+ghost use Rattle.gp_hostfile.specs.inside.Stages.{Makes, AreNodes, HasEnds, tree_in, one_node_more, nodes_made, one_edge_more, edges_made, graph_made};
 
-use crate::check::{edge_mark, end, integer, node_mark};
+use crate::check::{Ends, HostNames, edge_mark, integer, node_mark};
 use crate::fault::HostFault;
 use crate::tree::{AtomTree, EdgeTree, HostTree, NodeTree};
 use gp_graph::Graph;
 use gp_values::{Atom, List, NameTable};
 use std::alloc::Global;
 
-/// The graph of a tree, by the names of its nodes. Where the tree has no fault, only memory can be wanting. The tree's
-/// nodes are let go before its edges are made.
+/// The graph of a tree, by its names. Where the tree has no fault, only memory can be wanting. The tree's nodes
+/// are let go before its edges are made.
 pub(crate) fn build(
     alloc: Global,
     tree: HostTree<'_>,
-    nodes: &NameTable,
+    names: &HostNames,
 ) -> Result<Graph, HostFault>
-    requires { nodes.now ≡ node_names (tree_in tree) }
-    ensures made { Makes (λ g. g.graph) result (graph_made nodes.now (tree_in tree.entry)) }
+    requires names { names.now.nodes ≡ node_names (tree_in tree) }
+    requires ends { AllZip (HasEnds names.now.nodes) tree.edges.items names.now.ends.items }
+    ensures made { Makes (λ g. g.graph) result (graph_made names.now.nodes (tree_in tree.entry)) }
     ensures graph { IfOk result (λ g. IsGraph g.graph) }
 {
     let HostTree {
@@ -30,7 +32,7 @@ pub(crate) fn build(
     let mut graph = Graph::new(alloc);
     build_nodes(alloc, &node_trees, edge_trees.len() as u64, &mut graph)?;
     drop(node_trees);
-    build_edges(alloc, &edge_trees, nodes, &mut graph)?;
+    build_edges(alloc, &edge_trees, names, &mut graph)?;
     let _sound = graph.next_numbers();
     Ok(graph)
 }
@@ -63,33 +65,36 @@ fn build_node(alloc: Global, node: &NodeTree<'_>, graph: &mut Graph) -> Result<(
 fn build_edges(
     alloc: Global,
     edges: &[EdgeTree<'_>],
-    nodes: &NameTable,
+    names: &HostNames,
     graph: &mut Graph,
 ) -> Result<(), HostFault>
-    requires { AreNodes nodes.now graph.old.graph }
-    ensures { Makes (λ _. graph.new.graph) result (edges_made nodes.now edges.now graph.old.graph) }
+    requires nodes { AreNodes names.now.nodes graph.old.graph }
+    requires ends { AllZip (HasEnds names.now.nodes) edges.now names.now.ends.items }
+    ensures { Makes (λ _. graph.new.graph) result (edges_made names.now.nodes edges.now graph.old.graph) }
 {
-    for edge in edges {
-        build_edge(alloc, edge, nodes, graph)?;
+    let ends = names.ends.as_slice();
+    'edges: for i in 0..edges.len() {
+        build_edge(alloc, &edges[i], &ends[i], &names.nodes, graph)?;
     }
     Ok(())
 }
 
+// Adds the edge between the nodes that its ends name.
 fn build_edge(
     alloc: Global,
     edge: &EdgeTree<'_>,
-    nodes: &NameTable,
+    ends: &Ends,
+    _nodes: &NameTable,
     graph: &mut Graph,
 ) -> Result<(), HostFault>
-    requires { AreNodes nodes.now graph.old.graph }
-    ensures made { Makes (λ _. graph.new.graph) result (one_edge_more nodes.now edge.now graph.old.graph) }
-    ensures nodes { AreNodes nodes.now graph.new.graph }
+    requires nodes { AreNodes _nodes.now graph.old.graph }
+    requires ends { HasEnds _nodes.now edge.now ends.now }
+    ensures made { Makes (λ _. graph.new.graph) result (one_edge_more _nodes.now edge.now graph.old.graph) }
+    ensures nodes { AreNodes _nodes.now graph.new.graph }
 {
-    let source = end(alloc, &edge.source, nodes)?;
-    let target = end(alloc, &edge.target, nodes)?;
     let mark = edge_mark(alloc, edge)?;
     let label = label_list(alloc, edge.label.as_slice())?;
-    graph.add_edge(source, target, label, mark)?;
+    graph.add_edge(ends.source, ends.target, label, mark)?;
     Ok(())
 }
 

@@ -1,32 +1,56 @@
 //! The faults of a host that is spelled as one, from the first to the last.
 
-ghost use Rattle.std.specs.Prelude.{◌≡◌, map, IfOk, option_map};
+ghost use Rattle.std.specs.Prelude.{◌≡◌, ◌++◌, ◌∷◌, [], map, IfOk, OnOk, option_map};
 ghost use Rattle.std.specs.Option.{option_or};
 ghost use Rattle.gp_tokens.specs.Numerals.{signed};
 ghost use Rattle.gp_values.specs.Names.{place_of, first_doubled, same_name};
 ghost use Rattle.gp_hostfile.specs.Host.{node_mark, edge_mark, first_found, first_fault, first_out_of_range, first_wrong_mark, node_names};
-ghost use Rattle.gp_hostfile.specs.inside.Stages.{Checks, Finds, tree_in, atom_fault, label_fault, ends_fault, node_mark_fault, edge_mark_fault};
+ghost use Rattle.std.specs.List.{AllZip};
+ghost use Rattle.gp_hostfile.specs.inside.Stages.{Checks, Finds, HasEnds, tree_in, atom_fault, label_fault, ends_fault, node_mark_fault, edge_mark_fault};
 ghost use Rattle.gp_hostfile.specs.declared.fault.HostFault.TheVariants as faults;
 ghost use Rattle.gp_hostfile.specs.declared.tree.NodeTree.{NodeTree};
 ghost use Rattle.gp_hostfile.specs.declared.tree.EdgeTree.{EdgeTree};
 
 use crate::fault::HostFault;
 use crate::tree::{AtomTree, EdgeTree, HostTree, NodeTree};
+use gp_memory::NoMemory;
 use gp_tokens::{Numeral, Slice};
 use gp_values::{EdgeMark, NameTable, NodeMark};
 use std::alloc::Global;
 
-/// Finds the first fault, or gives the names of the nodes.
-pub(crate) fn check(alloc: Global, tree: &HostTree<'_>) -> Result<NameTable, HostFault>
+/// The numbers of the nodes that the ends of an edge name.
+#[derive(Clone, Copy)]
+pub(crate) struct Ends {
+    pub(crate) source: u64,
+    pub(crate) target: u64,
+}
+
+/// The names of a host: those of its nodes, and which nodes the ends of each edge name, in order.
+pub(crate) struct HostNames {
+    pub(crate) nodes: NameTable,
+    pub(crate) ends: Vec<Ends>,
+}
+
+impl Drop for HostNames {
+    fn drop(self) {
+        let HostNames { nodes, ends } = self;
+        drop(nodes);
+        drop(ends);
+    }
+}
+
+/// Finds the first fault, or gives the names.
+pub(crate) fn check(alloc: Global, tree: &HostTree<'_>) -> Result<HostNames, HostFault>
     ensures fault { Checks result (first_fault (tree_in tree.now)) }
-    ensures names { IfOk result (λ t. t ≡ node_names (tree_in tree.now)) }
+    ensures names { IfOk result (λ h. h.nodes ≡ node_names (tree_in tree.now)) }
+    ensures ends { IfOk result (λ h. AllZip (HasEnds h.nodes) tree.now.edges.items h.ends.items) }
 {
     check_numbers(tree)?;
     let nodes = check_node_names(alloc, &tree.nodes)?;
     check_edge_names(alloc, &tree.edges)?;
-    check_ends(alloc, &tree.edges, &nodes)?;
+    let ends = check_ends(alloc, &tree.edges, &nodes)?;
     check_marks(alloc, tree)?;
-    Ok(nodes)
+    Ok(HostNames { nodes, ends })
 }
 
 fn check_numbers(tree: &HostTree<'_>) -> Result<(), HostFault>
@@ -100,18 +124,33 @@ fn check_edge_names(alloc: Global, edges: &[EdgeTree<'_>]) -> Result<(), HostFau
     Ok(())
 }
 
-fn check_ends(alloc: Global, edges: &[EdgeTree<'_>], nodes: &NameTable) -> Result<(), HostFault>
-    ensures { Checks result (first_found (ends_fault nodes.now) edges.now) }
+fn check_ends(
+    alloc: Global,
+    edges: &[EdgeTree<'_>],
+    nodes: &NameTable,
+) -> Result<Vec<Ends>, HostFault>
+    ensures fault { Checks result (first_found (ends_fault nodes.now) edges.now) }
+    ensures ends { IfOk result (λ ends. AllZip (HasEnds nodes.now) edges.now ends.items) }
 {
+    let mut ends = Vec::with_capacity(alloc, edges.len())?;
     for edge in edges {
-        end(alloc, &edge.source, nodes)?;
-        end(alloc, &edge.target, nodes)?;
+        let source = end(alloc, &edge.source, nodes)?;
+        let target = end(alloc, &edge.target, nodes)?;
+        put(&mut ends, Ends { source, target })?;
     }
+    Ok(ends)
+}
+
+// Puts the ends of one edge more behind the others.
+fn put(ends: &mut Vec<Ends>, more: Ends) -> Result<(), NoMemory>
+    ensures { OnOk result (ends.new.items ≡ ends.old.items ++ more ∷ []) }
+{
+    ends.push(more)?;
     Ok(())
 }
 
-/// The number of the node that an end names, or the fault that it names none.
-pub(crate) fn end(alloc: Global, name: &Slice<'_>, nodes: &NameTable) -> Result<u64, HostFault>
+// The number of the node that an end names, or the fault that it names none.
+fn end(alloc: Global, name: &Slice<'_>, nodes: &NameTable) -> Result<u64, HostFault>
     ensures { Finds result (place_of nodes.now name.now) (faults.NoSuchEnd name.now) }
 {
     match nodes.place(name.as_bytes()) {

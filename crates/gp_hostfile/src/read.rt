@@ -18,8 +18,8 @@ pub fn read_host(alloc: Global, text: &[u8]) -> Result<Graph, HostFault>
     ensures { ReadsHost text.now result }
 {
     let tree = tree_of_text(alloc, text)?;
-    let nodes = check(alloc, &tree)?;
-    build(alloc, tree, &nodes)
+    let names = check(alloc, &tree)?;
+    build(alloc, tree, &names)
 }
 
 // The tree of a text. Its tokens are let go.

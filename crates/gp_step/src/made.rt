@@ -22,7 +22,11 @@ use gp_graph::Graph;
 use gp_memory::NoMemory;
 use gp_syntax::{Expr, Found, MarkPattern, RightEdge, RightNode, RuleParts};
 use gp_values::{EdgeMark, List, NodeMark};
+use smallvec::SmallVec;
 use std::alloc::Global;
+
+// So many images of right nodes take no memory.
+const INLINE_IMAGES: usize = 4;
 
 /// What a node is to carry.
 #[derive(Drop)]
@@ -60,7 +64,7 @@ pub(crate) struct MadeEdge {
 /// The nodes of the right side: the numbers of their images, in order, and what those of the interface and the new ones
 /// are to carry.
 pub(crate) struct Placed {
-    pub(crate) images: Vec<u64>,
+    pub(crate) images: SmallVec<u64, { INLINE_IMAGES }>,
     pub(crate) kept: Vec<Kept>,
     pub(crate) added: Vec<Carried>,
     next: u64,
@@ -205,7 +209,7 @@ pub(crate) fn made_nodes(alloc: Global, scene: &Scene<'_>) -> Result<Placed, NoM
 {
     let (next, _) = scene.graph.next_numbers();
     let mut placed = Placed {
-        images: Vec::new(alloc),
+        images: SmallVec::new(alloc),
         kept: Vec::new(alloc),
         added: Vec::new(alloc),
         next,

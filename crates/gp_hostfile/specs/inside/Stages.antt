@@ -12,6 +12,7 @@ use Rattle.gp_hostfile.specs.declared.tree.AtomTree.{AtomTree}
 use Rattle.gp_hostfile.specs.declared.tree.NodeTree.{NodeTree}
 use Rattle.gp_hostfile.specs.declared.tree.EdgeTree.{EdgeTree}
 use Rattle.gp_hostfile.specs.declared.tree.HostTree.{HostTree as HeldTree}
+use Rattle.gp_hostfile.specs.declared.check.Ends.{Ends}
 use Rattle.gp_hostfile.specs.declared.fault.HostFault.{HostFault}
 use Rattle.gp_hostfile.specs.declared.fault.HostFault.TheVariants as faults
 use Rattle.gp_hostfile.specs.Grammar.{HostTree, host}
@@ -118,6 +119,11 @@ node_mark_fault n = unless (faults.WrongMark n.name) (node_mark n.mark)
 
 abbrev pub edge_mark_fault : EdgeTree → Option HostFault
 edge_mark_fault e = unless (faults.WrongMark e.name) (edge_mark e.mark)
+
+-- these are the numbers of the nodes that the ends of an edge name
+pub record HasEnds (nodes : List Name) (e : EdgeTree) (ends : Ends) : Type 0 where
+  pub source : place_of nodes e.source ≡ Some ends.source
+  pub target : place_of nodes e.target ≡ Some ends.target
 
 -- ---- the graph
 

@@ -18,15 +18,15 @@ returns-in_err-check_edge_names-clause-fault c =
     let p = err_from_is_err_and c.from_residual-in_err-check_edge_names.result c.from_residual-in_err-check_edge_names.ensures.1 in
     rw (p.1, p.2) (two_edges_stop (tree_in c.args.tree.now) c.in_err-check_edge_names.field-0.0 c.in_ok-check_numbers.ensures (rw c.deref.ensures.value at c.in_ok-nodes.ensures.fault) (rw c.deref-2.ensures.value at c.in_err-check_edge_names.ensures))
 
-pub returns-in_err-check_ends-clause-fault : goal.returns-in_err-check_ends-clause-fault
-returns-in_err-check_ends-clause-fault c =
-    let p = err_from_is_err_and c.from_residual-in_err-check_ends.result c.from_residual-in_err-check_ends.ensures.1 in
-    rw (p.1, p.2) (end_stops (tree_in c.args.tree.now) c.in_err-check_ends.field-0.0 c.in_ok-check_numbers.ensures (rw c.deref.ensures.value at c.in_ok-nodes.ensures.fault) (rw c.deref-2.ensures.value at c.in_ok-check_edge_names.ensures) (rw (c.deref-3.ensures.value, c.in_ok-nodes.ensures.names, c.deref.ensures.value) at c.in_err-check_ends.ensures))
+pub returns-in_err-ends-clause-fault : goal.returns-in_err-ends-clause-fault
+returns-in_err-ends-clause-fault c =
+    let p = err_from_is_err_and c.from_residual-in_err-ends.result c.from_residual-in_err-ends.ensures.1 in
+    rw (p.1, p.2) (end_stops (tree_in c.args.tree.now) c.in_err-ends.field-0.0 c.in_ok-check_numbers.ensures (rw c.deref.ensures.value at c.in_ok-nodes.ensures.fault) (rw c.deref-2.ensures.value at c.in_ok-check_edge_names.ensures) (rw (c.deref-3.ensures.value, c.in_ok-nodes.ensures.names, c.deref.ensures.value) at c.in_err-ends.ensures.fault))
 
 pub returns-in_err-check_marks-clause-fault : goal.returns-in_err-check_marks-clause-fault
 returns-in_err-check_marks-clause-fault c =
     let p = err_from_is_err_and c.from_residual-in_err-check_marks.result c.from_residual-in_err-check_marks.ensures.1 in
-    rw (p.1, p.2) (mark_stops (tree_in c.args.tree.now) c.in_err-check_marks.field-0.0 c.in_ok-check_numbers.ensures (rw c.deref.ensures.value at c.in_ok-nodes.ensures.fault) (rw c.deref-2.ensures.value at c.in_ok-check_edge_names.ensures) (rw (c.deref-3.ensures.value, c.in_ok-nodes.ensures.names, c.deref.ensures.value) at c.in_ok-check_ends.ensures) c.in_err-check_marks.ensures)
+    rw (p.1, p.2) (mark_stops (tree_in c.args.tree.now) c.in_err-check_marks.field-0.0 c.in_ok-check_numbers.ensures (rw c.deref.ensures.value at c.in_ok-nodes.ensures.fault) (rw c.deref-2.ensures.value at c.in_ok-check_edge_names.ensures) (rw (c.deref-3.ensures.value, c.in_ok-nodes.ensures.names, c.deref.ensures.value) at c.in_ok-ends.ensures.fault) c.in_err-check_marks.ensures)
 
 pub returns-clause-fault : goal.returns-clause-fault
-returns-clause-fault c = none_stops (tree_in c.args.tree.now) c.in_ok-check_numbers.ensures (rw c.deref.ensures.value at c.in_ok-nodes.ensures.fault) (rw c.deref-2.ensures.value at c.in_ok-check_edge_names.ensures) (rw (c.deref-3.ensures.value, c.in_ok-nodes.ensures.names, c.deref.ensures.value) at c.in_ok-check_ends.ensures) c.in_ok-check_marks.ensures
+returns-clause-fault c = none_stops (tree_in c.args.tree.now) c.in_ok-check_numbers.ensures (rw c.deref.ensures.value at c.in_ok-nodes.ensures.fault) (rw c.deref-2.ensures.value at c.in_ok-check_edge_names.ensures) (rw (c.deref-3.ensures.value, c.in_ok-nodes.ensures.names, c.deref.ensures.value) at c.in_ok-ends.ensures.fault) c.in_ok-check_marks.ensures
