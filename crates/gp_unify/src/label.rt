@@ -14,7 +14,7 @@ use crate::mismatch::Mismatch;
 use crate::pieces::{atoms_for, behind_integer, behind_string, fixed_atoms, split_atoms, type_at};
 use crate::reading::Reading;
 use crate::text::unify_dots;
-use crate::trail::tell;
+use crate::trail::{Trail, tell};
 use gp_syntax::{Assignment, SimpleLabel, VariableType};
 use gp_values::Atom;
 use std::alloc::Global;
@@ -78,7 +78,7 @@ fn read_variable<'v>(
     x: u32,
     atoms: &'v [Atom],
     assignment: &mut Assignment,
-    trail: &mut Vec<u32>,
+    trail: &mut Trail,
 ) -> Result<&'v [Atom], Mismatch>
     requires { x < length assignment.old.types }
     ensures reads { Reads result (read (type_in assignment.old.types) reading.spare (Variable x) atoms.now (known_of assignment.old)) assignment.new }
@@ -97,7 +97,7 @@ fn read_chain<'v>(
     rest: &[SimpleLabel],
     atoms: &'v [Atom],
     assignment: &mut Assignment,
-    trail: &mut Vec<u32>,
+    trail: &mut Trail,
 ) -> Result<&'v [Atom], Mismatch>
     requires first { AreKnown (length assignment.old.types) (label_of first.now) }
     requires rest { All (λ l. AreKnown (length assignment.old.types) (label_of l)) rest.now }
@@ -129,7 +129,7 @@ fn read<'v>(
     label: &SimpleLabel,
     atoms: &'v [Atom],
     assignment: &mut Assignment,
-    trail: &mut Vec<u32>,
+    trail: &mut Trail,
 ) -> Result<&'v [Atom], Mismatch>
     requires { AreKnown (length assignment.old.types) (label_of label.now) }
     ensures reads { Reads result (read (type_in assignment.old.types) reading.spare (label_of label.now) atoms.now (known_of assignment.old)) assignment.new }
@@ -175,7 +175,7 @@ fn read_joins<'v>(
     rest: &[SimpleLabel],
     atoms: &'v [Atom],
     assignment: &mut Assignment,
-    trail: &mut Vec<u32>,
+    trail: &mut Trail,
 ) -> Result<&'v [Atom], Mismatch>
     requires first { AreKnown (length assignment.old.types) (label_of first.now) }
     requires rest { All (λ l. AreKnown (length assignment.old.types) (label_of l)) rest.now }
@@ -195,7 +195,7 @@ pub(crate) fn unify_label(
     label: &SimpleLabel,
     atoms: &[Atom],
     assignment: &mut Assignment,
-    trail: &mut Vec<u32>,
+    trail: &mut Trail,
 ) -> Result<(), Mismatch>
     requires { AreKnown (length assignment.old.types) (label_of label.now) }
     ensures told { Tells result (unify (type_in assignment.old.types) (label_of label.now) atoms.now (known_of assignment.old)) assignment.new }

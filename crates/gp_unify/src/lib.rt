@@ -17,5 +17,5 @@ mod trail;
 mod unifier;
 
 pub use matched::{assignment_by, assignment_of};
-pub use trail::take_back;
+pub use trail::{INLINE_TOLD, Trail, take_back};
 pub use unifier::{Unified, unify, unify_on};

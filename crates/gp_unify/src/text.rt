@@ -13,7 +13,7 @@ ghost use Rattle.gp_unify.specs.Unify.{characters_in, read_text, unify_text};
 use crate::mismatch::Mismatch;
 use crate::pieces::{behind_codes, characters_for, fixed_characters, split_codes, type_at};
 use crate::reading::Reading;
-use crate::trail::tell_text;
+use crate::trail::{Trail, tell_text};
 use gp_syntax::{Assignment, SimpleLabel, VariableType};
 use std::alloc::Global;
 
@@ -62,7 +62,7 @@ fn read_variable<'v>(
     x: u32,
     codes: &'v [u8],
     assignment: &mut Assignment,
-    trail: &mut Vec<u32>,
+    trail: &mut Trail,
 ) -> Result<&'v [u8], Mismatch>
     requires known { x < length assignment.old.types }
     requires text { IsText codes.now }
@@ -83,7 +83,7 @@ fn read_text<'v>(
     part: &SimpleLabel,
     codes: &'v [u8],
     assignment: &mut Assignment,
-    trail: &mut Vec<u32>,
+    trail: &mut Trail,
 ) -> Result<&'v [u8], Mismatch>
     requires known { AreKnown (length assignment.old.types) (label_of part.now) }
     requires text { IsText codes.now }
@@ -127,7 +127,7 @@ fn read_dots<'v>(
     rest: &[SimpleLabel],
     codes: &'v [u8],
     assignment: &mut Assignment,
-    trail: &mut Vec<u32>,
+    trail: &mut Trail,
 ) -> Result<&'v [u8], Mismatch>
     requires first { AreKnown (length assignment.old.types) (label_of first.now) }
     requires rest { All (λ l. AreKnown (length assignment.old.types) (label_of l)) rest.now }
@@ -150,7 +150,7 @@ pub(crate) fn unify_dots(
     rest: &[SimpleLabel],
     codes: &[u8],
     assignment: &mut Assignment,
-    trail: &mut Vec<u32>,
+    trail: &mut Trail,
 ) -> Result<(), Mismatch>
     requires first { AreKnown (length assignment.old.types) (label_of first.now) }
     requires rest { All (λ l. AreKnown (length assignment.old.types) (label_of l)) rest.now }

@@ -16,10 +16,17 @@ use crate::pieces::{is_text, list_of, takes_text, text_of, type_at};
 use gp_memory::NoMemory;
 use gp_syntax::{Assignment, is_of};
 use gp_values::{Atom, List};
+use smallvec::SmallVec;
 use std::alloc::Global;
 
+/// So many of the variables that were told stand in a trail itself; more take memory.
+pub const INLINE_TOLD: usize = 4;
+
+/// The variables that were told, in order.
+pub type Trail = SmallVec<u32, { INLINE_TOLD }>;
+
 /// Takes the values away of the variables behind the first so many of the trail.
-pub fn take_back(assignment: &mut Assignment, trail: &mut Vec<u32>, count: usize)
+pub fn take_back(assignment: &mut Assignment, trail: &mut Trail, count: usize)
     requires places { All (λ x. x < length assignment.old.types) (drop count trail.old.items) }
     ensures assignment { assignment.new ≡ cleared (drop count trail.old.items) assignment.old }
     ensures trail { trail.new.items ≡ take count trail.old.items }
@@ -32,7 +39,7 @@ pub fn take_back(assignment: &mut Assignment, trail: &mut Vec<u32>, count: usize
 }
 
 // Puts a variable behind the others.
-fn note(trail: &mut Vec<u32>, x: u32) -> Result<(), NoMemory>
+fn note(trail: &mut Trail, x: u32) -> Result<(), NoMemory>
     ensures ok { OnOk result (trail.new.items ≡ trail.old.items ++ x ∷ []) }
     ensures err { OnErr result (trail.new.items ≡ trail.old.items) }
 {
@@ -41,12 +48,7 @@ fn note(trail: &mut Vec<u32>, x: u32) -> Result<(), NoMemory>
 }
 
 // Gives a variable that has none its value.
-fn bind(
-    x: u32,
-    value: List,
-    assignment: &mut Assignment,
-    trail: &mut Vec<u32>,
-) -> Result<(), NoMemory>
+fn bind(x: u32, value: List, assignment: &mut Assignment, trail: &mut Trail) -> Result<(), NoMemory>
     requires known { x < length assignment.old.types }
     requires in_type { is_of (declared_type assignment.old x) value ≡ true }
     requires vacant { slice_get assignment.old.values x ≡ Some None }
@@ -64,7 +66,7 @@ pub(crate) fn tell(
     x: u32,
     atoms: &[Atom],
     assignment: &mut Assignment,
-    trail: &mut Vec<u32>,
+    trail: &mut Trail,
 ) -> Result<(), Mismatch>
     requires known { x < length assignment.old.types }
     ensures told { Tells result (tell (type_in assignment.old.types) x atoms.now (known_of assignment.old)) assignment.new }
@@ -95,7 +97,7 @@ pub(crate) fn tell_text(
     x: u32,
     codes: &[u8],
     assignment: &mut Assignment,
-    trail: &mut Vec<u32>,
+    trail: &mut Trail,
 ) -> Result<(), Mismatch>
     requires known { x < length assignment.old.types }
     requires text { IsText codes.now }

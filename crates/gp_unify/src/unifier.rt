@@ -11,7 +11,7 @@ ghost use Rattle.gp_unify.specs.Unify.{unify};
 
 use crate::label::unify_label;
 use crate::mismatch::Mismatch;
-use crate::trail::take_back;
+use crate::trail::{Trail, take_back};
 use gp_syntax::{Assignment, SimpleLabel};
 use gp_values::List;
 use std::alloc::Global;
@@ -37,7 +37,7 @@ pub fn unify(
     ensures answers { Answers result assignment.old assignment.new (label_of label.now) list.now }
     ensures told { Told result (unify (type_in assignment.old.types) (label_of label.now) list.now (known_of assignment.old)) assignment.new }
 {
-    let mut trail = Vec::new(alloc);
+    let mut trail = Trail::new(alloc);
     unify_on(alloc, label, list, assignment, &mut trail)
 }
 
@@ -48,7 +48,7 @@ pub fn unify_on(
     label: &SimpleLabel,
     list: &List,
     assignment: &mut Assignment,
-    trail: &mut Vec<u32>,
+    trail: &mut Trail,
 ) -> Unified
     requires known { AreKnown (length assignment.old.types) (label_of label.now) }
     requires simple { IsSimple (type_in assignment.old.types) (label_of label.now) }

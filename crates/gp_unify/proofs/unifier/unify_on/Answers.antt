@@ -1,4 +1,4 @@
-use Rattle.std.proofs.Common.{◌≡◌, ◌<◌, length, drop, All, Some, None, sym, subst, arith}
+use Rattle.std.proofs.Common.{◌≡◌, ◌<◌, length, drop, All, Some, None, sym, subst}
 use Rattle.gp_syntax.specs.Tree.{label_of}
 use Rattle.gp_syntax.specs.Typing.{type_in}
 use Rattle.gp_unify.specs.Extension.{known_of}
@@ -34,7 +34,7 @@ take_back-requires c =
     let b = c.unify_label.new.assignment in
     let s = c.args.trail.now.items in
     let t = c.unify_label.new.trail.items in
-    let n : c.len-count.result ≡ length s = omega (arith, c.len-count.ensures, c.args.trail.now.ok.0) in
+    let n : c.len-count.result ≡ length s = c.len-count.ensures.value in
     record { places = subst (λ k. All (λ x. x < length b.types) (drop k t)) (sym n) (back_places c.args.assignment.now b s t c.in-Err-Differs.ensures.grown) }
 
 pub returns-in-Err-Differs-clause-answers : goal.returns-in-Err-Differs-clause-answers
@@ -43,7 +43,7 @@ returns-in-Err-Differs-clause-answers c =
     let b = c.unify_label.new.assignment in
     let e = label_of c.args.label.now in
     let s = c.args.trail.now.items in
-    let n : c.len-count.result ≡ length s = omega (arith, c.len-count.ensures, c.args.trail.now.ok.0) in
+    let n : c.len-count.result ≡ length s = c.len-count.ensures.value in
     let h : unify (type_in a.types) e c.args.list.now (known_of a) ≡ None = subst (λ v. unify (type_in a.types) e v (known_of a) ≡ None) c.atoms.ensures.value (rw c.in-Err-Differs.field-0-is at c.in-Err-Differs.ensures.told) in
     let back = taken_back a b c.take_back.new.assignment s c.unify_label.new.trail.items c.take_back.new.trail.items c.len-count.result n c.in-Err-Differs.ensures.grown c.take_back.ensures.assignment c.take_back.ensures.trail in
     (back.0, is_none a e c.args.list.now c.requires.simple h)
@@ -57,14 +57,14 @@ pub returns-in-Err-Differs-clause-grown : goal.returns-in-Err-Differs-clause-gro
 returns-in-Err-Differs-clause-grown c =
     let a = c.args.assignment.now in
     let s = c.args.trail.now.items in
-    let n : c.len-count.result ≡ length s = omega (arith, c.len-count.ensures, c.args.trail.now.ok.0) in
+    let n : c.len-count.result ≡ length s = c.len-count.ensures.value in
     let back = taken_back a c.unify_label.new.assignment c.take_back.new.assignment s c.unify_label.new.trail.items c.take_back.new.trail.items c.len-count.result n c.in-Err-Differs.ensures.grown c.take_back.ensures.assignment c.take_back.ensures.trail in
     grown_same a c.take_back.new.assignment s c.take_back.new.trail.items back.0 back.1
 
 pub returns-in-Err-Differs-clause-trail : goal.returns-in-Err-Differs-clause-trail
 returns-in-Err-Differs-clause-trail c =
     let s = c.args.trail.now.items in
-    let n : c.len-count.result ≡ length s = omega (arith, c.len-count.ensures, c.args.trail.now.ok.0) in
+    let n : c.len-count.result ≡ length s = c.len-count.ensures.value in
     (taken_back c.args.assignment.now c.unify_label.new.assignment c.take_back.new.assignment s c.unify_label.new.trail.items c.take_back.new.trail.items c.len-count.result n c.in-Err-Differs.ensures.grown c.take_back.ensures.assignment c.take_back.ensures.trail).1
 
 pub take_back-requires-in-Err-NoMemory : goal.take_back-requires-in-Err-NoMemory
@@ -72,14 +72,14 @@ take_back-requires-in-Err-NoMemory c =
     let b = c.unify_label.new.assignment in
     let s = c.args.trail.now.items in
     let t = c.unify_label.new.trail.items in
-    let n : c.len-count.result ≡ length s = omega (arith, c.len-count.ensures, c.args.trail.now.ok.0) in
+    let n : c.len-count.result ≡ length s = c.len-count.ensures.value in
     record { places = subst (λ k. All (λ x. x < length b.types) (drop k t)) (sym n) (back_places c.args.assignment.now b s t c.in-Err-NoMemory.ensures.grown) }
 
 pub returns-in-Err-NoMemory-clause-answers : goal.returns-in-Err-NoMemory-clause-answers
 returns-in-Err-NoMemory-clause-answers c =
     let s = c.args.trail.now.items in
     let after = c.take_back-in-Err-NoMemory in
-    let n : c.len-count.result ≡ length s = omega (arith, c.len-count.ensures, c.args.trail.now.ok.0) in
+    let n : c.len-count.result ≡ length s = c.len-count.ensures.value in
     (taken_back c.args.assignment.now c.unify_label.new.assignment after.new.assignment s c.unify_label.new.trail.items after.new.trail.items c.len-count.result n c.in-Err-NoMemory.ensures.grown after.ensures.assignment after.ensures.trail).0
 
 pub returns-in-Err-NoMemory-clause-told : goal.returns-in-Err-NoMemory-clause-told
@@ -90,7 +90,7 @@ returns-in-Err-NoMemory-clause-grown c =
     let a = c.args.assignment.now in
     let s = c.args.trail.now.items in
     let after = c.take_back-in-Err-NoMemory in
-    let n : c.len-count.result ≡ length s = omega (arith, c.len-count.ensures, c.args.trail.now.ok.0) in
+    let n : c.len-count.result ≡ length s = c.len-count.ensures.value in
     let back = taken_back a c.unify_label.new.assignment after.new.assignment s c.unify_label.new.trail.items after.new.trail.items c.len-count.result n c.in-Err-NoMemory.ensures.grown after.ensures.assignment after.ensures.trail in
     grown_same a after.new.assignment s after.new.trail.items back.0 back.1
 
@@ -98,5 +98,5 @@ pub returns-in-Err-NoMemory-clause-trail : goal.returns-in-Err-NoMemory-clause-t
 returns-in-Err-NoMemory-clause-trail c =
     let s = c.args.trail.now.items in
     let after = c.take_back-in-Err-NoMemory in
-    let n : c.len-count.result ≡ length s = omega (arith, c.len-count.ensures, c.args.trail.now.ok.0) in
+    let n : c.len-count.result ≡ length s = c.len-count.ensures.value in
     (taken_back c.args.assignment.now c.unify_label.new.assignment after.new.assignment s c.unify_label.new.trail.items after.new.trail.items c.len-count.result n c.in-Err-NoMemory.ensures.grown after.ensures.assignment after.ensures.trail).1
