@@ -1,6 +1,9 @@
 -- Chains, operand by operand, and their sizes.
 use Rattle.std.proofs.Common.{◌≡◌, ℕ, zero, suc, ℤ, pos, negsuc, neg_ℤ, if◌then◌else◌, ◌+◌, ◌<◌, ◌≤◌, List, [], ◌∷◌, ◌++◌, length, map, drop, fold, get_or, All, refl, sym, ap, subst, ◌∙◌, arith, Result, Ok, Err, IsErrAnd, Bool, true, false, ◌==◌}
 use Rattle.std.specs.Prelude.{◌↔◌, IsTrue, Option, Some, None, ◌+ℤ◌, ◌-ℤ◌, ◌*ℤ◌, int_div}
+use mir.Val.{SFits, to_z, of_z}
+use mir.Syntax.{w128}
+use Rattle.std.proofs.lemmas.Int.{to_z-of_z}
 use Rattle.std.proofs.lemmas.Bool.Decides.{Decides-eqb}
 use Rattle.gp_values.specs.declared.atom.Atom.{Atom}
 use Rattle.gp_values.specs.declared.atom.Atom.TheVariants.{Str}
@@ -24,7 +27,7 @@ use Rattle.std.proofs.lemmas.Option.{none-some, same_Some}
 use Rattle.gp_syntax.specs.WellFormed.{IsWithin}
 use Rattle.gp_eval.specs.declared.valued.Missing.{Missing}
 use Rattle.gp_eval.specs.declared.valued.Missing.TheVariants as missing
-use Rattle.gp_eval.specs.inside.Chains.{Values, Lacks, Gives, counted, opposite, by_integers, added, multiplied, sum_step, product_step, dot_step, join_step}
+use Rattle.gp_eval.specs.inside.Chains.{Values, Lacks, Gives, counted, opposite, added, multiplied, sum_step, product_step, dot_step, join_step}
 use Rattle.gp_eval.specs.inside.Size.{total, size_step, size, sizes, operand_sizes}
 
 module _ {X : Type 0} (val : X → Values) (f : X → List Atom → List Atom → Values) where
@@ -194,6 +197,10 @@ ended f v m (suc i) (x ∷ xs) l h = ended f v m i xs (omega arith) h
 
 -- ---- sums and products, of which the integers are kept
 
+-- an integer that a call is given by its bits
+pub passed : (m : Valued ℤ) (z : ℤ) → SFits w128 z → m ≡ Value z → m ≡ Value (to_z w128 (of_z w128 z))
+passed m z f h = h ∙ ap Value (sym (to_z-of_z w128 z f))
+
 module _ {X : Type 0} (val : X → Values) (op : X → ℤ → ℤ → Values) where
   abbrev by_lists : X → List Atom → List Atom → Values
   by_lists x a b = op x (integer a) (integer b)
@@ -202,30 +209,53 @@ module _ {X : Type 0} (val : X → Values) (op : X → ℤ → ℤ → Values) w
   count = step val by_lists
 
   -- a step by integers
-  counted_step : (v : Values) (x : X) → counted (count v x) ≡ by_integers (op x) (counted v) (counted (val x))
+  counted_step : (v : Values) (x : X) → counted (count v x) ≡ (counted v >>= λ a. counted (val x) >>= λ b. counted (op x a b))
   counted_step v x = by v (val x)
     where
-      by : (v w : Values) → counted (v >>= λ a. w >>= λ b. by_lists x a b) ≡ by_integers (op x) (counted v) (counted w)
+      by : (v w : Values) → counted (v >>= λ a. w >>= λ b. by_lists x a b) ≡ (counted v >>= λ a. counted w >>= λ b. counted (op x a b))
       by (NoValue k) w = refl
       by (Value a) (NoValue k) = refl
       by (Value a) (Value b) = refl
 
-  -- an integer that is given for what is valued so far
-  pub record IsSoFar (r : Result ℤ Missing) (i : ℕ) (xs : List X) (m : Valued ℤ) : Type 0 where
-    pub value : Values
-    pub given : Gives r (counted value)
-    pub rest : counted (fold count value (drop i xs)) ≡ m
+  -- of what is valued so far the integer alone tells the rest
+  pub by_integer : (v : Values) (z : ℤ) (xs : List X) → counted v ≡ Value z → counted (fold count (Value (number z)) xs) ≡ counted (fold count v xs)
+  by_integer (NoValue k) z xs h = absurd cc
+  by_integer (Value a) z [] h = sym h
+  by_integer (Value a) z (x ∷ xs) h = let e : z ≡ integer a = cc in ap (λ y. counted (fold count (val x >>= λ b. op x y (integer b)) xs)) e
 
-  pub one_more : (r u : Result ℤ Missing) (i : ℕ) (x : X) (xs : List X) (m : Valued ℤ) → i < length xs → x ≡ get_or xs i x → IsSoFar r i xs m → ((v : Valued ℤ) → Gives r v → Gives u (by_integers (op x) v (counted (val x)))) → IsSoFar u (i + 1) xs m
-  one_more r u i x xs m l e h k = record {
-    value = count h.value x;
-    given = subst (Gives u) (sym (counted_step h.value x)) (k (counted h.value) h.given);
-    rest = let n : suc i ≡ i + 1 = omega arith in subst (λ j. counted (fold count (count h.value x) (drop j xs)) ≡ m) n (ap counted (goes_on val by_lists h.value (count h.value x) i x xs l (sym e) refl _ refl) ∙ h.rest);
-  }
+  -- without one, there is none for the rest
+  pub first_uncounted : (e : Missing) (v : Values) (xs : List X) → Lacks e (counted v) → Lacks e (counted (fold count v xs))
+  first_uncounted (missing.NoValue k) (Value a) xs h = absurd cc
+  first_uncounted (missing.NoValue k) (NoValue j) xs h = ap counted (stays val by_lists j xs) ∙ h
+  first_uncounted missing.NoMemory v xs h = tt
+
+  next : (z : ℤ) (i : ℕ) (x : X) (xs : List X) → i < length xs → x ≡ get_or xs i x → counted (fold count (count (Value (number z)) x) (drop (suc i) xs)) ≡ counted (fold count (Value (number z)) (drop i xs))
+  next z i x xs l e = ap counted (goes_on val by_lists (Value (number z)) (count (Value (number z)) x) i x xs l (sym e) refl _ refl)
+
+  lacks_next : (e : Missing) (z : ℤ) (i : ℕ) (x : X) (xs : List X) (m : Valued ℤ) → i < length xs → x ≡ get_or xs i x → Lacks e (counted (count (Value (number z)) x)) → counted (fold count (Value (number z)) (drop i xs)) ≡ m → Lacks e m
+  lacks_next (missing.NoValue k) z i x xs m l e s h = sym h ∙ sym (next z i x xs l e) ∙ first_uncounted (missing.NoValue k) (count (Value (number z)) x) (drop (suc i) xs) s
+  lacks_next missing.NoMemory z i x xs m l e s h = tt
+
+  -- an operand without an integer
+  pub operand_uncounted : (e : Missing) (z : ℤ) (i : ℕ) (x : X) (xs : List X) (m : Valued ℤ) → i < length xs → x ≡ get_or xs i x → Lacks e (counted (val x)) → counted (fold count (Value (number z)) (drop i xs)) ≡ m → Lacks e m
+  operand_uncounted (missing.NoValue k) z i x xs m l e s h = lacks_next (missing.NoValue k) z i x xs m l e (counted_step (Value (number z)) x ∙ ap (λ w. w >>= λ y. counted (op x z y)) s) h
+  operand_uncounted missing.NoMemory z i x xs m l e s h = tt
+
+  -- and an operation without one
+  pub step_uncounted : (e : Missing) (z y : ℤ) (i : ℕ) (x : X) (xs : List X) (m : Valued ℤ) → i < length xs → x ≡ get_or xs i x → counted (val x) ≡ Value y → Lacks e (counted (op x z y)) → counted (fold count (Value (number z)) (drop i xs)) ≡ m → Lacks e m
+  step_uncounted (missing.NoValue k) z y i x xs m l e v s h = lacks_next (missing.NoValue k) z i x xs m l e (counted_step (Value (number z)) x ∙ ap (λ w. w >>= λ y. counted (op x z y)) v ∙ s) h
+  step_uncounted missing.NoMemory z y i x xs m l e v s h = tt
+
+  -- one operand more
+  pub counted_on : (z y u : ℤ) (i : ℕ) (x : X) (xs : List X) (m : Valued ℤ) → i < length xs → x ≡ get_or xs i x → counted (val x) ≡ Value y → counted (op x z y) ≡ Value u → counted (fold count (Value (number z)) (drop i xs)) ≡ m → counted (fold count (Value (number u)) (drop (i + 1) xs)) ≡ m
+  counted_on z y u i x xs m l e v w h =
+      let n : suc i ≡ i + 1 = omega arith in
+      let s = counted_step (Value (number z)) x ∙ ap (λ w. w >>= λ y. counted (op x z y)) v ∙ w in
+      subst (λ j. counted (fold count (Value (number u)) (drop j xs)) ≡ m) n (by_integer (count (Value (number z)) x) u (drop (suc i) xs) s ∙ next z i x xs l e ∙ h)
 
   -- past the last operand
-  pub none_left : (r : Result ℤ Missing) (i : ℕ) (xs : List X) (m : Valued ℤ) → length xs ≤ i → IsSoFar r i xs m → Gives r m
-  none_left r i xs m l h = subst (Gives r) (sym (ap counted (ended count h.value _ i xs l refl)) ∙ h.rest) h.given
+  pub counted_all : (z : ℤ) (i : ℕ) (xs : List X) (m : Valued ℤ) → length xs ≤ i → counted (fold count (Value (number z)) (drop i xs)) ≡ m → m ≡ Value z
+  counted_all z i xs m l h = sym h ∙ ap counted (ended count (Value (number z)) _ i xs l refl)
 
   -- the value of a chain with a further operand is a list of one integer
   chain_listed : ((x : X) (a b : ℤ) → IsListed (op x a b)) → (v : Values) (xs : List X) → (xs ≡ [] → ⊥) → IsListed (fold count v xs)

@@ -8,7 +8,7 @@ ghost use Rattle.std.specs.Int.{w128};
 ghost use Rattle.std.specs.Option.{SomeIff};
 ghost use Rattle.gp_values.specs.Texts.{IsText};
 ghost use Rattle.gp_syntax.specs.Value.{Valued, Value, ranged, quotient, integer, characters, number};
-ghost use Rattle.gp_eval.specs.inside.Chains.{Values, Gives, counted, listed, opposite, by_integers, added, multiplied};
+ghost use Rattle.gp_eval.specs.inside.Chains.{Values, Gives, counted, listed, opposite, added, multiplied};
 
 use crate::valued::Missing;
 use gp_memory::NoMemory;
@@ -103,37 +103,23 @@ pub fn negated(x: Result<i128, Missing>) -> Result<i128, Missing>
     }
 }
 
-/// The sum or the difference of two integers, if there are both.
-pub fn added(
-    sign: SumSign,
-    x: Result<i128, Missing>,
-    y: Result<i128, Missing>,
-) -> Result<i128, Missing>
-    ensures { (v w : Valued ℤ) → Gives x v → Gives y w → Gives result (by_integers (added sign) v w) }
+/// The sum or the difference of two integers.
+pub fn added(sign: SumSign, x: i128, y: i128) -> Result<i128, Missing>
+    ensures { Gives result (counted (added sign x y)) }
 {
-    match (x, y) {
-        (Ok(x), Ok(y)) => match sign {
-            SumSign::Plus => in_range(x.checked_add(y)),
-            SumSign::Minus => in_range(x.checked_sub(y)),
-        },
-        (Err(missing), _) | (_, Err(missing)) => Err(missing),
+    match sign {
+        SumSign::Plus => in_range(x.checked_add(y)),
+        SumSign::Minus => in_range(x.checked_sub(y)),
     }
 }
 
 /// Their product or their quotient, which is truncated towards zero.
-pub fn multiplied(
-    sign: ProductSign,
-    x: Result<i128, Missing>,
-    y: Result<i128, Missing>,
-) -> Result<i128, Missing>
-    ensures { (v w : Valued ℤ) → Gives x v → Gives y w → Gives result (by_integers (multiplied sign) v w) }
+pub fn multiplied(sign: ProductSign, x: i128, y: i128) -> Result<i128, Missing>
+    ensures { Gives result (counted (multiplied sign x y)) }
 {
-    match (x, y) {
-        (Ok(x), Ok(y)) => match sign {
-            ProductSign::Times => in_range(x.checked_mul(y)),
-            ProductSign::Over => quotient(x, y),
-        },
-        (Err(missing), _) | (_, Err(missing)) => Err(missing),
+    match sign {
+        ProductSign::Times => in_range(x.checked_mul(y)),
+        ProductSign::Over => quotient(x, y),
     }
 }
 

@@ -67,48 +67,28 @@ pub fn eval(
             listed(alloc, negated(x))
         }
         Expr::Sum(first, rest) => {
-            let first = first.get();
             if rest.is_empty() {
-                eval(alloc, first, assignment, nodes, graph)
-            } else {
-                let rest = rest.as_slice();
-                listed(
-                    alloc,
-                    eval_sum(alloc, first, rest, assignment, nodes, graph),
-                )
+                return eval(alloc, first.get(), assignment, nodes, graph);
             }
+            let rest = rest.as_slice();
+            let sum = eval_sum(alloc, first.get(), rest, assignment, nodes, graph);
+            listed(alloc, sum)
         }
         Expr::Product(first, rest) => {
-            let first = first.get();
             if rest.is_empty() {
-                eval(alloc, first, assignment, nodes, graph)
-            } else {
-                let rest = rest.as_slice();
-                listed(
-                    alloc,
-                    eval_product(alloc, first, rest, assignment, nodes, graph),
-                )
+                return eval(alloc, first.get(), assignment, nodes, graph);
             }
+            let rest = rest.as_slice();
+            let product = eval_product(alloc, first.get(), rest, assignment, nodes, graph);
+            listed(alloc, product)
         }
         Expr::Dot(first, rest) => {
-            eval_dot(
-                alloc,
-                first.get(),
-                rest.as_slice(),
-                assignment,
-                nodes,
-                graph,
-            )
+            let rest = rest.as_slice();
+            eval_dot(alloc, first.get(), rest, assignment, nodes, graph)
         }
         Expr::Join(first, rest) => {
-            eval_join(
-                alloc,
-                first.get(),
-                rest.as_slice(),
-                assignment,
-                nodes,
-                graph,
-            )
+            let rest = rest.as_slice();
+            eval_join(alloc, first.get(), rest, assignment, nodes, graph)
         }
     }
 }
@@ -135,30 +115,18 @@ pub fn eval_integer(
             negated(eval_integer(alloc, operand.get(), assignment, nodes, graph))
         }
         Expr::Sum(first, rest) => {
-            eval_sum(
-                alloc,
-                first.get(),
-                rest.as_slice(),
-                assignment,
-                nodes,
-                graph,
-            )
+            let rest = rest.as_slice();
+            eval_sum(alloc, first.get(), rest, assignment, nodes, graph)
         }
         Expr::Product(first, rest) => {
-            eval_product(
-                alloc,
-                first.get(),
-                rest.as_slice(),
-                assignment,
-                nodes,
-                graph,
-            )
+            let rest = rest.as_slice();
+            eval_product(alloc, first.get(), rest, assignment, nodes, graph)
         }
         _ => counted(eval(alloc, e, assignment, nodes, graph)),
     }
 }
 
-// The integer of a sum.
+// The integer of a sum. Operands behind one without a value are not valued.
 #[cycle(eval)]
 fn eval_sum(
     alloc: Global,
@@ -174,15 +142,15 @@ fn eval_sum(
     requires nodes { AreNodes graph.now.graph nodes.now }
     ensures { Gives result (counted (fold (sum_step (setting assignment.now nodes.now graph.now.graph)) (value_of (expression_of first.now) (setting assignment.now nodes.now graph.now.graph)) rest.now)) }
 {
-    let mut total = eval_integer(alloc, first, assignment, nodes, graph);
+    let mut total = eval_integer(alloc, first, assignment, nodes, graph)?;
     'terms: for term in rest {
-        let y = eval_integer(alloc, &term.operand, assignment, nodes, graph);
-        total = added(term.sign, total, y);
+        let y = eval_integer(alloc, &term.operand, assignment, nodes, graph)?;
+        total = added(term.sign, total, y)?;
     }
-    total
+    Ok(total)
 }
 
-// The integer of a product.
+// The integer of a product. Operands behind one without a value are not valued.
 #[cycle(eval)]
 fn eval_product(
     alloc: Global,
@@ -198,12 +166,12 @@ fn eval_product(
     requires nodes { AreNodes graph.now.graph nodes.now }
     ensures { Gives result (counted (fold (product_step (setting assignment.now nodes.now graph.now.graph)) (value_of (expression_of first.now) (setting assignment.now nodes.now graph.now.graph)) rest.now)) }
 {
-    let mut total = eval_integer(alloc, first, assignment, nodes, graph);
+    let mut total = eval_integer(alloc, first, assignment, nodes, graph)?;
     'factors: for factor in rest {
-        let y = eval_integer(alloc, &factor.operand, assignment, nodes, graph);
-        total = multiplied(factor.sign, total, y);
+        let y = eval_integer(alloc, &factor.operand, assignment, nodes, graph)?;
+        total = multiplied(factor.sign, total, y)?;
     }
-    total
+    Ok(total)
 }
 
 #[cycle(eval)]

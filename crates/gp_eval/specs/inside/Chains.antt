@@ -40,10 +40,6 @@ listed v = v >>= λ z. Value (number z)
 abbrev pub opposite : Valued ℤ → Valued ℤ
 opposite v = v >>= λ z. counted (ranged (neg_ℤ z))
 
--- an operation on what two integers are, as an integer again
-abbrev pub by_integers : (ℤ → ℤ → Values) → Valued ℤ → Valued ℤ → Valued ℤ
-by_integers op v w = v >>= λ x. w >>= λ y. counted (op x y)
-
 abbrev pub added : SumSign → ℤ → ℤ → Values
 added sums.Plus x y = ranged (x +ℤ y)
 added sums.Minus x y = ranged (x -ℤ y)

@@ -1,5 +1,5 @@
 use Rattle.std.proofs.Common.{rules, ◌≡◌, ℕ, ◌+◌, ◌≤◌, [], ◌∷◌, ◌++◌, length, fold, refl, sym, ap, subst, ◌∙◌}
-use mir.Val.{SFits}
+use mir.Val.{SFits, to_z}
 use mir.Syntax.{w128}
 use Rattle.std.proofs.lemmas.Int.{to_z-of_z}
 use Rattle.gp_values.specs.declared.atom.Atom.TheVariants.{Str}
@@ -10,7 +10,7 @@ use Rattle.gp_syntax.proofs.Trees.{expression_of-Number, expression_of-Text, exp
 use Rattle.gp_eval.specs.Answer.{setting}
 use Rattle.gp_eval.specs.inside.Chains.{Gives, listed, added, multiplied, dot_step, join_step}
 use Rattle.gp_eval.specs.inside.Size.{size, sizes, operand_sizes}
-use Rattle.gp_eval.proofs.Chains.{operand_lacks, step_lacks, first_lacks, one_more, none_left, sum_listed, product_listed, negated_counted, negated_listed, some_left, sum_is, product_is, dots_are, joins_are, within_sum, within_product, within_dots, within_joins, size-Negated, size-Sum, size-Product, size-Dot, size-Join, size_at, operand_size_at, err_given, memory_given, ended, dot_first, dot_on, join_on, empty_fold, not_empty}
+use Rattle.gp_eval.proofs.Chains.{operand_lacks, step_lacks, first_lacks, by_integer, first_uncounted, operand_uncounted, step_uncounted, counted_on, counted_all, passed, sum_listed, product_listed, negated_counted, negated_listed, some_left, sum_is, product_is, dots_are, joins_are, within_sum, within_product, within_dots, within_joins, size-Negated, size-Sum, size-Product, size-Dot, size-Join, size_at, operand_size_at, err_given, memory_given, ended, dot_first, dot_on, join_on, empty_fold, not_empty}
 use Rattle.gp_eval.proofs.expression.+eval.Goals as goal
 
 pub eval-returns-in-Number : goal.eval-returns-in-Number
@@ -47,12 +47,12 @@ eval-length_of-requires-clause-known t c =
 
 pub eval-returns-in-Dot : goal.eval-returns-in-Dot
 eval-returns-in-Dot t c =
-    rw (c.in-Dot.is, expression_of-Dot c.in-Dot.first c.in-Dot.rest, dots_are (setting c.args.assignment.now c.args.nodes.now c.args.graph.now.graph) (expression_of c.in-Dot.first) c.in-Dot.rest, ← c.get-in-Dot.ensures, ← c.as_slice.ensures) c.eval_dot.ensures
+    rw (c.in-Dot.is, expression_of-Dot c.in-Dot.first c.in-Dot.rest, dots_are (setting c.args.assignment.now c.args.nodes.now c.args.graph.now.graph) (expression_of c.in-Dot.first) c.in-Dot.rest, ← c.get-in-Dot.ensures, ← c.as_slice-rest-in-Dot.ensures) c.eval_dot.ensures
 
 pub eval-eval_dot-requires : goal.eval-eval_dot-requires
 eval-eval_dot-requires t c =
     let is = c.get-in-Dot.ensures in
-    let are = c.as_slice.ensures in
+    let are = c.as_slice-rest-in-Dot.ensures in
     let e = c.in-Dot.first in
     let ts = c.in-Dot.rest in
     let w = within_dots (length c.args.assignment.now.types) (length c.args.nodes.now) (expression_of e) ts (subst (IsWithin (length c.args.assignment.now.types) (length c.args.nodes.now)) (ap expression_of c.in-Dot.is ∙ expression_of-Dot e ts) c.requires.within) in
@@ -61,55 +61,87 @@ eval-eval_dot-requires t c =
 
 pub eval-returns-in-Join : goal.eval-returns-in-Join
 eval-returns-in-Join t c =
-    rw (c.in-Join.is, expression_of-Join c.in-Join.first c.in-Join.rest, joins_are (setting c.args.assignment.now c.args.nodes.now c.args.graph.now.graph) (expression_of c.in-Join.first) c.in-Join.rest, ← c.get-in-Join.ensures, ← c.as_slice-in-Join.ensures) c.eval_join.ensures
+    rw (c.in-Join.is, expression_of-Join c.in-Join.first c.in-Join.rest, joins_are (setting c.args.assignment.now c.args.nodes.now c.args.graph.now.graph) (expression_of c.in-Join.first) c.in-Join.rest, ← c.get-in-Join.ensures, ← c.as_slice-rest-in-Join.ensures) c.eval_join.ensures
 
 pub eval-eval_join-requires : goal.eval-eval_join-requires
 eval-eval_join-requires t c =
     let is = c.get-in-Join.ensures in
-    let are = c.as_slice-in-Join.ensures in
+    let are = c.as_slice-rest-in-Join.ensures in
     let e = c.in-Join.first in
     let ts = c.in-Join.rest in
     let w = within_joins (length c.args.assignment.now.types) (length c.args.nodes.now) (expression_of e) ts (subst (IsWithin (length c.args.assignment.now.types) (length c.args.nodes.now)) (ap expression_of c.in-Join.is ∙ expression_of-Join e ts) c.requires.within) in
     let z : size c.args.e.now ≡ 2 + size e + sizes ts = ap size c.in-Join.is ∙ size-Join e ts in
     search rules
 
+pub eval_sum-returns-in_err-total : goal.eval_sum-returns-in_err-total
+eval_sum-returns-in_err-total t c =
+    err_given _ _ _ c.from_residual.ensures.1 (first_uncounted (λ t. value_of (expression_of t.operand) (setting c.args.assignment.now c.args.nodes.now c.args.graph.now.graph)) (λ t x y. added t.sign x y) c.in_err-total.field-0.0 _ c.args.rest.now c.in_err-total.ensures)
+
 pub eval_sum-terms-init : goal.eval_sum-terms-init
 eval_sum-terms-init t c =
-    record { value = value_of (expression_of c.args.first.now) (setting c.args.assignment.now c.args.nodes.now c.args.graph.now.graph); given = c.eval_integer-total.ensures; rest = refl }
+    let f : SFits w128 c.in_ok-total.total = search rules in
+    by_integer (λ t. value_of (expression_of t.operand) (setting c.args.assignment.now c.args.nodes.now c.args.graph.now.graph)) (λ t x y. added t.sign x y) _ _ c.args.rest.now (passed _ _ f c.in_ok-total.ensures)
 
-pub eval_sum-eval_integer-y-requires : goal.eval_sum-eval_integer-y-requires
-eval_sum-eval_integer-y-requires t c =
+pub eval_sum-returns-in_err-y : goal.eval_sum-returns-in_err-y
+eval_sum-returns-in_err-y t c =
+    err_given _ _ _ c.from_residual-in_err-y.ensures.1 (operand_uncounted (λ t. value_of (expression_of t.operand) (setting c.args.assignment.now c.args.nodes.now c.args.graph.now.graph)) (λ t x y. added t.sign x y) c.in_err-y.field-0.0 (to_z w128 c.terms.total-bits) c.terms.term-index c.term-item.result c.args.rest.now _ c.terms-test.true c.term-item.is c.in_err-y.ensures c.terms.invariant)
+
+pub eval_sum-returns-in_err-total-2 : goal.eval_sum-returns-in_err-total-2
+eval_sum-returns-in_err-total-2 t c =
+    let f : SFits w128 c.in_ok-y.y = search rules in
+    err_given _ _ _ c.from_residual-in_err-total-2.ensures.1 (step_uncounted (λ t. value_of (expression_of t.operand) (setting c.args.assignment.now c.args.nodes.now c.args.graph.now.graph)) (λ t x y. added t.sign x y) c.in_err-total-2.field-0.0 (to_z w128 c.terms.total-bits) _ c.terms.term-index c.term-item.result c.args.rest.now _ c.terms-test.true c.term-item.is (passed _ _ f c.in_ok-y.ensures) c.in_err-total-2.ensures c.terms.invariant)
+
+pub eval_sum-terms-preserved : goal.eval_sum-terms-preserved
+eval_sum-terms-preserved t c =
+    let f : SFits w128 c.in_ok-y.y = search rules in
+    let g : SFits w128 c.in_ok-total-2.total = search rules in
+    counted_on (λ t. value_of (expression_of t.operand) (setting c.args.assignment.now c.args.nodes.now c.args.graph.now.graph)) (λ t x y. added t.sign x y) (to_z w128 c.terms.total-bits) _ _ c.terms.term-index c.term-item.result c.args.rest.now _ c.terms-test.true c.term-item.is (passed _ _ f c.in_ok-y.ensures) (passed _ _ g c.in_ok-total-2.ensures) c.terms.invariant
+
+pub eval_sum-returns : goal.eval_sum-returns
+eval_sum-returns t c =
+    counted_all (λ t. value_of (expression_of t.operand) (setting c.args.assignment.now c.args.nodes.now c.args.graph.now.graph)) (λ t x y. added t.sign x y) (to_z w128 c.terms.total-bits) c.terms.term-index c.args.rest.now _ c.terms-test.false c.terms.invariant
+
+pub eval_sum-eval_integer-requires-in-terms : goal.eval_sum-eval_integer-requires-in-terms
+eval_sum-eval_integer-requires-in-terms t c =
     let x = c.term-item.result in
     let w : IsWithin (length c.args.assignment.now.types) (length c.args.nodes.now) (expression_of x.operand) = subst (λ z. IsWithin (length c.args.assignment.now.types) (length c.args.nodes.now) (expression_of z.operand)) (sym c.term-item.is) (c.requires.rest c.terms.term-index x c.terms-test.true) in
     let l : size x.operand ≤ operand_sizes c.args.rest.now = subst (λ z. size z.operand ≤ operand_sizes c.args.rest.now) (sym c.term-item.is) (operand_size_at c.args.rest.now c.terms.term-index x c.terms-test.true) in
     search rules
 
-pub eval_sum-terms-preserved : goal.eval_sum-terms-preserved
-eval_sum-terms-preserved t c =
-    one_more (λ t. value_of (expression_of t.operand) (setting c.args.assignment.now c.args.nodes.now c.args.graph.now.graph)) (λ t x y. added t.sign x y) _ _ c.terms.term-index c.term-item.result c.args.rest.now _ c.terms-test.true c.term-item.is c.terms.invariant (λ v g. c.added-total.ensures v _ g c.eval_integer-y.ensures)
-
-pub eval_sum-returns : goal.eval_sum-returns
-eval_sum-returns t c =
-    none_left (λ t. value_of (expression_of t.operand) (setting c.args.assignment.now c.args.nodes.now c.args.graph.now.graph)) (λ t x y. added t.sign x y) _ c.terms.term-index c.args.rest.now _ c.terms-test.false c.terms.invariant
+pub eval_product-returns-in_err-total : goal.eval_product-returns-in_err-total
+eval_product-returns-in_err-total t c =
+    err_given _ _ _ c.from_residual.ensures.1 (first_uncounted (λ t. value_of (expression_of t.operand) (setting c.args.assignment.now c.args.nodes.now c.args.graph.now.graph)) (λ t x y. multiplied t.sign x y) c.in_err-total.field-0.0 _ c.args.rest.now c.in_err-total.ensures)
 
 pub eval_product-factors-init : goal.eval_product-factors-init
 eval_product-factors-init t c =
-    record { value = value_of (expression_of c.args.first.now) (setting c.args.assignment.now c.args.nodes.now c.args.graph.now.graph); given = c.eval_integer-total.ensures; rest = refl }
+    let f : SFits w128 c.in_ok-total.total = search rules in
+    by_integer (λ t. value_of (expression_of t.operand) (setting c.args.assignment.now c.args.nodes.now c.args.graph.now.graph)) (λ t x y. multiplied t.sign x y) _ _ c.args.rest.now (passed _ _ f c.in_ok-total.ensures)
 
-pub eval_product-eval_integer-y-requires : goal.eval_product-eval_integer-y-requires
-eval_product-eval_integer-y-requires t c =
+pub eval_product-returns-in_err-y : goal.eval_product-returns-in_err-y
+eval_product-returns-in_err-y t c =
+    err_given _ _ _ c.from_residual-in_err-y.ensures.1 (operand_uncounted (λ t. value_of (expression_of t.operand) (setting c.args.assignment.now c.args.nodes.now c.args.graph.now.graph)) (λ t x y. multiplied t.sign x y) c.in_err-y.field-0.0 (to_z w128 c.factors.total-bits) c.factors.factor-index c.factor-item.result c.args.rest.now _ c.factors-test.true c.factor-item.is c.in_err-y.ensures c.factors.invariant)
+
+pub eval_product-returns-in_err-total-2 : goal.eval_product-returns-in_err-total-2
+eval_product-returns-in_err-total-2 t c =
+    let f : SFits w128 c.in_ok-y.y = search rules in
+    err_given _ _ _ c.from_residual-in_err-total-2.ensures.1 (step_uncounted (λ t. value_of (expression_of t.operand) (setting c.args.assignment.now c.args.nodes.now c.args.graph.now.graph)) (λ t x y. multiplied t.sign x y) c.in_err-total-2.field-0.0 (to_z w128 c.factors.total-bits) _ c.factors.factor-index c.factor-item.result c.args.rest.now _ c.factors-test.true c.factor-item.is (passed _ _ f c.in_ok-y.ensures) c.in_err-total-2.ensures c.factors.invariant)
+
+pub eval_product-factors-preserved : goal.eval_product-factors-preserved
+eval_product-factors-preserved t c =
+    let f : SFits w128 c.in_ok-y.y = search rules in
+    let g : SFits w128 c.in_ok-total-2.total = search rules in
+    counted_on (λ t. value_of (expression_of t.operand) (setting c.args.assignment.now c.args.nodes.now c.args.graph.now.graph)) (λ t x y. multiplied t.sign x y) (to_z w128 c.factors.total-bits) _ _ c.factors.factor-index c.factor-item.result c.args.rest.now _ c.factors-test.true c.factor-item.is (passed _ _ f c.in_ok-y.ensures) (passed _ _ g c.in_ok-total-2.ensures) c.factors.invariant
+
+pub eval_product-returns : goal.eval_product-returns
+eval_product-returns t c =
+    counted_all (λ t. value_of (expression_of t.operand) (setting c.args.assignment.now c.args.nodes.now c.args.graph.now.graph)) (λ t x y. multiplied t.sign x y) (to_z w128 c.factors.total-bits) c.factors.factor-index c.args.rest.now _ c.factors-test.false c.factors.invariant
+
+pub eval_product-eval_integer-requires-in-factors : goal.eval_product-eval_integer-requires-in-factors
+eval_product-eval_integer-requires-in-factors t c =
     let x = c.factor-item.result in
     let w : IsWithin (length c.args.assignment.now.types) (length c.args.nodes.now) (expression_of x.operand) = subst (λ z. IsWithin (length c.args.assignment.now.types) (length c.args.nodes.now) (expression_of z.operand)) (sym c.factor-item.is) (c.requires.rest c.factors.factor-index x c.factors-test.true) in
     let l : size x.operand ≤ operand_sizes c.args.rest.now = subst (λ z. size z.operand ≤ operand_sizes c.args.rest.now) (sym c.factor-item.is) (operand_size_at c.args.rest.now c.factors.factor-index x c.factors-test.true) in
     search rules
-
-pub eval_product-factors-preserved : goal.eval_product-factors-preserved
-eval_product-factors-preserved t c =
-    one_more (λ t. value_of (expression_of t.operand) (setting c.args.assignment.now c.args.nodes.now c.args.graph.now.graph)) (λ t x y. multiplied t.sign x y) _ _ c.factors.factor-index c.factor-item.result c.args.rest.now _ c.factors-test.true c.factor-item.is c.factors.invariant (λ v g. c.multiplied-total.ensures v _ g c.eval_integer-y.ensures)
-
-pub eval_product-returns : goal.eval_product-returns
-eval_product-returns t c =
-    none_left (λ t. value_of (expression_of t.operand) (setting c.args.assignment.now c.args.nodes.now c.args.graph.now.graph)) (λ t x y. multiplied t.sign x y) _ c.factors.factor-index c.args.rest.now _ c.factors-test.false c.factors.invariant
 
 pub eval_dot-returns-in_err-head : goal.eval_dot-returns-in_err-head
 eval_dot-returns-in_err-head t c =
@@ -229,29 +261,19 @@ eval_integer-eval_integer-requires t c =
     let z : size c.args.e.now ≡ 2 + size e = ap size c.in-Negated.is ∙ size-Negated e in
     search rules
 
-pub eval-eval_product-requires : goal.eval-eval_product-requires
-eval-eval_product-requires t c =
-    let is = c.get-first-in-Product.ensures in
-    let are = c.as_slice-rest-else-is_empty-2.ensures in
-    let e = c.in-Product.first in
-    let ts = c.in-Product.rest in
-    let w = within_product (length c.args.assignment.now.types) (length c.args.nodes.now) (expression_of e) ts (subst (IsWithin (length c.args.assignment.now.types) (length c.args.nodes.now)) (ap expression_of c.in-Product.is ∙ expression_of-Product e ts) c.requires.within) in
-    let z : size c.args.e.now ≡ 3 + size e + operand_sizes ts = ap size c.in-Product.is ∙ size-Product e ts in
-    search rules
-
 pub eval_integer-eval_product-requires : goal.eval_integer-eval_product-requires
 eval_integer-eval_product-requires t c =
     let is = c.get-in-Product.ensures in
-    let are = c.as_slice-in-Product.ensures in
+    let are = c.as_slice-rest-in-Product.ensures in
     let e = c.in-Product.first in
     let ts = c.in-Product.rest in
     let w = within_product (length c.args.assignment.now.types) (length c.args.nodes.now) (expression_of e) ts (subst (IsWithin (length c.args.assignment.now.types) (length c.args.nodes.now)) (ap expression_of c.in-Product.is ∙ expression_of-Product e ts) c.requires.within) in
     let z : size c.args.e.now ≡ 3 + size e + operand_sizes ts = ap size c.in-Product.is ∙ size-Product e ts in
     search rules
 
-pub eval-eval_sum-requires : goal.eval-eval_sum-requires
-eval-eval_sum-requires t c =
-    let is = c.get-first.ensures in
+pub eval_integer-eval_sum-requires : goal.eval_integer-eval_sum-requires
+eval_integer-eval_sum-requires t c =
+    let is = c.get-in-Sum.ensures in
     let are = c.as_slice-rest.ensures in
     let e = c.in-Sum.first in
     let ts = c.in-Sum.rest in
@@ -259,41 +281,59 @@ eval-eval_sum-requires t c =
     let z : size c.args.e.now ≡ 3 + size e + operand_sizes ts = ap size c.in-Sum.is ∙ size-Sum e ts in
     search rules
 
-pub eval_integer-eval_sum-requires : goal.eval_integer-eval_sum-requires
-eval_integer-eval_sum-requires t c =
-    let is = c.get-in-Sum.ensures in
-    let are = c.as_slice.ensures in
+pub eval-eval-requires : goal.eval-eval-requires
+eval-eval-requires t c =
+    let is = c.get-then-is_empty.ensures in
     let e = c.in-Sum.first in
     let ts = c.in-Sum.rest in
     let w = within_sum (length c.args.assignment.now.types) (length c.args.nodes.now) (expression_of e) ts (subst (IsWithin (length c.args.assignment.now.types) (length c.args.nodes.now)) (ap expression_of c.in-Sum.is ∙ expression_of-Sum e ts) c.requires.within) in
     let z : size c.args.e.now ≡ 3 + size e + operand_sizes ts = ap size c.in-Sum.is ∙ size-Sum e ts in
     search rules
 
+pub eval-eval_sum-sum-requires : goal.eval-eval_sum-sum-requires
+eval-eval_sum-sum-requires t c =
+    let is = c.get-in-Sum.ensures in
+    let are = c.as_slice-rest.ensures in
+    let e = c.in-Sum.first in
+    let ts = c.in-Sum.rest in
+    let w = within_sum (length c.args.assignment.now.types) (length c.args.nodes.now) (expression_of e) ts (subst (IsWithin (length c.args.assignment.now.types) (length c.args.nodes.now)) (ap expression_of c.in-Sum.is ∙ expression_of-Sum e ts) c.requires.within) in
+    let z : size c.args.e.now ≡ 3 + size e + operand_sizes ts = ap size c.in-Sum.is ∙ size-Sum e ts in
+    search rules
+
+pub eval-returns-then-is_empty : goal.eval-returns-then-is_empty
+eval-returns-then-is_empty t c =
+    rw (c.in-Sum.is, expression_of-Sum c.in-Sum.first c.in-Sum.rest, sum_is (setting c.args.assignment.now c.args.nodes.now c.args.graph.now.graph) (expression_of c.in-Sum.first) c.in-Sum.rest, c.is_empty.ensures.0 c.if-is_empty.true, ← c.get-then-is_empty.ensures) c.eval.ensures
+
+pub eval-returns-else-is_empty : goal.eval-returns-else-is_empty
+eval-returns-else-is_empty t c =
+    rw (c.in-Sum.is, expression_of-Sum c.in-Sum.first c.in-Sum.rest, sum_is (setting c.args.assignment.now c.args.nodes.now c.args.graph.now.graph) (expression_of c.in-Sum.first) c.in-Sum.rest) (subst (Gives c.listed-in-Sum.result) (sym (sum_listed (setting c.args.assignment.now c.args.nodes.now c.args.graph.now.graph) _ c.in-Sum.rest (some_left c.in-Sum.rest _ c.is_empty.ensures c.if-is_empty.false))) (rw (← c.get-in-Sum.ensures, ← c.as_slice-rest.ensures) (c.listed-in-Sum.ensures _ c.eval_sum-sum.ensures)))
+
 pub eval-eval-requires-then-is_empty-2 : goal.eval-eval-requires-then-is_empty-2
 eval-eval-requires-then-is_empty-2 t c =
-    let is = c.get-first-in-Product.ensures in
+    let is = c.get-then-is_empty-2.ensures in
     let e = c.in-Product.first in
     let ts = c.in-Product.rest in
     let w = within_product (length c.args.assignment.now.types) (length c.args.nodes.now) (expression_of e) ts (subst (IsWithin (length c.args.assignment.now.types) (length c.args.nodes.now)) (ap expression_of c.in-Product.is ∙ expression_of-Product e ts) c.requires.within) in
     let z : size c.args.e.now ≡ 3 + size e + operand_sizes ts = ap size c.in-Product.is ∙ size-Product e ts in
     search rules
 
-pub eval-eval-requires : goal.eval-eval-requires
-eval-eval-requires t c =
-    let is = c.get-first.ensures in
-    let e = c.in-Sum.first in
-    let ts = c.in-Sum.rest in
-    let w = within_sum (length c.args.assignment.now.types) (length c.args.nodes.now) (expression_of e) ts (subst (IsWithin (length c.args.assignment.now.types) (length c.args.nodes.now)) (ap expression_of c.in-Sum.is ∙ expression_of-Sum e ts) c.requires.within) in
-    let z : size c.args.e.now ≡ 3 + size e + operand_sizes ts = ap size c.in-Sum.is ∙ size-Sum e ts in
+pub eval-eval_product-product-requires : goal.eval-eval_product-product-requires
+eval-eval_product-product-requires t c =
+    let is = c.get-in-Product.ensures in
+    let are = c.as_slice-rest-in-Product.ensures in
+    let e = c.in-Product.first in
+    let ts = c.in-Product.rest in
+    let w = within_product (length c.args.assignment.now.types) (length c.args.nodes.now) (expression_of e) ts (subst (IsWithin (length c.args.assignment.now.types) (length c.args.nodes.now)) (ap expression_of c.in-Product.is ∙ expression_of-Product e ts) c.requires.within) in
+    let z : size c.args.e.now ≡ 3 + size e + operand_sizes ts = ap size c.in-Product.is ∙ size-Product e ts in
     search rules
+
+pub eval-returns-then-is_empty-2 : goal.eval-returns-then-is_empty-2
+eval-returns-then-is_empty-2 t c =
+    rw (c.in-Product.is, expression_of-Product c.in-Product.first c.in-Product.rest, product_is (setting c.args.assignment.now c.args.nodes.now c.args.graph.now.graph) (expression_of c.in-Product.first) c.in-Product.rest, c.is_empty-in-Product.ensures.0 c.if-is_empty-2.true, ← c.get-then-is_empty-2.ensures) c.eval-then-is_empty-2.ensures
 
 pub eval-returns-else-is_empty-2 : goal.eval-returns-else-is_empty-2
 eval-returns-else-is_empty-2 t c =
-    rw (c.in-Product.is, expression_of-Product c.in-Product.first c.in-Product.rest, product_is (setting c.args.assignment.now c.args.nodes.now c.args.graph.now.graph) (expression_of c.in-Product.first) c.in-Product.rest) (subst (Gives c.listed-else-is_empty-2.result) (sym (product_listed (setting c.args.assignment.now c.args.nodes.now c.args.graph.now.graph) _ c.in-Product.rest (some_left c.in-Product.rest _ c.is_empty-in-Product.ensures c.if-is_empty-2.false))) (rw (← c.get-first-in-Product.ensures, ← c.as_slice-rest-else-is_empty-2.ensures) (c.listed-else-is_empty-2.ensures _ c.eval_product.ensures)))
-
-pub eval-returns-else-is_empty : goal.eval-returns-else-is_empty
-eval-returns-else-is_empty t c =
-    rw (c.in-Sum.is, expression_of-Sum c.in-Sum.first c.in-Sum.rest, sum_is (setting c.args.assignment.now c.args.nodes.now c.args.graph.now.graph) (expression_of c.in-Sum.first) c.in-Sum.rest) (subst (Gives c.listed-else-is_empty.result) (sym (sum_listed (setting c.args.assignment.now c.args.nodes.now c.args.graph.now.graph) _ c.in-Sum.rest (some_left c.in-Sum.rest _ c.is_empty.ensures c.if-is_empty.false))) (rw (← c.get-first.ensures, ← c.as_slice-rest.ensures) (c.listed-else-is_empty.ensures _ c.eval_sum.ensures)))
+    rw (c.in-Product.is, expression_of-Product c.in-Product.first c.in-Product.rest, product_is (setting c.args.assignment.now c.args.nodes.now c.args.graph.now.graph) (expression_of c.in-Product.first) c.in-Product.rest) (subst (Gives c.listed-in-Product.result) (sym (product_listed (setting c.args.assignment.now c.args.nodes.now c.args.graph.now.graph) _ c.in-Product.rest (some_left c.in-Product.rest _ c.is_empty-in-Product.ensures c.if-is_empty-2.false))) (rw (← c.get-in-Product.ensures, ← c.as_slice-rest-in-Product.ensures) (c.listed-in-Product.ensures _ c.eval_product-product.ensures)))
 
 pub eval-returns-in-InDegree : goal.eval-returns-in-InDegree
 eval-returns-in-InDegree t c =
@@ -314,22 +354,14 @@ eval-returns-in-OutDegree t c =
     let f : SFits w128 c.out_degree_of.result = search rules in
     rw (c.in-OutDegree.is, expression_of-OutDegree {R = ℕ} c.in-OutDegree.n) (subst (λ z. Gives c.number-in-OutDegree.result (Value (number z))) (to_z-of_z w128 c.out_degree_of.result f ∙ c.out_degree_of.ensures) c.number-in-OutDegree.ensures)
 
-pub eval-returns-then-is_empty-2 : goal.eval-returns-then-is_empty-2
-eval-returns-then-is_empty-2 t c =
-    rw (c.in-Product.is, expression_of-Product c.in-Product.first c.in-Product.rest, product_is (setting c.args.assignment.now c.args.nodes.now c.args.graph.now.graph) (expression_of c.in-Product.first) c.in-Product.rest, c.is_empty-in-Product.ensures.0 c.if-is_empty-2.true, ← c.get-first-in-Product.ensures) c.eval-then-is_empty-2.ensures
-
-pub eval-returns-then-is_empty : goal.eval-returns-then-is_empty
-eval-returns-then-is_empty t c =
-    rw (c.in-Sum.is, expression_of-Sum c.in-Sum.first c.in-Sum.rest, sum_is (setting c.args.assignment.now c.args.nodes.now c.args.graph.now.graph) (expression_of c.in-Sum.first) c.in-Sum.rest, c.is_empty.ensures.0 c.if-is_empty.true, ← c.get-first.ensures) c.eval.ensures
-
 pub eval_integer-returns-in-Negated : goal.eval_integer-returns-in-Negated
 eval_integer-returns-in-Negated t c =
     rw (c.in-Negated.is, expression_of-Negated c.in-Negated.operand, ← c.get.ensures) (subst (Gives c.negated.result) (sym (negated_counted (value_of (expression_of c.get.result.now) (setting c.args.assignment.now c.args.nodes.now c.args.graph.now.graph)))) (c.negated.ensures _ c.eval_integer.ensures))
 
 pub eval_integer-returns-in-Product : goal.eval_integer-returns-in-Product
 eval_integer-returns-in-Product t c =
-    rw (c.in-Product.is, expression_of-Product c.in-Product.first c.in-Product.rest, product_is (setting c.args.assignment.now c.args.nodes.now c.args.graph.now.graph) (expression_of c.in-Product.first) c.in-Product.rest, ← c.get-in-Product.ensures, ← c.as_slice-in-Product.ensures) c.eval_product.ensures
+    rw (c.in-Product.is, expression_of-Product c.in-Product.first c.in-Product.rest, product_is (setting c.args.assignment.now c.args.nodes.now c.args.graph.now.graph) (expression_of c.in-Product.first) c.in-Product.rest, ← c.get-in-Product.ensures, ← c.as_slice-rest-in-Product.ensures) c.eval_product.ensures
 
 pub eval_integer-returns-in-Sum : goal.eval_integer-returns-in-Sum
 eval_integer-returns-in-Sum t c =
-    rw (c.in-Sum.is, expression_of-Sum c.in-Sum.first c.in-Sum.rest, sum_is (setting c.args.assignment.now c.args.nodes.now c.args.graph.now.graph) (expression_of c.in-Sum.first) c.in-Sum.rest, ← c.get-in-Sum.ensures, ← c.as_slice.ensures) c.eval_sum.ensures
+    rw (c.in-Sum.is, expression_of-Sum c.in-Sum.first c.in-Sum.rest, sum_is (setting c.args.assignment.now c.args.nodes.now c.args.graph.now.graph) (expression_of c.in-Sum.first) c.in-Sum.rest, ← c.get-in-Sum.ensures, ← c.as_slice-rest.ensures) c.eval_sum.ensures

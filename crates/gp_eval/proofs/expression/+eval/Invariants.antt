@@ -2,11 +2,10 @@ use Rattle.std.proofs.Common.{◌≡◌, ◌+◌, drop, fold, ◌∷◌, []}
 use Rattle.gp_values.specs.declared.atom.Atom.TheVariants.{Str}
 use Rattle.gp_values.specs.Texts.{IsText}
 use Rattle.gp_syntax.specs.Tree.{expression_of}
-use Rattle.gp_syntax.specs.Value.{Value, value_of}
+use Rattle.gp_syntax.specs.Value.{Value, value_of, number}
 use Rattle.gp_eval.specs.Answer.{setting}
-use Rattle.gp_eval.specs.inside.Chains.{counted, added, multiplied, sum_step, product_step, dot_step, join_step}
+use Rattle.gp_eval.specs.inside.Chains.{counted, sum_step, product_step, dot_step, join_step}
 use Rattle.gp_eval.specs.inside.Size.{size, sizes, operand_sizes}
-use Rattle.gp_eval.proofs.Chains.{IsSoFar}
 use Rattle.gp_eval.proofs.expression.+eval.Given as goal
 
 abbrev pub decreases-eval : goal.decreases-eval
@@ -28,10 +27,10 @@ abbrev pub decreases-eval_join : goal.decreases-eval_join
 decreases-eval_join l = 1 + size l.first.now + sizes l.rest.now
 
 abbrev pub invariant-eval_sum-terms : goal.invariant-eval_sum-terms
-invariant-eval_sum-terms l = let s = setting l.assignment l.nodes l.graph.graph in IsSoFar (λ t. value_of (expression_of t.operand) s) (λ t x y. added t.sign x y) l.total l.term-index l.rest (counted (fold (sum_step s) (value_of (expression_of l.first) s) l.rest))
+invariant-eval_sum-terms l = let s = setting l.assignment l.nodes l.graph.graph in counted (fold (sum_step s) (Value (number l.total)) (drop l.term-index l.rest)) ≡ counted (fold (sum_step s) (value_of (expression_of l.first) s) l.rest)
 
 abbrev pub invariant-eval_product-factors : goal.invariant-eval_product-factors
-invariant-eval_product-factors l = let s = setting l.assignment l.nodes l.graph.graph in IsSoFar (λ t. value_of (expression_of t.operand) s) (λ t x y. multiplied t.sign x y) l.total l.factor-index l.rest (counted (fold (product_step s) (value_of (expression_of l.first) s) l.rest))
+invariant-eval_product-factors l = let s = setting l.assignment l.nodes l.graph.graph in counted (fold (product_step s) (Value (number l.total)) (drop l.factor-index l.rest)) ≡ counted (fold (product_step s) (value_of (expression_of l.first) s) l.rest)
 
 abbrev pub invariant-eval_dot-parts : goal.invariant-eval_dot-parts
 invariant-eval_dot-parts l = let s = setting l.assignment l.nodes l.graph.graph in (fold (dot_step s) (Value (Str l.codes.items ∷ [])) (drop l.part-index l.rest) ≡ fold (dot_step s) (value_of (expression_of l.first) s) l.rest) × IsText l.codes.items
