@@ -7,7 +7,7 @@ complete -c gp2 -n '__fish_seen_subcommand_from run' -l journal -d 'Print the st
 complete -c gp2 -n '__fish_seen_subcommand_from run' -k -a '(__fish_complete_suffix .host)(__fish_complete_suffix .gp2)'
 complete -c gp2 -n __fish_use_subcommand -a demo -d 'Run a workload made from a number'
 complete -c gp2 -n '__fish_seen_subcommand_from run demo' -l workers -x -d 'How many workers search at the same time'
-complete -c gp2 -n '__fish_seen_subcommand_from run demo' -l fan -x -d 'How many thousands of candidates a search looks at before all workers make it'
+complete -c gp2 -n '__fish_seen_subcommand_from run demo' -l fan -x -d 'How many times 20,000 candidates a search looks at before all workers make it'
 complete -c gp2 -n '__fish_seen_subcommand_from run demo' -l batch -x -d 'How many matches a worker may offer in one turn'
 complete -c gp2 -n '__fish_seen_subcommand_from demo' -a 'closure colour tree'
 complete -c gp2 -n __fish_use_subcommand -a check -d 'Say whether a journal and a result are those of a run'
