@@ -7,4 +7,4 @@ mod rules;
 mod samples;
 mod texts;
 
-pub use kinds::{FILES, Kind, answer};
+pub use kinds::{FILES, Kind, RuleKind, TextKind, answer};

@@ -1,5 +1,5 @@
 -- What one declaration does to the names among which it stands.
-use Rattle.std.proofs.Common.{◌≡◌, ℕ, zero, ◌+◌, ◌<◌, ◌^◌, Bool, true, false, cond, ◌||◌, List, [], ◌∷◌, ◌++◌, drop, length, get_or, Option, Some, None, refl, sym, ap, ◌∙◌, subst, append_assoc, arith, length-append}
+use Rattle.std.proofs.Common.{◌≡◌, ℕ, ◌+◌, ◌<◌, ◌^◌, Bool, true, false, cond, ◌||◌, List, [], ◌∷◌, ◌++◌, drop, length, get_or, Option, Some, None, refl, sym, ap, ◌∙◌, subst, arith, length-append}
 use Rattle.std.specs.Option.{option_or}
 use Rattle.gp_values.specs.Names.{Name, same_name, has_name}
 use Rattle.gp_syntax.specs.declared.tree.RuleDecl.{RuleDecl}
@@ -9,13 +9,13 @@ use Rattle.gp_syntax.specs.declared.tree.Decl.TheVariants as decl
 use Rattle.gp_scope.specs.declared.meaning.Meaning.{Meaning}
 use Rattle.gp_scope.specs.declared.meaning.Meaning.TheVariants as meanings
 use Rattle.gp_scope.specs.declared.survey.Survey.{Survey}
-use Rattle.gp_scope.specs.Outline.{NamedCommand, Outline, nothing, rule, procedure, is_main, own_number, rules_in, procedures_in, declared, outline, named}
+use Rattle.gp_scope.specs.Outline.{Outline, nothing, rule, procedure, is_main, own_number, rules_in, procedures_in, declared, outline, named}
 use Rattle.gp_scope.specs.Names.{Scope, entries}
 use Rattle.gp_scope.specs.Fault.{doubled_behind}
 use Rattle.gp_scope.specs.inside.Doubles.{name_of}
 use Rattle.gp_scope.specs.Surveys.{survey_of, both_counted, declarations_in}
 use Rattle.gp_scope.specs.inside.Levels.{names_of}
-use Rattle.gp_scope.specs.inside.Declares.{Counts, own_entries, GivesEntries, KeepsOnce, NamesNoOther}
+use Rattle.gp_scope.specs.inside.Declares.{Counts, GivesEntries, KeepsOnce, NamesNoOther}
 use Rattle.gp_scope.proofs.Counted.{counts_all}
 use Rattle.gp_scope.proofs.Outlines.{outline_from, declared-Rule, declared-Procedure, name_of-Rule, name_of-Procedure}
 

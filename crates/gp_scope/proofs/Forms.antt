@@ -1,6 +1,5 @@
 -- The forms of a command, with numbers.
-use Rattle.std.proofs.Common.{◌≡◌, ℕ, ◌+◌, ◌<◌, ◌^◌, List, [], ◌∷◌, ◌++◌, map, fold, length, refl, sym, ap, ◌∙◌, append_assoc, arith, length-append}
-use Rattle.std.proofs.lemmas.List.{length-map}
+use Rattle.std.proofs.Common.{◌≡◌, ℕ, ◌+◌, List, [], ◌∷◌, ◌++◌, map, fold, length, refl, sym, ap, ◌∙◌, append_assoc, length-append}
 use Rattle.gp_values.specs.Names.{Name}
 use Rattle.gp_syntax.specs.declared.tree.CommandTree.{CommandTree}
 use Rattle.gp_syntax.specs.declared.tree.CommandTree.TheVariants as tree
@@ -12,9 +11,9 @@ use Rattle.gp_syntax.proofs.Trees.{command_of-Call, command_of-Seq, command_of-I
 use Rattle.gp_scope.specs.Outline.{NamedCommand, named}
 use Rattle.gp_scope.specs.Names.{Scope}
 use Rattle.gp_scope.specs.Resolved.{called_sets, resolved, rule_number, procedure_number}
-use Rattle.gp_scope.specs.inside.Commands.{sets_in, called_in_rest, sets_in_rest, resolved_rest, size, sizes}
+use Rattle.gp_scope.specs.inside.Commands.{sets_in, sets_in_rest, resolved_rest}
 use Rattle.gp_scope.proofs.Named.{named-Call, named-Procedure, named-Seq, named-If, named-Try, named-Loop, named-Or, named-Skip, named-Fail, named-Break}
-use Rattle.gp_scope.proofs.Numbered.{how_many, sets_counted, both_sets, sequence_called, choice_called, sequence_sets, choice_sets, sequence_resolved, choice_resolved}
+use Rattle.gp_scope.proofs.Numbered.{how_many, sets_counted, both_sets, sequence_sets, choice_sets, sequence_resolved, choice_resolved}
 
 -- what holds of the sets behind a part
 pub behind_part : (s : Scope) (old new : List (List ℕ)) (c : CommandTree) → new ≡ old ++ sets_in s (named c) → length new ≡ length old + how_many (named c)

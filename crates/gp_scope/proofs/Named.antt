@@ -1,5 +1,5 @@
 -- Commands of a text, by their forms.
-use Rattle.std.proofs.Common.{◌≡◌, ◌⊎◌, inl, inr, ℕ, ◌+◌, List, [], ◌∷◌, ◌++◌, map, fold, length, Option, Some, None, refl, sym, ap, ◌∙◌, append_assoc, append-nil, arith, length-append}
+use Rattle.std.proofs.Common.{◌≡◌, ◌⊎◌, inl, inr, List, [], ◌∷◌, map, fold, Option, Some, None, refl, sym, ap, ◌∙◌}
 use Rattle.std.specs.Option.{option_or}
 use Rattle.gp_values.specs.Names.{Name}
 use Rattle.gp_syntax.specs.declared.tree.CommandTree.{CommandTree}
@@ -8,7 +8,7 @@ use Rattle.gp_syntax.specs.declared.tree.CommandTree.TheOpen.{CommandTree-F}
 use Rattle.gp_syntax.specs.declared.tree.CommandTree.TheFolds.{fold-roll-CommandTree}
 use Rattle.gp_scope.specs.Outline.{NamedCommand, Call, Named, Seq, If, Try, Loop, Or, Skip, Fail, Break, named, named_step}
 use Rattle.gp_scope.specs.Names.{Scope}
-use Rattle.gp_scope.specs.Fault.{first_told, unknown_in}
+use Rattle.gp_scope.specs.Fault.{unknown_in}
 use Rattle.gp_scope.specs.inside.Commands.{unknown_in_rest}
 use Rattle.gp_scope.proofs.Told.{told_together}
 

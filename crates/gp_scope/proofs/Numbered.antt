@@ -1,5 +1,5 @@
 -- Commands with numbers, part by part.
-use Rattle.std.proofs.Common.{◌≡◌, ℕ, zero, suc, ◌+◌, ◌<◌, ◌≤◌, List, [], ◌∷◌, ◌++◌, map, fold, take, length, get_or, refl, sym, ap, ◌∙◌, subst, append_assoc, append-nil, arith, length-append}
+use Rattle.std.proofs.Common.{◌≡◌, ℕ, zero, suc, ◌+◌, ◌<◌, ◌≤◌, List, [], ◌∷◌, ◌++◌, map, fold, length, get_or, refl, sym, ap, ◌∙◌, subst, append_assoc, append-nil, arith, length-append}
 use Rattle.std.proofs.lemmas.List.{length-map, map-append}
 use Rattle.gp_values.specs.Names.{Name}
 use Rattle.gp_syntax.specs.declared.tree.CommandTree.{CommandTree}
@@ -7,7 +7,7 @@ use Rattle.gp_syntax.specs.declared.tree.CommandTree.TheVariants as tree
 use Rattle.gp_syntax.specs.declared.tree.CommandTree.TheOpen.{CommandTree-F}
 use Rattle.gp_syntax.specs.declared.tree.CommandTree.TheFolds.{fold-roll-CommandTree}
 use Rattle.gp_syntax.specs.Run as meant
-use Rattle.gp_scope.specs.Outline.{NamedCommand, Call, Named, Seq, If, Try, Loop, Or, Skip, Fail, Break, named}
+use Rattle.gp_scope.specs.Outline.{NamedCommand, Seq, Or, named}
 use Rattle.gp_scope.specs.Names.{Scope}
 use Rattle.gp_scope.specs.Resolved.{called_sets, resolved, rule_number}
 use Rattle.gp_scope.specs.inside.Commands.{sets_in, called_in_rest, sets_in_rest, resolved_rest, size, size_step, sizes}

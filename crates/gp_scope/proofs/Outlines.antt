@@ -1,5 +1,5 @@
 -- What each form of tree is in outline.
-use Rattle.std.proofs.Common.{◌≡◌, ℕ, zero, suc, subst, arith, ◌+◌, ◌<◌, ◌≤◌, List, [], ◌∷◌, map, drop, length, get_or, refl, sym, ap, ◌∙◌}
+use Rattle.std.proofs.Common.{◌≡◌, ℕ, zero, suc, subst, arith, ◌+◌, ◌<◌, ◌≤◌, List, [], ◌∷◌, drop, length, get_or, sym, ap, ◌∙◌}
 use Rattle.std.proofs.Math.Seq.{drop-cons}
 use Rattle.std.proofs.Math.ListN.{drop_of_length-le}
 use Rattle.gp_values.specs.Names.{Name}
@@ -9,7 +9,7 @@ use Rattle.gp_syntax.specs.declared.tree.Decl.{Decl}
 use Rattle.gp_syntax.specs.declared.tree.Decl.TheVariants as decl
 use Rattle.gp_syntax.specs.declared.tree.Decl.TheOpen.{Decl-F}
 use Rattle.gp_syntax.specs.declared.tree.Decl.TheFolds.{fold-roll-Decl}
-use Rattle.gp_scope.specs.Outline.{Outline, nothing, rule, procedure, named, chained, declared, declared_step, outline}
+use Rattle.gp_scope.specs.Outline.{Outline, nothing, rule, procedure, named, declared, declared_step, outline}
 use Rattle.gp_scope.specs.inside.Doubles.{name_of, name_step}
 use Rattle.gp_scope.specs.Surveys.{weight, weight_step, weights}
 

@@ -1,9 +1,9 @@
 -- Names with their meanings.
-use Rattle.std.proofs.Common.{◌≡◌, ◌⊎◌, inl, inr, ℕ, zero, suc, ◌+◌, ◌<◌, ◌≤◌, Bool, true, false, cond, List, [], ◌∷◌, ◌++◌, map, fold, take, length, get_or, slice_get, Option, Some, None, refl, sym, ap, ◌∙◌, subst, arith, length-append}
+use Rattle.std.proofs.Common.{◌≡◌, ℕ, suc, ◌+◌, ◌<◌, ◌≤◌, Bool, true, false, cond, List, [], ◌∷◌, ◌++◌, fold, take, length, get_or, Option, Some, None, refl, sym, ap, ◌∙◌, arith}
 use Rattle.std.specs.Option.{option_or}
 use Rattle.std.specs.List.{position_from}
 use Rattle.std.proofs.lemmas.List.{take_more}
-use Rattle.gp_values.specs.Names.{Name, same_name, has_name, place_of}
+use Rattle.gp_values.specs.Names.{Name, same_name, place_of}
 use Rattle.gp_scope.specs.declared.meaning.Meaning.{Meaning}
 use Rattle.gp_scope.specs.Names.{Scope, meaning_in}
 use Rattle.gp_scope.specs.inside.Levels.{paired, names_of, scope_of}

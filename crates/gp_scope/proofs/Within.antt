@@ -8,12 +8,12 @@ use Rattle.gp_syntax.specs.declared.tree.CommandTree.{CommandTree}
 use Rattle.gp_syntax.specs.declared.tree.Decl.{Decl}
 use Rattle.gp_syntax.specs.declared.tree.Decl.TheVariants as decl
 use Rattle.gp_scope.specs.declared.survey.Survey.{Survey}
-use Rattle.gp_scope.specs.Outline.{Outline, procedure, is_main, own_number, rules_in, procedures_in, declared, outline, named}
+use Rattle.gp_scope.specs.Outline.{Outline, is_main, own_number, rules_in, procedures_in, declared, outline, named}
 use Rattle.gp_scope.specs.Names.{Scope, Body, entries, scope_within, bodies, bodies_in_text}
 use Rattle.gp_scope.specs.Fault.{doubled_behind, first_told, unknown_in}
 use Rattle.gp_scope.specs.inside.Levels.{scope_of}
 use Rattle.gp_scope.specs.Surveys.{declarations_in, main_number, one_more_counted}
-use Rattle.gp_scope.specs.inside.Declares.{Counts, Stands, TellsUnknown, unknown_of}
+use Rattle.gp_scope.specs.inside.Declares.{Stands, TellsUnknown, unknown_of}
 use Rattle.gp_scope.specs.inside.Numbering.{Numbered, Numbers, with_body, with_bodies}
 use Rattle.gp_scope.proofs.Counted.{one_or_other}
 use Rattle.gp_scope.proofs.Outlines.{declared-Rule, declared-Procedure}

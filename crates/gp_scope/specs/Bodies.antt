@@ -1,5 +1,5 @@
 -- The bodies of a program text with numbers in place of names, as values.
-use Rattle.std.specs.Prelude.{◌≡◌, Some, List, map, flat_map, option_map}
+use Rattle.std.specs.Prelude.{◌≡◌, Some, map, flat_map, option_map}
 use Rattle.gp_syntax.specs.Tree.{command_of}
 use Rattle.gp_scope.specs.declared.bodies.Bodies.{Bodies}
 use Rattle.gp_scope.specs.Outline.{Outline}

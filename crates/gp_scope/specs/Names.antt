@@ -1,7 +1,6 @@
 -- What a name in a place means: a local declaration hides an outer one.
 use Rattle.std.specs.Prelude.{ℕ, ◌+◌, if◌then◌else◌, List, [], ◌∷◌, ◌++◌, length, Option, Some, None}
 use Rattle.gp_values.specs.Names.{Name, same_name}
-use Rattle.gp_syntax.specs.Rule as meant
 use Rattle.gp_scope.specs.Outline.{NamedCommand, Outline, nothing, rule, procedure, is_main, own_number, rules_in, procedures_in}
 use Rattle.gp_scope.specs.declared.meaning.Meaning.{Meaning}
 use Rattle.gp_scope.specs.declared.meaning.Meaning.TheVariants.{Rule, Procedure}

@@ -1,6 +1,6 @@
 -- A program text as scope sees it: its declarations, how they hold one another, and what its commands call (Plump 2012,
 -- section 4: programs and their declarations; Bak 2015: local declarations).
-use Rattle.std.specs.Prelude.{ℕ, ◌+◌, Bool, if◌then◌else◌, List, [], ◌∷◌, ◌++◌, map, fold, length, codes}
+use Rattle.std.specs.Prelude.{ℕ, ◌+◌, Bool, if◌then◌else◌, List, [], ◌∷◌, ◌++◌, map, fold, codes}
 use Rattle.gp_values.specs.Names.{Name, same_name}
 use Rattle.gp_syntax.specs.declared.tree.RuleDecl.{RuleDecl}
 use Rattle.gp_syntax.specs.declared.tree.CommandTree.{CommandTree}

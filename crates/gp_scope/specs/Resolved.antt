@@ -3,7 +3,7 @@ use Rattle.std.specs.Prelude.{ℕ, ◌+◌, not, List, [], ◌∷◌, ◌++◌, 
 use Rattle.gp_values.specs.Names.{Name}
 use Rattle.gp_syntax.specs.Rule as meant_rule
 use Rattle.gp_syntax.specs.Run as meant
-use Rattle.gp_scope.specs.Outline.{NamedCommand, Call, Named, Seq, If, Try, Loop, Or, Skip, Fail, Break, Outline, is_main, rules_in}
+use Rattle.gp_scope.specs.Outline.{NamedCommand, Call, Named, Seq, If, Try, Loop, Or, Skip, Fail, Break, Outline, is_main}
 use Rattle.gp_scope.specs.Names.{Scope, meaning_in, rule_of, procedure_of, Body, all_bodies}
 
 -- the sets that a command calls, in text order

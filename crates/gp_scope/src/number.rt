@@ -113,25 +113,11 @@ pub(crate) fn number(
             Ok(chain.into_or())
         }
         CommandTree::If(condition, then, other) => {
-            let branches = number_branches(
-                alloc,
-                levels,
-                condition.get(),
-                then.get(),
-                other.get(),
-                sets,
-            )?;
+            let branches = number_branches(alloc, levels, condition, then, other, sets)?;
             Ok(branches.into_if())
         }
         CommandTree::Try(condition, then, other) => {
-            let branches = number_branches(
-                alloc,
-                levels,
-                condition.get(),
-                then.get(),
-                other.get(),
-                sets,
-            )?;
+            let branches = number_branches(alloc, levels, condition, then, other, sets)?;
             Ok(branches.into_try())
         }
         CommandTree::Loop(body) => Ok(Command::Loop(number_boxed(
@@ -165,9 +151,9 @@ fn number_boxed(
 fn number_branches(
     alloc: Global,
     levels: &[Level],
-    first: &CommandTree,
-    second: &CommandTree,
-    third: &CommandTree,
+    first: &Boxed<CommandTree>,
+    second: &Boxed<CommandTree>,
+    third: &Boxed<CommandTree>,
     sets: &mut Vec<Items<u32>>,
 ) -> Result<Branches, NoMemory>
     ensures first { IfOk result (λ r. command_of r.condition ≡ resolved (scope_of levels.now) (length sets.old.items) (named first.now)) }
@@ -175,9 +161,9 @@ fn number_branches(
     ensures third { IfOk result (λ r. command_of r.other ≡ resolved (scope_of levels.now) (length sets.old.items + length (called_sets (named first.now)) + length (called_sets (named second.now))) (named third.now)) }
     ensures sets { OnOk result (sets.new.items ≡ sets.old.items ++ (sets_in (scope_of levels.now) (named first.now) ++ (sets_in (scope_of levels.now) (named second.now) ++ sets_in (scope_of levels.now) (named third.now)))) }
 {
-    let first = number_boxed(alloc, levels, first, sets)?;
-    let second = number_boxed(alloc, levels, second, sets)?;
-    let third = number_boxed(alloc, levels, third, sets)?;
+    let first = number_boxed(alloc, levels, first.get(), sets)?;
+    let second = number_boxed(alloc, levels, second.get(), sets)?;
+    let third = number_boxed(alloc, levels, third.get(), sets)?;
     Ok(Branches {
         condition: first,
         then: second,

@@ -1,12 +1,12 @@
 -- A text tells its items, and where it breaks.
-use Rattle.std.proofs.Common.{inl, inr, ◌≡◌, ℕ, ◌+◌, List, [], ◌++◌, length, slice_index, refl, sym, ap, ◌∙◌, arith, append_assoc, append-nil}
-use Rattle.std.specs.Prelude.{◌⊎◌, All, codes}
+use Rattle.std.proofs.Common.{inl, inr, ◌≡◌, ℕ, ◌+◌, List, [], ◌++◌, length, slice_index, refl, sym, ap, ◌∙◌, arith, append_assoc}
+use Rattle.std.specs.Prelude.{All, codes}
 use Rattle.std.proofs.lemmas.List.{append_cancel_left}
 use Rattle.gp_syntax.specs.Run.{Item}
 use Rattle.gp_trace.specs.declared.version.Version.{Version}
 use Rattle.gp_trace.specs.declared.version.Version.TheVariants.{One, Two}
 use Rattle.gp_trace.specs.TraceText.{header}
-use Rattle.gp_trace.specs.Reading.{CanBeHeld, IsTraceOf, HasNoHeader, StopsShort, GoesOn, BreaksAt}
+use Rattle.gp_trace.specs.Reading.{CanBeHeld, IsTraceOf, StopsShort, GoesOn, BreaksAt}
 use Rattle.gp_trace.specs.Laws.{BreaksAreTold}
 use Rattle.gp_trace.specs.inside.Lines.{item_lines}
 use Rattle.gp_trace.proofs.Items.{IsItemless, end_itemless, lines_same}

@@ -1,5 +1,5 @@
 -- What holds of the texts of traces.
-use Rattle.std.specs.Prelude.{◌≡◌, ℕ, List, All}
+use Rattle.std.specs.Prelude.{◌≡◌, ℕ, List}
 use Rattle.gp_syntax.specs.Run.{Item}
 use Rattle.gp_trace.specs.declared.version.Version.{Version}
 use Rattle.gp_trace.specs.Reading.{IsTraceOf, BreaksAt}

@@ -1,11 +1,10 @@
 use Rattle.std.proofs.Common.{rules, ◌≡◌, ◌∙◌, ◌+◌, ◌<◌, ◌^◌, ◌++◌, ◌∷◌, [], ap, sym, subst, drop, refl, arith}
-use Rattle.gp_values.specs.Names.{Name}
 use Rattle.gp_scope.specs.declared.survey.Survey.{Survey}
 use Rattle.gp_scope.specs.Outline.{outline}
 use Rattle.gp_scope.specs.Names.{bodies}
 use Rattle.gp_scope.specs.Fault.{doubled_behind}
 use Rattle.gp_scope.specs.inside.Levels.{scope_of}
-use Rattle.gp_scope.specs.inside.Numbering.{numbered_of, with_body, with_bodies}
+use Rattle.gp_scope.specs.inside.Numbering.{numbered_of, with_bodies}
 use Rattle.gp_scope.specs.Surveys.{declarations_in, weight, weights}
 use Rattle.gp_scope.specs.inside.Doubles.{name_of}
 use Rattle.gp_scope.proofs.Outlines.{outline_from, outline_past, weight-Procedure, weighs_less}

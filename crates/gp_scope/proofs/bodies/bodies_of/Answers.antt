@@ -1,10 +1,9 @@
-use Rattle.std.proofs.Common.{◌≡◌, ◌∙◌, true, map, ap, sym, [], ◌∷◌, ◌++◌, append-nil, List, Some, None, option_map, Result, Ok, Err, IfOk}
+use Rattle.std.proofs.Common.{◌≡◌, ◌∙◌, true, map, ap, [], ◌∷◌, ◌++◌, append-nil, List, None}
 use Rattle.gp_syntax.specs.Tree.{command_of}
 use Rattle.gp_scope.specs.declared.bodies.Bodies.{Bodies}
 use Rattle.gp_scope.specs.Outline.{Outline, outline}
 use Rattle.gp_scope.specs.Names.{Scope, entries, bodies, all_bodies}
-use Rattle.gp_scope.specs.Resolved.{resolved_bodies}
-use Rattle.gp_scope.specs.Fault.{declares_main, fault_of_names}
+use Rattle.gp_scope.specs.Fault.{declares_main}
 use Rattle.gp_scope.specs.Bodies.{AreBodies}
 use Rattle.gp_scope.specs.inside.Levels.{scope_of}
 use Rattle.gp_scope.specs.inside.Numbering.{Numbered, numbered_of, with_bodies}

@@ -1,10 +1,10 @@
 use Rattle.std.proofs.lemmas.Bool.{ltb-true, lt-ltb}
-use Rattle.std.proofs.Common.{rules, ◌≡◌, ◌∙◌, ◌<◌, ◌≤◌, [], Bool, true, false, nat_lt, ap, sym, refl, Option, Some, None, option_map, arith}
+use Rattle.std.proofs.Common.{◌≡◌, ◌∙◌, ◌<◌, ◌≤◌, [], Bool, true, false, nat_lt, ap, sym, refl, Some, None, arith}
 use Rattle.std.specs.Option.{option_copied}
 use Rattle.gp_values.specs.Names.{Name}
 use Rattle.gp_scope.specs.declared.survey.Survey.{Survey}
 use Rattle.gp_scope.specs.Outline.{Outline, outline}
-use Rattle.gp_scope.specs.Fault.{Fault, NoMain, TwoMains, TwoRules, Unknown, declares_main, mains_in, doubled_behind, unknown_name, fault_of_names}
+use Rattle.gp_scope.specs.Fault.{NoMain, TwoMains, TwoRules, Unknown, declares_main, mains_in, doubled_behind, unknown_name, fault_of_names}
 use Rattle.gp_scope.specs.Surveys.{survey_of}
 use Rattle.gp_scope.proofs.check.check_names.Goals as goal
 

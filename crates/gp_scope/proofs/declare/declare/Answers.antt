@@ -1,7 +1,5 @@
-use Rattle.std.proofs.Common.{◌≡◌, ◌∙◌, ◌+◌, ◌++◌, ◌∷◌, [], ap, sym, append_assoc, Some}
+use Rattle.std.proofs.Common.{◌∙◌, ◌+◌, ◌++◌, ◌∷◌, [], ap, sym, append_assoc}
 use Rattle.gp_scope.specs.Names.{entries}
-use Rattle.gp_scope.specs.inside.Doubles.{name_of}
-use Rattle.gp_scope.specs.inside.Declares.{own_entries}
 use Rattle.gp_scope.proofs.Declared.{none_named, one_named}
 use Rattle.gp_scope.proofs.declare.declare.Goals as goal
 

@@ -1,4 +1,4 @@
-use Rattle.std.proofs.Common.{◌≡◌, ◌∙◌, ◌+◌, ◌<◌, ◌^◌, ◌++◌, ◌∷◌, [], ap, sym, subst, arith, drop, append-nil}
+use Rattle.std.proofs.Common.{◌∙◌, ◌+◌, ◌<◌, ◌^◌, ◌++◌, ◌∷◌, [], ap, sym, subst, arith, drop, append-nil}
 use Rattle.gp_values.specs.Names.{same_name, has_name}
 use Rattle.gp_scope.specs.declared.survey.Survey.{Survey}
 use Rattle.gp_scope.specs.Outline.{outline}

@@ -1,4 +1,4 @@
-use Rattle.std.proofs.Common.{◌≡◌, ℕ, ◌+◌, ◌<◌, ◌≤◌, ◌++◌, ◌^◌, [], List, None, true, drop}
+use Rattle.std.proofs.Common.{◌≡◌, ◌+◌, ◌<◌, ◌++◌, ◌^◌, List, None, true, drop}
 use Rattle.gp_values.specs.Names.{Name, has_name}
 use Rattle.gp_scope.specs.Outline.{outline}
 use Rattle.gp_scope.specs.Names.{entries}

@@ -1,5 +1,4 @@
-use Rattle.std.proofs.Common.{◌≡◌, ◌∙◌, sym, true, false}
-use Rattle.gp_scope.specs.Outline.{is_main}
+use Rattle.std.proofs.Common.{◌∙◌, sym}
 use Rattle.gp_scope.proofs.Declared.{rule_entries, procedure_entries, main_entries, rule_once, procedure_once}
 use Rattle.gp_scope.proofs.declare.own_meaning.Goals as goal
 

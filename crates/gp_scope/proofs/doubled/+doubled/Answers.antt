@@ -1,8 +1,8 @@
-use Rattle.std.proofs.Common.{rules, ◌≡◌, ◌∙◌, ◌+◌, ap, sym, subst, [], ◌∷◌, ◌++◌, drop, true, false, not, cond, Bool, Some, None, Option, option_map, is_some, List, refl}
+use Rattle.std.proofs.Common.{rules, ◌≡◌, ◌∙◌, ◌+◌, ap, sym, [], ◌∷◌, ◌++◌, drop, true, false, not, cond, Bool, Some, None, Option, option_map, is_some, List, refl}
 use Rattle.std.specs.Option.{option_or, option_copied}
 use Rattle.gp_values.specs.Names.{Name, has_name}
 use Rattle.gp_syntax.specs.declared.tree.Decl.{Decl}
-use Rattle.gp_scope.specs.Outline.{outline, declared, named, Outline}
+use Rattle.gp_scope.specs.Outline.{outline, declared, Outline}
 use Rattle.gp_scope.specs.Fault.{doubled_behind}
 use Rattle.gp_scope.specs.inside.Doubles.{name_of, TellsDoubled}
 use Rattle.gp_scope.specs.Surveys.{weight, weights}

@@ -1,11 +1,11 @@
-use Rattle.std.proofs.Common.{rules, ◌≡◌, ◌∙◌, ◌+◌, ℕ, ap, sym, arith, drop, Option, Some, None, IfSome, SomeIff, ◌<◌, ◌^◌, List}
+use Rattle.std.proofs.Common.{rules, ◌≡◌, ◌∙◌, ◌+◌, ℕ, ap, arith, Option, Some, None, IfSome, SomeIff, ◌<◌, ◌^◌, List}
 use Rattle.gp_values.specs.Names.{Name}
 use Rattle.gp_syntax.specs.declared.tree.Decl.{Decl}
 use Rattle.gp_syntax.specs.declared.tree.Decl.TheVariants as decl
 use Rattle.gp_syntax.specs.declared.tree.CommandTree.{CommandTree}
 use Rattle.gp_scope.specs.Outline.{Outline, outline, declared}
 use Rattle.gp_scope.specs.Surveys.{declarations_in, weight, weights}
-use Rattle.gp_scope.proofs.Outlines.{outline_from, outline_past, declared-Rule, declared-Procedure, weight-Procedure, weighs_less}
+use Rattle.gp_scope.proofs.Outlines.{declared-Rule, declared-Procedure, weight-Procedure, weighs_less}
 use Rattle.gp_scope.proofs.few.+few.Goals as goal
 
 pub count_within-declaration_count-requires : goal.count_within-declaration_count-requires

@@ -1,8 +1,7 @@
-use Rattle.std.proofs.Common.{◌≡◌, ◌∙◌, ◌+◌, ◌-◌, ◌<◌, ap, sym, subst, refl, Some, None, take, length, get_or, arith, Option}
+use Rattle.std.proofs.Common.{◌≡◌, ◌∙◌, ◌+◌, ◌-◌, ◌<◌, ap, sym, Some, None, take, length, get_or, arith}
 use Rattle.std.specs.Option.{option_or}
 use Rattle.std.proofs.Math.Seq.{take-length}
-use Rattle.gp_scope.specs.declared.meaning.Meaning.{Meaning}
-use Rattle.gp_scope.specs.Names.{Scope, meaning_in}
+use Rattle.gp_scope.specs.Names.{meaning_in}
 use Rattle.gp_scope.specs.inside.Levels.{scope_of}
 use Rattle.gp_scope.proofs.Pairs.{level_more, no_level}
 use Rattle.gp_scope.proofs.level.meaning_at.Goals as goal

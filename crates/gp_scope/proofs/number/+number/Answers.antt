@@ -1,10 +1,9 @@
-use Rattle.std.proofs.Common.{rules, ◌≡◌, ◌∙◌, ◌+◌, ◌<◌, ◌^◌, ◌++◌, ◌∷◌, [], ap, sym, subst, length, map, take, List, arith, append_assoc, append-nil, length-append}
+use Rattle.std.proofs.Common.{◌≡◌, ◌∙◌, ◌+◌, ◌++◌, ◌∷◌, [], ap, sym, length, map, take, List, arith, append_assoc, append-nil, length-append}
 use Rattle.std.proofs.lemmas.List.{take_all, take_more, map-append}
 use Rattle.gp_syntax.specs.Tree.{command_of}
-use Rattle.gp_syntax.specs.declared.tree.CommandTree.{CommandTree}
 use Rattle.gp_syntax.specs.declared.tree.CommandTree.TheVariants as tree
 use Rattle.gp_scope.specs.Outline.{named}
-use Rattle.gp_scope.specs.Resolved.{resolved, rule_number}
+use Rattle.gp_scope.specs.Resolved.{resolved}
 use Rattle.gp_scope.specs.inside.Levels.{scope_of}
 use Rattle.gp_scope.specs.inside.Commands.{sets_in, sets_in_rest, resolved_rest, called_in_rest, size, sizes}
 use Rattle.gp_scope.proofs.Numbered.{how_many, rest_counted, rest_push, sets_push, size-Seq, size-Or, size-If, size-Try, size-Loop, is_smaller}
@@ -48,37 +47,31 @@ number-returns-in_ok-chain-in-Or-clause-sets t c =
 
 pub number-number_branches-requires : goal.number-number_branches-requires
 number-number_branches-requires t c =
-    let e : c.args.command.now ≡ tree.If c.get-in-If.result.now c.get-in-If-2.result.now c.get-in-If-3.result.now = c.in-If.is ∙ ap (λ x. tree.If x c.in-If.then c.in-If.other) (sym c.get-in-If.ensures) ∙ ap (λ x. tree.If c.get-in-If.result.now x c.in-If.other) (sym c.get-in-If-2.ensures) ∙ ap (tree.If c.get-in-If.result.now c.get-in-If-2.result.now) (sym c.get-in-If-3.ensures) in
-    let z : size c.args.command.now ≡ 1 + size c.get-in-If.result.now + size c.get-in-If-2.result.now + size c.get-in-If-3.result.now = ap size e ∙ size-If c.get-in-If.result.now c.get-in-If-2.result.now c.get-in-If-3.result.now in
+    let z : size c.args.command.now ≡ 1 + size c.in-If.condition + size c.in-If.then + size c.in-If.other = ap size c.in-If.is ∙ size-If c.in-If.condition c.in-If.then c.in-If.other in
     (omega arith, tt)
 
 pub number-returns-in_ok-branches-in-If-clause-command : goal.number-returns-in_ok-branches-in-If-clause-command
 number-returns-in_ok-branches-in-If-clause-command t c =
-    let e : c.args.command.now ≡ tree.If c.get-in-If.result.now c.get-in-If-2.result.now c.get-in-If-3.result.now = c.in-If.is ∙ ap (λ x. tree.If x c.in-If.then c.in-If.other) (sym c.get-in-If.ensures) ∙ ap (λ x. tree.If c.get-in-If.result.now x c.in-If.other) (sym c.get-in-If-2.ensures) ∙ ap (tree.If c.get-in-If.result.now c.get-in-If-2.result.now) (sym c.get-in-If-3.ensures) in
     let r = c.in_ok-branches-in-If in
-    ap command_of c.into_if.ensures ∙ if_command (scope_of c.args.levels.now) (length c.args.sets.now.items) c.args.command.now c.get-in-If.result.now c.get-in-If-2.result.now c.get-in-If-3.result.now r.branches.condition r.branches.then r.branches.other e r.ensures.first r.ensures.second r.ensures.third
+    ap command_of c.into_if.ensures ∙ if_command (scope_of c.args.levels.now) (length c.args.sets.now.items) c.args.command.now c.in-If.condition c.in-If.then c.in-If.other r.branches.condition r.branches.then r.branches.other c.in-If.is r.ensures.first r.ensures.second r.ensures.third
 
 pub number-returns-in_ok-branches-in-If-clause-sets : goal.number-returns-in_ok-branches-in-If-clause-sets
 number-returns-in_ok-branches-in-If-clause-sets t c =
-    let e : c.args.command.now ≡ tree.If c.get-in-If.result.now c.get-in-If-2.result.now c.get-in-If-3.result.now = c.in-If.is ∙ ap (λ x. tree.If x c.in-If.then c.in-If.other) (sym c.get-in-If.ensures) ∙ ap (λ x. tree.If c.get-in-If.result.now x c.in-If.other) (sym c.get-in-If-2.ensures) ∙ ap (tree.If c.get-in-If.result.now c.get-in-If-2.result.now) (sym c.get-in-If-3.ensures) in
-    c.in_ok-branches-in-If.ensures.sets ∙ ap (λ l. c.args.sets.now.items ++ l) (sym (if_sets (scope_of c.args.levels.now) (length c.args.sets.now.items) c.args.command.now c.get-in-If.result.now c.get-in-If-2.result.now c.get-in-If-3.result.now e))
+    c.in_ok-branches-in-If.ensures.sets ∙ ap (λ l. c.args.sets.now.items ++ l) (sym (if_sets (scope_of c.args.levels.now) (length c.args.sets.now.items) c.args.command.now c.in-If.condition c.in-If.then c.in-If.other c.in-If.is))
 
 pub number-number_branches-requires-in-Try : goal.number-number_branches-requires-in-Try
 number-number_branches-requires-in-Try t c =
-    let e : c.args.command.now ≡ tree.Try c.get-in-Try.result.now c.get-in-Try-2.result.now c.get-in-Try-3.result.now = c.in-Try.is ∙ ap (λ x. tree.Try x c.in-Try.then c.in-Try.other) (sym c.get-in-Try.ensures) ∙ ap (λ x. tree.Try c.get-in-Try.result.now x c.in-Try.other) (sym c.get-in-Try-2.ensures) ∙ ap (tree.Try c.get-in-Try.result.now c.get-in-Try-2.result.now) (sym c.get-in-Try-3.ensures) in
-    let z : size c.args.command.now ≡ 1 + size c.get-in-Try.result.now + size c.get-in-Try-2.result.now + size c.get-in-Try-3.result.now = ap size e ∙ size-Try c.get-in-Try.result.now c.get-in-Try-2.result.now c.get-in-Try-3.result.now in
+    let z : size c.args.command.now ≡ 1 + size c.in-Try.condition + size c.in-Try.then + size c.in-Try.other = ap size c.in-Try.is ∙ size-Try c.in-Try.condition c.in-Try.then c.in-Try.other in
     (omega arith, tt)
 
 pub number-returns-in_ok-branches-in-Try-clause-command : goal.number-returns-in_ok-branches-in-Try-clause-command
 number-returns-in_ok-branches-in-Try-clause-command t c =
-    let e : c.args.command.now ≡ tree.Try c.get-in-Try.result.now c.get-in-Try-2.result.now c.get-in-Try-3.result.now = c.in-Try.is ∙ ap (λ x. tree.Try x c.in-Try.then c.in-Try.other) (sym c.get-in-Try.ensures) ∙ ap (λ x. tree.Try c.get-in-Try.result.now x c.in-Try.other) (sym c.get-in-Try-2.ensures) ∙ ap (tree.Try c.get-in-Try.result.now c.get-in-Try-2.result.now) (sym c.get-in-Try-3.ensures) in
     let r = c.in_ok-branches-in-Try in
-    ap command_of c.into_try.ensures ∙ try_command (scope_of c.args.levels.now) (length c.args.sets.now.items) c.args.command.now c.get-in-Try.result.now c.get-in-Try-2.result.now c.get-in-Try-3.result.now r.branches.condition r.branches.then r.branches.other e r.ensures.first r.ensures.second r.ensures.third
+    ap command_of c.into_try.ensures ∙ try_command (scope_of c.args.levels.now) (length c.args.sets.now.items) c.args.command.now c.in-Try.condition c.in-Try.then c.in-Try.other r.branches.condition r.branches.then r.branches.other c.in-Try.is r.ensures.first r.ensures.second r.ensures.third
 
 pub number-returns-in_ok-branches-in-Try-clause-sets : goal.number-returns-in_ok-branches-in-Try-clause-sets
 number-returns-in_ok-branches-in-Try-clause-sets t c =
-    let e : c.args.command.now ≡ tree.Try c.get-in-Try.result.now c.get-in-Try-2.result.now c.get-in-Try-3.result.now = c.in-Try.is ∙ ap (λ x. tree.Try x c.in-Try.then c.in-Try.other) (sym c.get-in-Try.ensures) ∙ ap (λ x. tree.Try c.get-in-Try.result.now x c.in-Try.other) (sym c.get-in-Try-2.ensures) ∙ ap (tree.Try c.get-in-Try.result.now c.get-in-Try-2.result.now) (sym c.get-in-Try-3.ensures) in
-    c.in_ok-branches-in-Try.ensures.sets ∙ ap (λ l. c.args.sets.now.items ++ l) (sym (try_sets (scope_of c.args.levels.now) (length c.args.sets.now.items) c.args.command.now c.get-in-Try.result.now c.get-in-Try-2.result.now c.get-in-Try-3.result.now e))
+    c.in_ok-branches-in-Try.ensures.sets ∙ ap (λ l. c.args.sets.now.items ++ l) (sym (try_sets (scope_of c.args.levels.now) (length c.args.sets.now.items) c.args.command.now c.in-Try.condition c.in-Try.then c.in-Try.other c.in-Try.is))
 
 pub number-number_boxed-requires : goal.number-number_boxed-requires
 number-number_boxed-requires t c =
@@ -140,27 +133,35 @@ number-returns-in-Break-clause-sets t c =
 
 pub number_branches-number_boxed-requires : goal.number_branches-number_boxed-requires
 number_branches-number_boxed-requires t c =
+    let z : size c.get.result.now ≡ size c.args.first.now = ap size c.get.ensures in
     (omega arith, tt)
 
 pub number_branches-number_boxed-requires-2 : goal.number_branches-number_boxed-requires-2
 number_branches-number_boxed-requires-2 t c =
+    let z : size c.get-2.result.now ≡ size c.args.second.now = ap size c.get-2.ensures in
     (omega arith, tt)
 
 pub number_branches-number_boxed-requires-3 : goal.number_branches-number_boxed-requires-3
 number_branches-number_boxed-requires-3 t c =
+    let z : size c.get-3.result.now ≡ size c.args.third.now = ap size c.get-3.ensures in
     (omega arith, tt)
 
 pub number_branches-returns-clause-second : goal.number_branches-returns-clause-second
 number_branches-returns-clause-second t c =
     let s = scope_of c.args.levels.now in
-    c.in_ok-second.ensures.command ∙ ap (λ n. resolved s n (named c.args.second.now)) (behind_part s c.args.sets.now.items _ c.args.first.now c.in_ok-first.ensures.sets)
+    let behind = rw c.get.ensures at c.in_ok-first.ensures.sets in
+    let is = rw c.get-2.ensures at c.in_ok-second.ensures.command in
+    is ∙ ap (λ n. resolved s n (named c.args.second.now)) (behind_part s c.args.sets.now.items _ c.args.first.now behind)
 
 pub number_branches-returns-clause-third : goal.number_branches-returns-clause-third
 number_branches-returns-clause-third t c =
     let s = scope_of c.args.levels.now in
-    c.in_ok-third.ensures.command
+    let behind = rw c.get.ensures at c.in_ok-first.ensures.sets in
+    let further = rw c.get-2.ensures at c.in_ok-second.ensures.sets in
+    let is = rw c.get-3.ensures at c.in_ok-third.ensures.command in
+    is
     ∙ ap (λ n. resolved s n (named c.args.third.now))
-    (behind_part s _ _ c.args.second.now c.in_ok-second.ensures.sets ∙ ap (λ n. n + how_many (named c.args.second.now)) (behind_part s c.args.sets.now.items _ c.args.first.now c.in_ok-first.ensures.sets))
+    (behind_part s _ _ c.args.second.now further ∙ ap (λ n. n + how_many (named c.args.second.now)) (behind_part s c.args.sets.now.items _ c.args.first.now behind))
 
 pub number_branches-returns-clause-sets : goal.number_branches-returns-clause-sets
 number_branches-returns-clause-sets t c =
@@ -169,7 +170,10 @@ number_branches-returns-clause-sets t c =
     let a = sets_in s (named c.args.first.now) in
     let b = sets_in s (named c.args.second.now) in
     let d = sets_in s (named c.args.third.now) in
-    c.in_ok-third.ensures.sets ∙ ap (λ l. l ++ d) (c.in_ok-second.ensures.sets ∙ ap (λ l. l ++ b) c.in_ok-first.ensures.sets) ∙ append_assoc (old ++ a) b d ∙ append_assoc old a (b ++ d)
+    let behind = rw c.get.ensures at c.in_ok-first.ensures.sets in
+    let further = rw c.get-2.ensures at c.in_ok-second.ensures.sets in
+    let last = rw c.get-3.ensures at c.in_ok-third.ensures.sets in
+    last ∙ ap (λ l. l ++ d) (further ∙ ap (λ l. l ++ b) behind) ∙ append_assoc (old ++ a) b d ∙ append_assoc old a (b ++ d)
 
 pub number_chain-number_rest-requires : goal.number_chain-number_rest-requires
 number_chain-number_rest-requires t c =

@@ -1,13 +1,12 @@
-use Rattle.std.proofs.Common.{arith, rules, ◌≡◌, ◌∙◌, ◌+◌, ◌<◌, ◌^◌, ◌++◌, ◌∷◌, [], List, ap, sym, subst, drop, Option, Some, None, option_map, is_some, true, false, refl}
+use Rattle.std.proofs.Common.{arith, rules, ◌≡◌, ◌∙◌, ◌+◌, ◌<◌, ◌^◌, ◌++◌, ◌∷◌, [], ap, sym, subst, drop, Option, Some, None, option_map, is_some, true, false, refl}
 use Rattle.std.specs.Option.{option_or, option_copied}
 use Rattle.gp_values.specs.Names.{Name}
-use Rattle.gp_syntax.specs.declared.tree.Decl.{Decl}
 use Rattle.gp_scope.specs.declared.survey.Survey.{Survey}
-use Rattle.gp_scope.specs.Outline.{outline, named, own_number}
+use Rattle.gp_scope.specs.Outline.{outline, named}
 use Rattle.gp_scope.specs.Names.{scope_within, bodies_in_text}
 use Rattle.gp_scope.specs.Fault.{doubled_behind, first_told, unknown_in}
 use Rattle.gp_scope.specs.inside.Levels.{scope_of}
-use Rattle.gp_scope.specs.Surveys.{declarations_in, main_number, one_more_counted, weight, weights}
+use Rattle.gp_scope.specs.Surveys.{declarations_in, weight, weights}
 use Rattle.gp_scope.specs.inside.Doubles.{name_of}
 use Rattle.gp_scope.specs.inside.Declares.{unknown_of}
 use Rattle.gp_scope.proofs.Outlines.{outline_from, outline_past, weight-Procedure, weighs_less}

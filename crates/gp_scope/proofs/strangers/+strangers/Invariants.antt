@@ -1,4 +1,4 @@
-use Rattle.std.proofs.Common.{◌≡◌, ℕ, ◌+◌, ◌*◌, ◌<◌, ◌^◌, [], List, None, drop}
+use Rattle.std.proofs.Common.{◌≡◌, ◌+◌, ◌*◌, ◌<◌, ◌^◌, List, None, drop}
 use Rattle.gp_values.specs.Names.{Name}
 use Rattle.gp_scope.specs.Outline.{outline}
 use Rattle.gp_scope.specs.Names.{bodies_in_text}

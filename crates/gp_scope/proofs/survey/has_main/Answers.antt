@@ -1,4 +1,4 @@
-use Rattle.std.proofs.Common.{◌≡◌, ◌∙◌, ◌||◌, ap, sym, drop, ◌+◌}
+use Rattle.std.proofs.Common.{◌∙◌, ◌||◌, ap, sym, drop, ◌+◌}
 use Rattle.gp_scope.specs.Outline.{outline}
 use Rattle.gp_scope.specs.Fault.{declares_main}
 use Rattle.gp_scope.proofs.Outlines.{outline_from, outline_past}

@@ -1,5 +1,4 @@
-use Rattle.std.proofs.Common.{◌≡◌, ◌∙◌, ◌||◌, ap, sym, refl}
-use Rattle.gp_scope.specs.Outline.{outline, named}
+use Rattle.std.proofs.Common.{◌||◌, ap, sym, refl}
 use Rattle.gp_scope.specs.Fault.{declares_main}
 use Rattle.gp_scope.proofs.Outlines.{declared-Rule, declared-Procedure}
 use Rattle.gp_scope.proofs.survey.is_mains.Goals as goal

@@ -1,6 +1,5 @@
-use Rattle.std.proofs.Common.{◌≡◌, ◌∙◌, ◌+◌, ap, sym, drop, Bor, true, false}
+use Rattle.std.proofs.Common.{◌≡◌, ◌∙◌, ◌+◌, ap, sym, drop, Bor}
 use Rattle.std.specs.Option.{option_or, option_copied}
-use Rattle.std.specs.Prelude.{is_some}
 use Rattle.gp_values.specs.Names.{Name}
 use Rattle.gp_scope.specs.Fault.{first_told, unknown_in}
 use Rattle.gp_scope.specs.inside.Levels.{scope_of}

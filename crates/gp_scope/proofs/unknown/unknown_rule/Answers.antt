@@ -1,4 +1,4 @@
-use Rattle.std.proofs.Common.{◌≡◌, ◌∙◌, ◌+◌, ap, sym, drop, cond, Some, None, true, false}
+use Rattle.std.proofs.Common.{◌∙◌, ◌+◌, ap, sym, drop, cond, Some, None}
 use Rattle.std.specs.Option.{option_or}
 use Rattle.gp_scope.specs.Fault.{first_told}
 use Rattle.gp_scope.specs.inside.Levels.{scope_of}

@@ -1,8 +1,4 @@
-use Rattle.std.proofs.Common.{inl, ◌≡◌, ◌+◌, ◌∙◌, sym, ap, subst, map, take, arith, length, true, false}
-use Rattle.std.proofs.lemmas.List.{length-map}
-use Rattle.std.proofs.lemmas.Slice.Eq.{slice_eq-Decides}
-use Rattle.std.proofs.lemmas.Bool.Decides.{Decides-eqb}
-use Rattle.gp_syntax.specs.Tree.{item_of}
+use Rattle.std.proofs.Common.{inl, arith}
 use Rattle.gp_trace.proofs.WordFacts.{at_none, at_some}
 use Rattle.gp_trace.proofs.LineFacts.{stop_at, more_at, out_at}
 use Rattle.gp_trace.proofs.reader.read_lines.Goals as goal

@@ -1,4 +1,4 @@
-use Rattle.std.proofs.Common.{◌≡◌, ◌∙◌, ap, sym, Some, None, arith, get_or}
+use Rattle.std.proofs.Common.{◌≡◌, ◌∙◌, ap, sym, Some, None, arith}
 use Rattle.gp_values.specs.Names.{place_of}
 use Rattle.gp_scope.specs.Names.{meaning_in}
 use Rattle.gp_scope.proofs.Pairs.{no_place, some_place}

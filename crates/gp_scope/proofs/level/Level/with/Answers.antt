@@ -1,5 +1,5 @@
-use Rattle.std.proofs.Common.{◌≡◌, ◌∙◌, ap, sym, subst, false, cond, [], ◌∷◌, ◌++◌, length, length-append, ◌+◌}
-use Rattle.gp_values.specs.Names.{Name, has_name}
+use Rattle.std.proofs.Common.{◌≡◌, ◌∙◌, ap, sym, false, cond, [], ◌∷◌, ◌++◌, length, length-append, ◌+◌}
+use Rattle.gp_values.specs.Names.{has_name}
 use Rattle.gp_scope.specs.inside.Levels.{paired, names_of}
 use Rattle.gp_scope.proofs.Pairs.{paired_push, paired_names}
 use Rattle.gp_scope.proofs.level.Level.with.Goals as goal
