@@ -13,8 +13,7 @@ ghost use Rattle.gp_unify.specs.Candidate.{node_labels, edge_labels, found_label
 ghost use Rattle.gp_unify.specs.inside.Reading.{TellsAll};
 ghost use Rattle.gp_unify.specs.Unify.{unify_all};
 
-use crate::trail::Trail;
-use crate::unifier::{Unified, unify_on};
+use crate::unifier::{Unified, unify};
 use gp_graph::Graph;
 use gp_memory::NoMemory;
 use gp_syntax::{Assignment, EdgeImage, Found, LeftEdge, LeftNode, Rule, RuleParts, SimpleLabel};
@@ -73,14 +72,12 @@ fn unify_left(
     requires types { assignment.old.types ≡ parts.now.types }
     ensures { TellsAll result (unify_all (type_in parts.now.types) (left_labels (rule_of_tree parts.now)) (found_labels graph.now.graph found.now) (known_of assignment.old)) assignment.old assignment.new }
 {
-    let mut trail = Trail::new(alloc);
     if !unify_nodes(
         alloc,
         parts.left_nodes.as_slice(),
         found.nodes(),
         graph,
         assignment,
-        &mut trail,
     )? {
         return Ok(false);
     }
@@ -90,7 +87,6 @@ fn unify_left(
         found.edges(),
         graph,
         assignment,
-        &mut trail,
     )
 }
 
@@ -101,7 +97,6 @@ fn unify_nodes(
     images: &[u64],
     graph: &Graph,
     assignment: &mut Assignment,
-    trail: &mut Trail,
 ) -> Result<bool, NoMemory>
     requires count { length nodes.now ≡ length images.now }
     requires known { All (λ p. AreKnown (length assignment.old.types) (label_of p.label)) nodes.now }
@@ -110,7 +105,7 @@ fn unify_nodes(
 {
     'nodes: for i in 0..nodes.len() {
         let image = node_label(graph, images[i]);
-        if !unify_image(alloc, &nodes[i].label, image, assignment, trail)? {
+        if !unify_image(alloc, &nodes[i].label, image, assignment)? {
             return Ok(false);
         }
     }
@@ -124,7 +119,6 @@ fn unify_edges(
     images: &[EdgeImage],
     graph: &Graph,
     assignment: &mut Assignment,
-    trail: &mut Trail,
 ) -> Result<bool, NoMemory>
     requires count { length edges.now ≡ length images.now }
     requires known { All (λ p. AreKnown (length assignment.old.types) (label_of p.label)) edges.now }
@@ -133,7 +127,7 @@ fn unify_edges(
 {
     'edges: for i in 0..edges.len() {
         let image = edge_label(graph, images[i].number);
-        if !unify_image(alloc, &edges[i].label, image, assignment, trail)? {
+        if !unify_image(alloc, &edges[i].label, image, assignment)? {
             return Ok(false);
         }
     }
@@ -166,7 +160,6 @@ fn unify_image(
     label: &SimpleLabel,
     found: Option<&List>,
     assignment: &mut Assignment,
-    trail: &mut Trail,
 ) -> Result<bool, NoMemory>
     requires known { AreKnown (length assignment.old.types) (label_of label.now) }
     requires simple { IsSimple (type_in assignment.old.types) (label_of label.now) }
@@ -175,7 +168,7 @@ fn unify_image(
     let Some(list) = found else {
         return Ok(false);
     };
-    match unify_on(alloc, label, list, assignment, trail) {
+    match unify(alloc, label, list, assignment) {
         Unified::Yes => Ok(true),
         Unified::No => Ok(false),
         Unified::NoMemory => Err(NoMemory),
