@@ -1,4 +1,4 @@
-//! That threads may take matches, inverses, trails and journals.
+//! That threads may take matches, inverses, trails and journals, and share trails.
 
 use crate::items::Items;
 use crate::journal::Journal;
@@ -7,6 +7,8 @@ use gp_step::Undo;
 use gp_syntax::Found;
 
 fn may_be_taken<T: Send>(_value: &T) {}
+
+fn may_be_shared<T: Sync>(_value: &T) {}
 
 /// A thread may take a match.
 pub fn found_may_be_taken(found: &Found) {
@@ -21,6 +23,11 @@ pub fn undo_may_be_taken(undo: &Undo) {
 /// A thread may take a trail.
 pub fn trail_may_be_taken(trail: &Trail) {
     may_be_taken(trail);
+}
+
+/// Threads may share a trail.
+pub fn trail_may_be_shared(trail: &Trail) {
+    may_be_shared(trail);
 }
 
 /// A thread may take a journal, and its items.

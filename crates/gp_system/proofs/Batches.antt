@@ -1,5 +1,5 @@
 -- Further matches for one turn.
-use Rattle.std.proofs.Common.{◌≡◌, ◌⊎◌, inl, inr, ℕ, zero, suc, ◌+◌, ◌-◌, ◌<◌, ◌≤◌, List, [], ◌∷◌, ◌++◌, map, length, get_or, slice_get, slice_index_or, Contains, All, Option, Some, None, refl, sym, ap, subst, ◌∙◌, arith, append-nil}
+use Rattle.std.proofs.Common.{◌≡◌, ◌⊎◌, inl, inr, ℕ, ◌+◌, ◌-◌, ◌<◌, ◌≤◌, List, [], map, length, get_or, slice_get, slice_index_or, Contains, All, Option, Some, None, sym, ap, subst, ◌∙◌, arith, append-nil}
 use Rattle.std.specs.Option.{option_map_or}
 use Rattle.std.proofs.lemmas.List.{length-append}
 use Rattle.std.proofs.lemmas.Option.{slice_get_past}
@@ -16,7 +16,7 @@ use Rattle.gp_journal.specs.Trail.{Trail}
 use Rattle.gp_independence.specs.Held.{IsMember}
 use Rattle.gp_independence.specs.Held as batch
 use Rattle.opt_system.specs.Meaning.{applies}
-use Rattle.opt_system.specs.Batch.{AreHeld, NoneFits, IsFull, StartsWith}
+use Rattle.opt_system.specs.Batch.{AreHeld, IsFull, StartsWith}
 use Rattle.gp_system.specs.declared.goal.CallGoal.{CallGoal}
 use Rattle.gp_system.specs.Gp.{RuleSystem, rules_of, has, judged_by, judged_in, gp_means}
 use Rattle.gp_system.specs.inside.Laws.{gp_lawful}

@@ -1,8 +1,6 @@
 -- Where the trails of a crew are.
-use Rattle.std.proofs.Common.{◌≡◌, inl, inr, ℕ, zero, suc, ◌+◌, ◌-◌, ◌^◌, ◌<◌, List, [], ◌∷◌, ◌++◌, map, length, set, get_or, take, drop, All, Option, Some, refl, sym, ap, subst, ◌∙◌, arith}
-use Rattle.std.proofs.lemmas.Bool.{cases_eq}
-use Rattle.std.proofs.lemmas.Grind.{get_or-set_at}
-use Rattle.std.proofs.lemmas.List.{length-drop, length-set, get_or-set_other}
+use Rattle.std.proofs.Common.{◌≡◌, inl, inr, ℕ, zero, suc, ◌+◌, ◌-◌, ◌^◌, ◌<◌, List, [], ◌∷◌, ◌++◌, map, length, take, drop, All, Option, Some, refl, sym, ap, subst, ◌∙◌, arith}
+use Rattle.std.proofs.lemmas.List.{length-drop}
 use Rattle.std.proofs.lemmas.List.Elements.{All-weaker}
 use Rattle.gp_memory.proofs.Basics.{take_front, take_long, take_whole}
 use Rattle.gp_values.specs.Graph.{Graph}
@@ -10,12 +8,10 @@ use Rattle.gp_syntax.specs.declared.found.Item.{Item}
 use Rattle.gp_syntax.specs.declared.command.ProgramParts.{ProgramParts}
 use Rattle.gp_syntax.specs.declared.rule.RuleParts.{RuleParts}
 use Rattle.gp_syntax.specs.Rule.{Rule, Found}
-use Rattle.gp_syntax.specs.Step.{Step}
 use Rattle.gp_syntax.specs.Run as meant
 use Rattle.gp_syntax.specs.Run.{Stepped, Turned, Back}
 use Rattle.gp_syntax.specs.Tree.{rule_of_tree, item_of}
 use Rattle.gp_syntax.specs.WellFormed.{IsWellFormed}
-use Rattle.gp_unify.proofs.Candidates.{one_step}
 use Rattle.opt_system.specs.Meaning.{Meaning}
 use Rattle.gp_step.specs.Laws.{IsNumbered}
 use Rattle.opt_system.specs.declared.answers.Mode.{Mode}
@@ -24,7 +20,7 @@ use Rattle.opt_core.specs.declared.event.Ending.{Ending}
 use Rattle.opt_core.specs.Core.{Core, Legal, IsUsed, reached, AllApply}
 use Rattle.opt_worker.specs.Replica.{IsReplica}
 use Rattle.gp_journal.specs.Trail.{Trail, root_of, rooted, fresh, led, advanced}
-use Rattle.gp_journal.specs.Leads.{StepsBy, Goes, Leads, CaughtUp}
+use Rattle.gp_journal.specs.Leads.{Leads}
 use Rattle.gp_journal.specs.Journal.{items_of, IsJournalOf}
 use Rattle.gp_system.specs.inside.Noted.{noted}
 use Rattle.gp_journal.proofs.Ways.{one_way, length-items}
@@ -33,7 +29,6 @@ use Rattle.gp_system.specs.declared.goal.Fault.{Fault}
 use Rattle.gp_system.specs.Gp.{RuleSystem, rules_of, gp_means}
 use Rattle.gp_system.specs.inside.Viewed.{Shown}
 use Rattle.gp_system.specs.inside.Pursued.{IsPursued, IsCrewed, IsBehind, HasUsed, system_of}
-use Rattle.gp_system.proofs.Systems.{well_formed_at}
 use Rattle.gp_system.proofs.Pursuits.{leads_taken, reached_root, reached_caught}
 
 -- ---- items lead one way

@@ -31,7 +31,7 @@ use std::sync::Wait;
 use std::thread::Threads;
 
 // How many candidates a search may look at for each of the fan.
-const CANDIDATES: u64 = 1000;
+const CANDIDATES: u64 = 20_000;
 
 // With how many counted items the crew has a loop first, from within a turn: eight steps, and the turns between them.
 const FIRST_LEASE: u64 = 15;
@@ -111,12 +111,10 @@ impl<'a> CrewSession<'a> {
         fan <= 1 && self.system.is_wide(call, self.session.graph(), fan)
     }
 
-    // How many candidates a search on the run's own graph may look at before it is given up: so many that turns at the gate
-    // are cheap beside it, and four for each part of the run and each worker, who has to copy it.
+    // How many candidates a search on the run's own graph may look at before it is given up, besides those for the parts of
+    // the run: so many that turns at the gate are cheap beside it.
     fn patience(&self) -> Option<u64> {
-        let turns = u64::from(self.crew.fan.max(64)) * CANDIDATES;
-        let parts = u64::from(self.crew.workers).saturating_mul(self.session.size());
-        Some(turns.saturating_add(parts.saturating_mul(4)))
+        Some(u64::from(self.crew.fan.max(64)) * CANDIDATES)
     }
 
     // Lets the crew pursue the call, with so many of the items left. After a refusal nothing of the run is left.
@@ -209,14 +207,12 @@ impl<'a> CrewSession<'a> {
         requires { call < length self.old.program.sets }
         ensures { HasRepeated call result (view_of self.old) (view_of self.new) }
     {
+        let patience = self.patience();
         let mut stands = self.first_turn(call);
         let mut lease = FIRST_LEASE;
         'turns: loop {
             match stands {
-                AfterTurn::On => {
-                    let patience = self.patience();
-                    stands = self.session.take_turns(call, patience);
-                }
+                AfterTurn::On => stands = self.session.take_turns(call, patience),
                 AfterTurn::Dear => {
                     stands = self.pursue_turns(rt, call, lease);
                     lease = lease.saturating_mul(2).saturating_add(1);

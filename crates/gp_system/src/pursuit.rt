@@ -139,7 +139,7 @@ pub(crate) fn pursue_apart<P: Pace + Sync, R: Threads + Wait + Sync>(
     } = apart;
     let missing = &items.as_slice()[had..];
     let rules = system.rules();
-    let there = brought(rules, asked.workers, &trail, missing, replicas)?;
+    let there = brought(rt, rules, asked.workers, &trail, missing, replicas)?;
     let reached = pursue_goal(rt, system, trail, there, asked, pace)?;
     let used = asked.left - reached.left;
     note_used(&mut items, reached.entries, asked.goal.mode, used)?;

@@ -1,5 +1,5 @@
 -- The rules of a program keep the laws of a system.
-use Rattle.std.specs.Prelude.{◌≡◌, ℕ, ◌+◌, ◌<◌, ◌%◌, Bool, true, false, if◌then◌else◌, List, [], ◌∷◌, Option, Some, None, slice_get, slice_index, All, length, suc, refl}
+use Rattle.std.specs.Prelude.{◌≡◌, ℕ, ◌+◌, ◌<◌, ◌%◌, Bool, true, false, if◌then◌else◌, List, [], ◌∷◌, Option, Some, None, slice_get, slice_index, All, suc, refl}
 use Rattle.std.specs.Option.{option_map_or}
 use Rattle.std.proofs.Common.{arith, sym, ap, subst, ◌∙◌}
 use Rattle.std.proofs.lemmas.List.Sorted.{IsPermutation-refl}
@@ -12,17 +12,16 @@ use Rattle.gp_syntax.specs.WellFormed.{IsWellFormed}
 use Rattle.gp_match.specs.Judge.{judged}
 use Rattle.gp_match.specs.Judge as matches
 use Rattle.gp_match.proofs.Judges.{judged_match}
-use Rattle.gp_step.specs.After.{after}
 use Rattle.gp_step.specs.Laws.{IsNumbered}
 use Rattle.gp_step.proofs.Wholes.{one_step_on, numbered_step}
 use Rattle.gp_journal.specs.Trail.{Trail, advanced, led_by}
-use Rattle.gp_independence.specs.Laws.{AreIndependent, IsApplying}
+use Rattle.gp_independence.specs.Laws.{IsApplying}
 use Rattle.gp_independence.proofs.Lists.{matches_derive, matches_follow}
 use Rattle.gp_independence.proofs.Orders.{other_way}
-use Rattle.opt_system.specs.Meaning.{Judged, applies, faulty, neither, AllIndependent, IsLawful, reached}
+use Rattle.opt_system.specs.Meaning.{Judged, applies, neither, AllIndependent, IsLawful, reached}
 use Rattle.gp_system.specs.declared.goal.CallGoal.{CallGoal}
 use Rattle.gp_system.specs.declared.goal.Fault.{Fault}
-use Rattle.gp_system.specs.Gp.{RuleSystem, AreIndependentAt, has, with_rule, judged_by, judged_in, rules_of, gp_means}
+use Rattle.gp_system.specs.Gp.{RuleSystem, has, with_rule, judged_by, judged_in, rules_of, gp_means}
 
 below_modulus : (p n : ℕ) → p % (n + 1) < n + 1
 below_modulus p n = omega arith

@@ -6,10 +6,10 @@ use Rattle.gp_system.proofs.Crews.{way_missing, used_now}
 use Rattle.gp_system.proofs.pursuit.pursue_apart.Goals as goal
 
 pub brought-requires-clause-well_formed : goal.brought-requires-clause-well_formed
-brought-requires-clause-well_formed g c = subst (λ (rs : List RuleParts). All IsWellFormed (map rule_of_tree rs)) (sym c.rules-rules.ensures) c.requires.well_formed
+brought-requires-clause-well_formed g c κs live = subst (λ (rs : List RuleParts). All IsWellFormed (map rule_of_tree rs)) (sym c.rules-rules.ensures) c.requires.well_formed
 
 pub brought-requires-clause-way : goal.brought-requires-clause-way
-brought-requires-clause-way g c = way_missing c.args.system.now c.rules-rules.result.now c.args.apart.items.items c.as_slice.result.now c.args.apart.had c.args.apart.trail c.args.apart.replicas.items c.rules-rules.ensures c.as_slice.ensures c.requires.way
+brought-requires-clause-way g c κs live = way_missing c.args.system.now c.rules-rules.result.now c.args.apart.items.items c.as_slice.result.now c.args.apart.had c.args.apart.trail c.args.apart.replicas.items c.rules-rules.ensures c.as_slice.ensures c.requires.way
 
 pub overflow_sub-used : goal.overflow_sub-used
 overflow_sub-used g c = (let i = c.in_ok-reached.ensures.pursued.legal.items in let e = i.1 in omega arith)

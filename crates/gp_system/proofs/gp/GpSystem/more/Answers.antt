@@ -1,4 +1,4 @@
-use Rattle.std.proofs.Common.{sym, arith}
+use Rattle.std.proofs.Common.{arith}
 use Rattle.std.proofs.lemmas.Result.{on_ok_weaker}
 use Rattle.gp_step.proofs.Afters.{numbered}
 use Rattle.gp_system.proofs.Batches.{share_within, may_gather, are_gathered, is_full, none_outside, starts_so}
