@@ -5,7 +5,8 @@
 //! before the step, and answer what `value_of` and `truth_of` of gp_syntax say, which are what a reader believes: a value,
 //! or the kind of the first expression that has none. Want of memory may come instead. Arithmetic is checked, so that no
 //! integer wraps; degrees are asked of the graph, over which nothing walks; edges between two nodes are sought by the
-//! shorter of their lists. A chain is valued in time linear in its text and its value.
+//! shorter of their lists. A chain is valued in time linear in its text and its value, and no further than its first
+//! operand without a value.
 #![tactic(auto)]
 
 mod arithmetic;
