@@ -31,7 +31,7 @@ use std::sync::Wait;
 use std::thread::Threads;
 
 // How many candidates a search may look at for each of the fan.
-const CANDIDATES: u64 = 20_000;
+const CANDIDATES: u64 = 10_000;
 
 // With how many counted items the crew has a loop first, from within a turn: eight steps, and the turns between them.
 const FIRST_LEASE: u64 = 15;
@@ -61,15 +61,17 @@ impl<'a> Model for CrewSession<'a> {
     ghost invariant = { λ a. IsCrewed a.session a.system a.crew.workers a.replicas.items a.had };
 }
 
-// How many shares a goal has: several for each worker; one where a worker may offer several matches of a share in a turn.
-fn shares_for(crew: Crew) -> u32
+// How many shares a goal has: several for each worker, so that whoever is done early does little of another's work again;
+// one where a worker may offer several matches of a share in a turn, and several shares have fewer nodes than that.
+fn shares_for(crew: Crew, nodes: u64) -> u32
     requires { 0 < crew.workers }
     ensures { 0 < result }
 {
-    if crew.batch > 1 {
+    let several = crew.workers.saturating_mul(SHARES_OF_A_WORKER);
+    if crew.batch > 1 && nodes < u64::from(several).saturating_mul(u64::from(crew.batch)) {
         return crew.workers;
     }
-    crew.workers.saturating_mul(SHARES_OF_A_WORKER)
+    several
 }
 
 impl<'a> CrewSession<'a> {
@@ -87,9 +89,10 @@ impl<'a> CrewSession<'a> {
         ensures { result ≡ begun program.now host.graph crew.bound }
     {
         let _sound = host.next_numbers();
+        let shares = shares_for(crew, host.node_count());
         CrewSession {
             session: Session::new(alloc, program, plans, host, crew.bound),
-            system: Gp::new(alloc, program, plans, shares_for(crew)),
+            system: Gp::new(alloc, program, plans, shares),
             crew,
             pace,
             replicas: Vec::new(alloc),
@@ -107,8 +110,7 @@ impl<'a> CrewSession<'a> {
 
     // Whether the call goes to the crew at once.
     fn is_wide(&self, call: u32) -> bool {
-        let fan = self.crew.fan;
-        fan <= 1 && self.system.is_wide(call, self.session.graph(), fan)
+        self.crew.fan <= 1 && self.system.is_wide(call, self.session.graph(), self.crew.fan)
     }
 
     // How many candidates a search on the run's own graph may look at before it is given up, besides those for the parts of
@@ -168,8 +170,8 @@ impl<'a> CrewSession<'a> {
         }
     }
 
-    // The loop over a call from within a turn that was begun: the crew has it with so many of the items left. Their number
-    // is odd, so that the last of them is a step.
+    // The loop over a call from within a turn that was begun: the crew has it with all items that are left, or as many of
+    // them as the lease says, an odd number, so that the last is a step.
     fn pursue_turns<R: Threads + Wait + Sync>(&mut self, rt: &R, call: u32, lease: u64) -> AfterTurn
         requires set { call < length self.old.program.sets }
         requires lease { lease % 2 ≡ 1 }

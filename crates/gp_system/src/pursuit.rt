@@ -31,8 +31,7 @@ pub(crate) struct Apart {
     pub(crate) had: usize,
 }
 
-/// A goal to be pursued with so many counted items left for it, by so many workers, each of which may offer up to so many
-/// matches in one turn.
+/// A goal to be pursued with so many counted items, by so many workers, who offer up to so many matches in one turn.
 #[derive(Clone, Copy)]
 pub(crate) struct Asked {
     pub(crate) goal: CallGoal,
