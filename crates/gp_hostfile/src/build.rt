@@ -117,7 +117,7 @@ fn atom_value(alloc: Global, atom: &AtomTree) -> Result<Atom, HostFault>
             negative,
             start,
             value,
-        } => Ok(Atom::Int(integer(*negative, *value, *start)?)),
+        } => Ok(Atom::Int(integer(*negative, value, *start)?)),
         AtomTree::String(characters) => Ok(Atom::Str(characters.copy(alloc)?)),
     }
 }

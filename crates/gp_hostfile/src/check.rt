@@ -12,7 +12,7 @@ ghost use Rattle.gp_hostfile.specs.declared.tree.NodeTree.{NodeTree};
 ghost use Rattle.gp_hostfile.specs.declared.tree.EdgeTree.{EdgeTree};
 
 use crate::fault::HostFault;
-use crate::tree::{AtomTree, EdgeTree, HostTree, NodeTree};
+use crate::tree::{AtomTree, EdgeTree, Halves, HostTree, NodeTree};
 use gp_memory::NoMemory;
 use gp_tokens::{Numeral, Slice};
 use gp_values::{EdgeMark, NameTable, NodeMark};
@@ -83,19 +83,22 @@ fn check_atom(atom: &AtomTree) -> Result<(), HostFault>
         value,
     } = atom
     {
-        integer(*negative, *value, *start)?;
+        integer(*negative, value, *start)?;
     }
     Ok(())
 }
 
 /// The integer, or the fault that it is out of range.
-pub(crate) fn integer(negative: bool, value: u128, start: u64) -> Result<i128, HostFault>
-    ensures { Finds result (signed negative value) (faults.NumberRange start) }
+pub(crate) fn integer(negative: bool, value: &Halves, start: u32) -> Result<i128, HostFault>
+    ensures { Finds result (signed negative value.now) (faults.NumberRange start) }
 {
-    let numeral = Numeral { negative, value };
+    let numeral = Numeral {
+        negative,
+        value: value.value(),
+    };
     match numeral.integer() {
         Some(value) => Ok(value),
-        None => Err(HostFault::NumberRange(start)),
+        None => Err(HostFault::NumberRange(u64::from(start))),
     }
 }
 

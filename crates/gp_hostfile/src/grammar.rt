@@ -7,7 +7,7 @@ ghost use Rattle.gp_hostfile.specs.Grammar as spec;
 ghost use Rattle.gp_hostfile.specs.inside.Edges.{item, placed_label, last_label};
 ghost use Rattle.gp_hostfile.specs.inside.Passing.{Passes};
 
-use crate::tree::{AtomTree, AtomTrees, EdgeTree, HostTree, NodeTree};
+use crate::tree::{AtomTree, AtomTrees, EdgeTree, Halves, HostTree, NodeTree};
 use gp_tokens::{
     Keyword, Kind, ReadError, Slice, Token, Tokens, Want, repeated_by, separated_by, stands_before,
 };
@@ -39,7 +39,7 @@ fn read_atom(tokens: &mut Tokens<'_, '_>, _nothing: ()) -> Result<AtomTree, Read
         return Ok(AtomTree::Number {
             negative,
             start,
-            value,
+            value: Halves::new(value),
         });
     }
     Ok(AtomTree::String(tokens.string()?))

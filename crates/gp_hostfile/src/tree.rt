@@ -8,14 +8,51 @@ use std::alloc::Global;
 use std::marker::Model;
 use std::slice::from_ref;
 
+const HALF: u128 = 1 << 64;
+
+/// A number in two halves. An atom takes 24 bytes so; with a number of 16 bytes, which begins at a multiple of these, it
+/// would take 32, and a label 48.
+#[derive(Drop)]
+pub(crate) struct Halves {
+    high: u64,
+    low: u64,
+}
+
+impl Model for Halves {
+    ghost use Rattle.std.specs.Prelude.{ℕ, ◌+◌, ◌*◌, ◌^◌};
+
+    ghost Value = { ℕ };
+
+    ghost view = { λ h. h.high * 2 ^ 64 + h.low };
+}
+
+impl Halves {
+    /// The halves of this number.
+    pub(crate) fn new(value: u128) -> Halves
+        ensures { result ≡ value }
+    {
+        Halves {
+            high: (value / HALF) as u64,
+            low: (value % HALF) as u64,
+        }
+    }
+
+    /// The number.
+    pub(crate) fn value(&self) -> u128
+        ensures { result ≡ self.now }
+    {
+        u128::from(self.high) * HALF + u128::from(self.low)
+    }
+}
+
 /// An atom: an integer, by whether a minus stands before it, the offset of its Number and the value of that, or the
 /// characters of a string. The fields stand in the order that takes the least memory, as those of all trees here.
 #[derive(Drop)]
 pub(crate) enum AtomTree {
     Number {
         negative: bool,
-        start: u64,
-        value: u128,
+        start: u32,
+        value: Halves,
     },
     String(Chars),
 }

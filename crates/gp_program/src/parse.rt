@@ -91,7 +91,7 @@ fn place_of_start(tokens: &[Token<'_>], start: u64) -> u64
     let mut place = 0u64;
     let mut rest = tokens;
     'each: while let [token, after @ ..] = rest {
-        if token.start == start {
+        if u64::from(token.start) == start {
             return place;
         }
         place += 1;

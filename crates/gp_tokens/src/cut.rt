@@ -1,7 +1,8 @@
 //! Cuts a text into tokens.
 
-ghost use Rattle.std.specs.Prelude.{◌≢◌, All, IfErr, IfOk};
+ghost use Rattle.std.specs.Prelude.{◌≡◌, ◌≢◌, All, IfErr, IfOk};
 ghost use Rattle.gp_tokens.specs.Cut.{IsCutOf, IsFaultOf, IsInRange};
+ghost use Rattle.gp_tokens.specs.declared.fault.LexFault.TheVariants.{NoMemory};
 ghost use Rattle.gp_tokens.specs.Lexed.{Gives, tokens_of};
 
 use crate::fault::LexFault;
@@ -9,6 +10,14 @@ use crate::front::{First, front};
 use crate::text::Slice;
 use crate::token::Token;
 use std::alloc::Global;
+
+// The offset of a token. A text of more bytes than it counts is one that memory has no room for.
+fn offset(at: usize) -> Result<u32, LexFault>
+    ensures offset { IfOk result (λ n. n ≡ at) }
+    ensures fault { IfErr result (λ e. e ≡ NoMemory) }
+{
+    u32::try_from(at).map_err(|_| LexFault::NoMemory)
+}
 
 /// The tokens of the text, each a slice of it, or the first fault that is met from the front.
 pub fn lex<'t>(alloc: Global, text: &'t [u8]) -> Result<Vec<Token<'t>>, LexFault>
@@ -26,9 +35,9 @@ pub fn lex<'t>(alloc: Global, text: &'t [u8]) -> Result<Vec<Token<'t>>, LexFault
             First::Token(kind, len) => {
                 let (slice, _behind) = rest.split_at(len);
                 tokens.push(Token {
-                    kind,
-                    start: at as u64,
                     text: Slice::new(slice),
+                    start: offset(at)?,
+                    kind,
                 })?;
                 at += len;
             }

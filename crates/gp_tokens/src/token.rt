@@ -51,13 +51,13 @@ impl Kind {
     }
 }
 
-/// A token: what it is, the offset of its first byte in the text, and its bytes, which
-/// it borrows from the text.
+/// A token: its bytes, which it borrows from the text, the offset of the first of them in the text, and what it is. The
+/// fields stand in the order that takes the least memory.
 #[derive(Drop)]
 pub struct Token<'t> {
-    pub kind: Kind,
-    pub start: u64,
     pub text: Slice<'t>,
+    pub start: u32,
+    pub kind: Kind,
 }
 
 fn first_byte(text: &[u8]) -> u8

@@ -56,7 +56,7 @@ fn string(tokens: &mut Tokens<'_, '_>, out: &mut Answer) {
 // Where the token that is wanted starts.
 fn expect(tokens: &mut Tokens<'_, '_>, want: Want, out: &mut Answer) {
     match tokens.expect(want) {
-        Ok(token) => out.number(token.start),
+        Ok(token) => out.number(u64::from(token.start)),
         Err(error) => out.debug(&error),
     }
 }

@@ -10,7 +10,7 @@ pub(crate) fn answer(alloc: Global, fields: &[&[u8]], out: &mut Answer) {
     if let Some(tokens) = tokens_of(alloc, field(fields, 0), out) {
         for token in tokens.iter() {
             out.debug(&token.kind);
-            out.number(token.start);
+            out.number(u64::from(token.start));
         }
     }
 }
