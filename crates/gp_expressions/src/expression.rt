@@ -252,7 +252,7 @@ fn read_number(tokens: &mut Tokens<'_, '_>, negative: bool) -> Result<Ranged<Exp
     ensures { Reads (made (λ x. spec.numeral_tree x.1 (integer_of (record { negative = negative; value = x.0 }))) number_at tokens.old) result tokens.new }
 {
     let (value, start) = tokens.number_at()?;
-    Ok(numeral(Numeral { negative, value }, start))
+    Ok(numeral(Numeral { negative, value }, u64::from(start)))
 }
 
 #[cycle(expression)]
