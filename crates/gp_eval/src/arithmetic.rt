@@ -29,7 +29,7 @@ fn single(alloc: Global, atom: Atom) -> Result<List, NoMemory>
 pub fn number(alloc: Global, z: &i128) -> Result<List, Missing>
     ensures { Gives result (Value (number z.now)) }
 {
-    Ok(single(alloc, Atom::Int(*z))?)
+    Ok(single(alloc, Atom::of_integer(*z))?)
 }
 
 /// A list of one integer as that integer, another as 0.
@@ -37,7 +37,7 @@ pub fn integer(list: &List) -> i128
     ensures { result ≡ integer list.now }
 {
     match list.atoms() {
-        [Atom::Int(z)] => *z,
+        [Atom::Int(z)] => z.get(),
         _ => 0,
     }
 }
@@ -47,7 +47,7 @@ pub fn only_integer(list: &List) -> Option<i128>
     ensures { IfSome result (λ z. list.now ≡ number z) }
 {
     match list.atoms() {
-        [Atom::Int(z)] => Some(*z),
+        [Atom::Int(z)] => Some(z.get()),
         _ => None,
     }
 }
@@ -58,7 +58,7 @@ pub fn characters(list: &List) -> &[u8]
     ensures text { IsText result.now }
 {
     match list.atoms() {
-        [Atom::Str(text)] => text.as_bytes(),
+        [Atom::Str(text)] => text.get().as_bytes(),
         _ => &[],
     }
 }
@@ -136,7 +136,7 @@ fn quotient(x: i128, y: i128) -> Result<i128, Missing>
 pub fn string(alloc: Global, text: &Chars) -> Result<List, Missing>
     ensures { Gives result (Value (Str text.now ∷ [])) }
 {
-    Ok(single(alloc, Atom::Str(text.copy(alloc)?))?)
+    Ok(single(alloc, Atom::of_string(alloc, text.copy(alloc)?)?)?)
 }
 
 /// The characters of a string, to which others are added.
@@ -166,7 +166,7 @@ pub fn end_text(alloc: Global, codes: Vec<u8>) -> Result<List, Missing>
     ensures { Gives result (Value (Str codes.items ∷ [])) }
 {
     match Chars::new(codes) {
-        Some(text) => Ok(single(alloc, Atom::Str(text))?),
+        Some(text) => Ok(single(alloc, Atom::of_string(alloc, text)?)?),
         None => unreachable!(),
     }
 }

@@ -53,7 +53,7 @@ fn length_by(declared: VariableType, list: &List) -> usize
     match (declared, list.atoms()) {
         (VariableType::List, atoms) => atoms.len(),
         (VariableType::Int, _) => 1,
-        (VariableType::Atom, [Atom::Str(text)]) => text.as_bytes().len(),
+        (VariableType::Atom, [Atom::Str(text)]) => text.get().as_bytes().len(),
         (VariableType::Atom, _) => 1,
         _ => characters(list).len(),
     }

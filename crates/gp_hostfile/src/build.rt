@@ -117,7 +117,7 @@ fn atom_value(alloc: Global, atom: &AtomTree) -> Result<Atom, HostFault>
             negative,
             start,
             value,
-        } => Ok(Atom::Int(integer(*negative, value, *start)?)),
-        AtomTree::String(characters) => Ok(Atom::Str(characters.copy(alloc)?)),
+        } => Ok(Atom::of_integer(integer(*negative, value, *start)?)),
+        AtomTree::String(characters) => Ok(Atom::of_string(alloc, characters.copy(alloc)?)?),
     }
 }

@@ -26,7 +26,7 @@ pub fn is_of(declared: VariableType, atoms: &[Atom]) -> bool
         (VariableType::Atom, [_]) => true,
         (VariableType::Int, [Atom::Int(_)]) => true,
         (VariableType::String, [Atom::Str(_)]) => true,
-        (VariableType::Char, [Atom::Str(text)]) => text.as_bytes().len() == 1,
+        (VariableType::Char, [Atom::Str(text)]) => text.get().as_bytes().len() == 1,
         _ => false,
     }
 }

@@ -106,7 +106,7 @@ fn read_chain<'v>(
 {
     match atoms {
         [Atom::Str(text), left @ ..] => {
-            unify_dots(alloc, first, rest, text.as_bytes(), assignment, trail)?;
+            unify_dots(alloc, first, rest, text.get().as_bytes(), assignment, trail)?;
             Ok(left)
         }
         _ => Err(Mismatch::Differs),

@@ -87,7 +87,7 @@ pub(crate) fn behind_integer<'v>(z: &i128, atoms: &'v [Atom]) -> Option<&'v [Ato
     ensures { Begins result (same_list (Int z.now ∷ []) (take 1 atoms.now)) (drop 1 atoms.now) }
 {
     match atoms {
-        [Atom::Int(n), left @ ..] if *n == *z => Some(left),
+        [Atom::Int(n), left @ ..] if n.get() == *z => Some(left),
         _ => None,
     }
 }
@@ -97,7 +97,7 @@ pub(crate) fn behind_string<'v>(text: &[u8], atoms: &'v [Atom]) -> Option<&'v [A
     ensures { Begins result (same_list (Str text.now ∷ []) (take 1 atoms.now)) (drop 1 atoms.now) }
 {
     match atoms {
-        [Atom::Str(found), left @ ..] if text == found.as_bytes() => Some(left),
+        [Atom::Str(found), left @ ..] if text == found.get().as_bytes() => Some(left),
         _ => None,
     }
 }
@@ -128,7 +128,7 @@ pub(crate) fn is_text(list: &List, codes: &[u8]) -> bool
     ensures { result ≡ same_list list.now (Str codes.now ∷ []) }
 {
     match list.atoms() {
-        [Atom::Str(text)] => text.as_bytes() == codes,
+        [Atom::Str(text)] => text.get().as_bytes() == codes,
         _ => false,
     }
 }
@@ -151,7 +151,7 @@ pub(crate) fn text_of(alloc: Global, codes: &[u8]) -> Result<List, NoMemory>
 {
     let mut list = List::new(alloc);
     match Chars::new(codes.to_vec(alloc)?) {
-        Some(text) => list.push(Atom::Str(text))?,
+        Some(text) => list.push(Atom::of_string(alloc, text)?)?,
         None => unreachable!(),
     }
     Ok(list)

@@ -2,27 +2,44 @@
 
 ghost use Rattle.std.specs.Prelude.{◌≡◌, ◌↔◌, IfOk, IsTrue};
 ghost use Rattle.gp_values.specs.Atoms.{IsAtom};
+ghost use Rattle.gp_values.specs.declared.atom.Atom.TheVariants.{Int, Str};
 
 use crate::chars::Chars;
+use crate::integer::Integer;
 use gp_memory::NoMemory;
+use sqlite_items::Boxed;
 use std::alloc::Global;
 use std::cmp::Ordering;
 
 /// One item of a list: an integer of 128 bits or a string (Plump 2012, section 2).
 #[derive(Drop)]
 pub enum Atom {
-    Int(i128),
-    Str(Chars),
+    Int(Integer),
+    Str(Boxed<Chars>),
 }
 
 impl Atom {
+    /// The atom of an integer. It takes no memory.
+    pub fn of_integer(value: i128) -> Atom
+        ensures { result ≡ Int value }
+    {
+        Atom::Int(Integer::new(value))
+    }
+
+    /// The atom of a string.
+    pub fn of_string(alloc: Global, characters: Chars) -> Result<Atom, NoMemory>
+        ensures { IfOk result (λ v. v ≡ Str characters) }
+    {
+        Ok(Atom::Str(Boxed::new(alloc, characters)?))
+    }
+
     /// A copy of its own memory.
     pub fn copy(&self, alloc: Global) -> Result<Atom, NoMemory>
         ensures { IfOk result (λ v. v ≡ self.now) }
     {
         match self {
-            Atom::Int(n) => Ok(Atom::Int(*n)),
-            Atom::Str(text) => Ok(Atom::Str(text.copy(alloc)?)),
+            Atom::Int(n) => Ok(Atom::of_integer(n.get())),
+            Atom::Str(text) => Atom::of_string(alloc, text.get().copy(alloc)?),
         }
     }
 
@@ -39,10 +56,10 @@ impl Atom {
     {
         match self {
             Atom::Int(n) => {
-                let _read = *n;
+                let _read = n.get();
             }
             Atom::Str(text) => {
-                let _codes = text.as_bytes();
+                let _codes = text.get().as_bytes();
             }
         }
     }
@@ -51,7 +68,7 @@ impl Atom {
 // What stands in a place of a list that no atom has taken.
 impl Default for Atom {
     fn default() -> Atom {
-        Atom::Int(0)
+        Atom::of_integer(0)
     }
 }
 
@@ -65,8 +82,8 @@ impl PartialEq for Atom {
 
     fn eq(&self, other: &Atom) -> bool {
         match (self, other) {
-            (Atom::Int(x), Atom::Int(y)) => *x == *y,
-            (Atom::Str(s), Atom::Str(t)) => *s == *t,
+            (Atom::Int(x), Atom::Int(y)) => x.get() == y.get(),
+            (Atom::Str(s), Atom::Str(t)) => *s.get() == *t.get(),
             _ => false,
         }
     }
@@ -108,10 +125,10 @@ impl Ord for Atom {
 
     fn cmp(&self, other: &Atom) -> Ordering {
         match (self, other) {
-            (Atom::Int(x), Atom::Int(y)) => x.cmp(y),
+            (Atom::Int(x), Atom::Int(y)) => x.get().cmp(&y.get()),
             (Atom::Int(_), Atom::Str(_)) => Ordering::Less,
             (Atom::Str(_), Atom::Int(_)) => Ordering::Greater,
-            (Atom::Str(s), Atom::Str(t)) => s.cmp(t),
+            (Atom::Str(s), Atom::Str(t)) => s.get().cmp(t.get()),
         }
     }
 }

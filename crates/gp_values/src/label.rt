@@ -49,8 +49,8 @@ fn write_atom(atom: &Atom, out: &mut Vec<u8>) -> Result<(), NoMemory>
     ensures err { OnErr result (IsBegun (atom_text atom.now) out.old.items out.new.items) }
 {
     match atom {
-        Atom::Int(n) => write_text(Buffer::new().format(*n).as_bytes(), out),
-        Atom::Str(text) => write_string(text.as_bytes(), out),
+        Atom::Int(n) => write_text(Buffer::new().format(n.get()).as_bytes(), out),
+        Atom::Str(text) => write_string(text.get().as_bytes(), out),
     }
 }
 

@@ -11,6 +11,7 @@
 
 mod atom;
 mod chars;
+mod integer;
 mod label;
 pub mod laws;
 mod list;
@@ -19,6 +20,7 @@ mod names;
 
 pub use atom::Atom;
 pub use chars::Chars;
+pub use integer::Integer;
 pub use list::List;
 pub use marks::{EdgeMark, NodeMark};
 pub use names::NameTable;

@@ -69,7 +69,7 @@ pub(crate) fn assignment(alloc: Global, fields: &[&[u8]], out: &mut Answer) {
 
 fn assigned(alloc: Global, number: u64) -> Result<Assignment, Wrong> {
     let mut value = List::new(alloc);
-    value.push(Atom::Int(i128::from(number)))?;
+    value.push(Atom::of_integer(i128::from(number)))?;
     let types = [VariableType::Int, VariableType::List];
     let mut assignment = Assignment::new(alloc, &types)?;
     assignment.set(1, value);

@@ -11,14 +11,14 @@ use std::alloc::Global;
 /// The list of a number.
 pub(crate) fn label(alloc: Global, number: u64) -> Result<List, NoMemory> {
     let mut list = List::new(alloc);
-    list.push(Atom::Int(i128::from(number)))?;
+    list.push(Atom::of_integer(i128::from(number)))?;
     Ok(list)
 }
 
 /// The number that a list is.
 pub(crate) fn number_in(list: &List) -> Option<u64> {
     match list.atoms() {
-        [Atom::Int(number)] => u64::try_from(*number).ok(),
+        [Atom::Int(number)] => u64::try_from(number.get()).ok(),
         _ => None,
     }
 }
