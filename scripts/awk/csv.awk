@@ -48,7 +48,8 @@ function begin_table(file, names,   cells, count, i) {
 }
 
 function wanted_column(name) {
-  if (!(name in column)) refuse(file_name, "there is no column " told(name) " among " columns_told)
+  if (!(name in column)) refuse(file_name, "there is no column " told(name) " among " columns_told \
+    (columns == 1 && columns_told ~ /;/ ? " (if a semicolon stands between columns: --separator ';')" : ""))
   return taken_column(name)
 }
 

@@ -6,7 +6,7 @@ function refuse(where, what) { print name_of_script ": " (where == "" ? "" : whe
 
 # A text as a refusal shows it: on one line, with `?` for what is no character of 32 to 126, and not for long.
 function told(text) {
-  gsub(/[^ -~]/, "?", text)
+  gsub(/[\001-\037\177]/, "?", text) # a letter that is not ASCII is shown as it is
   return "`" (length(text) > 60 ? substr(text, 1, 60) ".." : text) "`"
 }
 
