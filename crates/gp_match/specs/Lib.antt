@@ -1,4 +1,5 @@
 pub mod Verdict
+pub mod Told
 pub mod Judge
 pub mod inside
 pub mod Laws

@@ -1,12 +1,13 @@
 //! The verdict on a match.
 
 ghost use Rattle.std.specs.Prelude.{◌≡◌, length, All};
-ghost use Rattle.gp_syntax.specs.Assigned.{IsWhole};
+ghost use Rattle.gp_syntax.specs.Assigned.{IsInTypes, IsWhole};
 ghost use Rattle.gp_syntax.specs.Step.{first_fault, right_labels};
 ghost use Rattle.gp_syntax.specs.Tree.{condition_or_true, pattern_of, rule_of_tree};
 ghost use Rattle.gp_syntax.specs.Truth.{truth_of};
 ghost use Rattle.gp_syntax.specs.WellFormed.{IsConditionWithin, IsWithin, IsWellFormed};
 ghost use Rattle.gp_eval.specs.Answer.{AreNodes, Tells, setting};
+ghost use Rattle.gp_match.specs.Told.{IsTold};
 ghost use Rattle.gp_match.specs.Verdict.{Judges};
 ghost use Rattle.gp_match.specs.inside.Faults.{JudgedBy};
 
@@ -48,10 +49,36 @@ pub fn check_parts(alloc: Global, parts: &RuleParts, graph: &Graph, found: &Foun
     let Some(assignment) = told else {
         return Verdict::No;
     };
+    check_told(alloc, parts, graph, found, &assignment)
+}
+
+// Reads the values, so that it is known that they are of their types.
+fn read_values(assignment: &Assignment)
+    requires { length assignment.now.values ≡ length assignment.now.types }
+    ensures { IsInTypes assignment.now }
+{
+    if !assignment.types().is_empty() {
+        let _value = assignment.value(0);
+    }
+}
+
+/// The same, where it is known by which values it can be a match.
+pub fn check_told(
+    alloc: Global,
+    parts: &RuleParts,
+    graph: &Graph,
+    found: &Found,
+    assignment: &Assignment,
+) -> Verdict
+    requires well_formed { IsWellFormed (rule_of_tree parts.now) }
+    requires told { IsTold (rule_of_tree parts.now) graph.now.graph found.now assignment.now }
+    ensures { Judges result (rule_of_tree parts.now) graph.now.graph found.now }
+{
+    read_values(assignment);
     if !stands(parts, graph, found.nodes(), found.edges()) {
         return Verdict::No;
     }
-    judge(alloc, parts, graph, found.nodes(), &assignment)
+    judge(alloc, parts, graph, found.nodes(), assignment)
 }
 
 // The verdict on a match whose assignment this is.

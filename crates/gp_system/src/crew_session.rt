@@ -110,7 +110,8 @@ impl<'a> CrewSession<'a> {
 
     // Whether the call goes to the crew at once.
     fn is_wide(&self, call: u32) -> bool {
-        self.crew.fan <= 1 && self.system.is_wide(call, self.session.graph(), self.crew.fan)
+        let fan = self.crew.fan;
+        fan <= 1 && self.system.is_wide(call, self.session.graph(), fan)
     }
 
     // How many candidates a search on the run's own graph may look at before it is given up, besides those for the parts of

@@ -21,8 +21,7 @@ use opt_worker::{Pace, follow, pursue};
 use std::sync::Wait;
 use std::thread::Threads;
 
-/// A run that was taken apart: where it is, the items that led there, and the workers' trails, which have had so many of
-/// these.
+/// A run taken apart: where it is, the items that led there, and the workers' trails, which have had so many of these.
 #[derive(Drop)]
 pub(crate) struct Apart {
     pub(crate) trail: Trail,
