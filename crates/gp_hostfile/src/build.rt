@@ -118,6 +118,6 @@ fn atom_value(alloc: Global, atom: &AtomTree) -> Result<Atom, HostFault>
             start,
             value,
         } => Ok(Atom::of_integer(integer(*negative, value, *start)?)),
-        AtomTree::String(characters) => Ok(Atom::of_string(alloc, characters.copy(alloc)?)?),
+        AtomTree::String(characters) => Ok(Atom::of_string(alloc, characters.get().copy(alloc)?)?),
     }
 }

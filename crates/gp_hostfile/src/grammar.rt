@@ -11,6 +11,7 @@ use crate::tree::{AtomTree, AtomTrees, EdgeTree, Halves, HostTree, NodeTree};
 use gp_tokens::{
     Keyword, Kind, ReadError, Slice, Token, Tokens, Want, repeated_by, separated_by, stands_before,
 };
+use sqlite_items::Boxed;
 
 const OPEN: Want = Want::Kind(Kind::OpenParenthesis);
 
@@ -42,7 +43,8 @@ fn read_atom(tokens: &mut Tokens<'_, '_>, _nothing: ()) -> Result<AtomTree, Read
             value: Halves::new(value),
         });
     }
-    Ok(AtomTree::String(tokens.string()?))
+    let characters = tokens.string()?;
+    Ok(AtomTree::String(Boxed::new(tokens.alloc(), characters)?))
 }
 
 // "empty" | Atom {":" Atom}

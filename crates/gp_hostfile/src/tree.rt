@@ -4,14 +4,15 @@ ghost use Rattle.std.specs.Prelude.{◌≡◌, []};
 
 use gp_tokens::Slice;
 use gp_values::Chars;
+use sqlite_items::Boxed;
 use std::alloc::Global;
 use std::marker::Model;
 use std::slice::from_ref;
 
 const HALF: u128 = 1 << 64;
 
-/// A number in two halves. An atom takes 24 bytes so; with a number of 16 bytes, which begins at a multiple of these, it
-/// would take 32, and a label 48.
+/// A number in two halves. An atom takes 24 bytes so, and a label 32; with a number of 16 bytes, which begins at a
+/// multiple of these, they would take 32 and 48.
 #[derive(Drop)]
 pub(crate) struct Halves {
     high: u64,
@@ -46,7 +47,7 @@ impl Halves {
 }
 
 /// An atom: an integer, by whether a minus stands before it, the offset of its Number and the value of that, or the
-/// characters of a string. The fields stand in the order that takes the least memory, as those of all trees here.
+/// characters of a string, behind a pointer. The fields stand in the order that takes the least memory, as those of all trees here.
 #[derive(Drop)]
 pub(crate) enum AtomTree {
     Number {
@@ -54,7 +55,7 @@ pub(crate) enum AtomTree {
         start: u32,
         value: Halves,
     },
-    String(Chars),
+    String(Boxed<Chars>),
 }
 
 // Where the atoms of a label are held: one takes no memory of its own.

@@ -38,8 +38,8 @@ pub fn check_match(alloc: Global, rule: &Rule, graph: &Graph, found: &Found) -> 
     check_parts(alloc, rule.parts(), graph, found)
 }
 
-/// The same, of the parts of a rule.
-pub fn check_parts(alloc: Global, parts: &RuleParts, graph: &Graph, found: &Found) -> Verdict
+// The same, of the parts of a rule.
+fn check_parts(alloc: Global, parts: &RuleParts, graph: &Graph, found: &Found) -> Verdict
     requires { IsWellFormed (rule_of_tree parts.now) }
     ensures { Judges result (rule_of_tree parts.now) graph.now.graph found.now }
 {
@@ -62,7 +62,7 @@ fn read_values(assignment: &Assignment)
     }
 }
 
-/// The same, where it is known by which values it can be a match.
+/// The verdict on a match of the rule of these parts, where it is known by which values it can be one.
 pub fn check_told(
     alloc: Global,
     parts: &RuleParts,

@@ -12,6 +12,6 @@ mod fault;
 pub mod laws;
 mod stand;
 
-pub use check::{Verdict, check_match, check_parts, check_told};
+pub use check::{Verdict, check_match, check_told};
 pub use dangling::is_kept;
 pub use stand::{edge_fits, node_fits};
