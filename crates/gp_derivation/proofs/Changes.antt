@@ -5,7 +5,7 @@ use Rattle.std.proofs.lemmas.Bool.{cases_eq}
 use Rattle.std.proofs.lemmas.List.{reverse-append, at_drop_more, length-map, length-take, take_at, ext_get_or}
 use Rattle.std.proofs.lemmas.Option.{none-some, same_Some}
 use Rattle.gp_values.specs.Graph.{Graph, Edge, edge_at}
-use Rattle.gp_syntax.specs.declared.found.EdgeImage.{EdgeImage}
+use Rattle.gp_syntax.specs.Images.{EdgeImage}
 use Rattle.gp_derivation.specs.declared.table.Taken.{Taken}
 use Rattle.gp_derivation.specs.declared.table.Replaced.{Replaced}
 use Rattle.gp_derivation.specs.inside.Table.{Tables, today, all_today, own_numbers, emptied, all_emptied, moved, stepped, undone_of, back_by}

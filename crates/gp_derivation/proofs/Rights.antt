@@ -4,7 +4,7 @@ use Rattle.std.specs.Prelude.{count_by, is_none, option_and_then, slice_index}
 use Rattle.std.proofs.lemmas.List.{append_assoc, append-nil, at_drop_more, at_drop_all, drop_all, take_all, get_or-map, length-map}
 use Rattle.std.proofs.lemmas.List.Sums.{sum_by-cons}
 use Rattle.std.proofs.lemmas.Option.{slice_get_within}
-use Rattle.gp_syntax.specs.declared.found.EdgeImage.{EdgeImage}
+use Rattle.gp_syntax.specs.Images.{EdgeImage}
 use Rattle.gp_syntax.specs.declared.rule.RuleParts.{RuleParts}
 use Rattle.gp_syntax.specs.declared.rule.RightEdge.{RightEdge}
 use Rattle.gp_syntax.specs.Rule.{Found, kept_edge, kept_edges}

@@ -24,13 +24,10 @@ pub(crate) fn found_today(
         found.push_node(*node)?;
     }
     for image in was.edges() {
-        let Some(number) = table.today(image.number) else {
+        let Some(number) = table.today(image.number()) else {
             return Ok(None);
         };
-        found.push_edge(EdgeImage {
-            number,
-            reversed: image.reversed,
-        })?;
+        found.push_edge(EdgeImage::new(number, image.reversed()))?;
     }
     Ok(Some(found))
 }
@@ -53,7 +50,7 @@ pub(crate) fn right_numbers(
     let mut free = next;
     for edge in parts.right_edges.as_slice() {
         match parts.kept_edge(edge) {
-            Some(place) => numbers.push(images[place as usize].number)?,
+            Some(place) => numbers.push(images[place as usize].number())?,
             None => {
                 numbers.push(free)?;
                 free += 1;

@@ -147,8 +147,8 @@ fn pairs(alloc: Global, was: &[EdgeImage], now: &[EdgeImage]) -> Result<Vec<Take
         .iter()
         .zip(now)
         .map(|(was, now)| Taken {
-            was: was.number,
-            number: now.number,
+            was: was.number(),
+            number: now.number(),
         })
         .collect(alloc)?;
     Ok(taken)
@@ -162,7 +162,7 @@ fn take_out(today: &mut Vec<Option<u64>>, was: &[EdgeImage])
     ensures room { vec_capacity today.new ≡ vec_capacity today.old }
 {
     for image in was {
-        today[image.number as usize] = None;
+        today[image.number() as usize] = None;
     }
 }
 

@@ -43,7 +43,7 @@ fn share_edge(first: &[EdgeImage], second: &[EdgeImage]) -> bool
     ensures { result ≡ any_shared (numbers_of first.now) (numbers_of second.now) }
 {
     'images: for image in first {
-        if has_edge(second, image.number) {
+        if has_edge(second, image.number()) {
             return true;
         }
     }
@@ -54,7 +54,7 @@ fn has_edge(images: &[EdgeImage], number: u64) -> bool
     ensures { result ≡ has_number (numbers_of images.now) number }
 {
     'images: for image in images {
-        if image.number == number {
+        if image.number() == number {
             return true;
         }
     }

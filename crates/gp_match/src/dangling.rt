@@ -63,7 +63,7 @@ fn count_at(graph: &Graph, ending: bool, n: u64, images: &[EdgeImage]) -> u64
 {
     let mut count = 0;
     'images: for image in images {
-        if has_end(graph, ending, n, image.number) {
+        if has_end(graph, ending, n, image.number()) {
             count += 1;
         }
     }

@@ -104,7 +104,7 @@ fn gone_edges(alloc: Global, parts: &RuleParts, edges: &[EdgeImage]) -> Result<V
     let mut removed = Vec::new(alloc);
     for (i, image) in edges.iter().enumerate() {
         if !keeps_edge(parts, right, i) {
-            removed.push(image.number)?;
+            removed.push(image.number())?;
         }
     }
     Ok(removed)

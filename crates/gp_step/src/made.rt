@@ -227,7 +227,7 @@ fn found_mark(graph: &Graph, found: &Found, origin: Option<u32>) -> Option<EdgeM
     ensures { result ≡ option_map (λ (d : AnyEdge). d.mark) (found_edge graph.now.graph found.now origin) }
 {
     match origin {
-        Some(i) => match graph.edge(found.edges()[i as usize].number) {
+        Some(i) => match graph.edge(found.edges()[i as usize].number()) {
             Some((_, _, _, mark)) => Some(mark),
             None => None,
         },
@@ -241,7 +241,7 @@ fn is_exchanged(found: &Found, q: &RightEdge) -> bool
     ensures { result ≡ meant.is_exchanged found.now (right_edge_of q.now) }
 {
     let reversed = match q.origin {
-        Some(i) => found.edges()[i as usize].reversed,
+        Some(i) => found.edges()[i as usize].reversed(),
         None => false,
     };
     q.bidirectional && reversed != q.turned
@@ -306,7 +306,7 @@ fn carried_edge(
     requires within { place < length scene.now.found.edges }
     ensures { IfOk result (λ k. kept_edge_pair scene.now.graph k ≡ (slice_index scene.now.found.edges place, carried_by (edge_made scene.now [] (right_edge_of q.now)))) }
 {
-    let number = scene.found.edges()[place as usize].number;
+    let number = scene.found.edges()[place as usize].number();
     if is_unchanged(scene.parts, place, q) {
         return Ok(KeptEdge::Stays(number));
     }

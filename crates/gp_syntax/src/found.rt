@@ -12,11 +12,58 @@ pub const INLINE_NODES: usize = 3;
 
 pub const INLINE_EDGES: usize = 2;
 
-/// The image of a left edge: its number, and whether it was matched reversed.
+const HALF: u64 = 1 << 32;
+
+/// The image of a left edge: its number, and whether it was matched reversed. It takes 12 bytes, since its number is in two
+/// halves; with a number in one it would take 16. Contracts see the number and the direction.
 #[derive(Clone, Copy, Default)]
 pub struct EdgeImage {
-    pub number: u64,
-    pub reversed: bool,
+    high: u32,
+    low: u32,
+    reversed: bool,
+}
+
+impl Model for EdgeImage {
+    ghost use Rattle.std.specs.Prelude.{◌+◌, ◌*◌, ◌/◌, ◌%◌, ◌^◌, ◌<◌};
+    ghost use Rattle.std.proofs.lemmas.Nat.{div-mul-add, mod-mul-add};
+    ghost use Rattle.gp_syntax.specs.Images.{EdgeImage as Image};
+
+    ghost Value = { Image };
+
+    ghost view = { λ a. record { number = a.high * 2 ^ 32 + a.low; reversed = a.reversed } };
+
+    ghost invariant = { λ a. a.low < 2 ^ 32 };
+
+    ghost inverse = { λ i. record { high = i.number / 2 ^ 32; low = i.number % 2 ^ 32; reversed = i.reversed } };
+
+    ghost inverse_ok = { λ a h. λ z. record { high = div-mul-add a.high (2 ^ 32) a.low h z; low = mod-mul-add a.high (2 ^ 32) a.low h z; reversed = a.reversed } };
+}
+
+impl EdgeImage {
+    /// The image by this number, in this direction.
+    pub fn new(number: u64, reversed: bool) -> EdgeImage
+        ensures { result ≡ record { number = number; reversed = reversed } }
+    {
+        EdgeImage {
+            high: (number / HALF) as u32,
+            low: (number % HALF) as u32,
+            reversed,
+        }
+    }
+
+    /// The number.
+    pub fn number(&self) -> u64
+        ensures { result ≡ self.now.number }
+    {
+        u64::from(self.high) * HALF + u64::from(self.low)
+    }
+
+    /// Whether it was matched reversed.
+    pub fn reversed(&self) -> bool
+        ensures { result ≡ self.now.reversed }
+    {
+        self.reversed
+    }
 }
 
 /// Where a match lies: the number of its rule and the images of left nodes and left edges, in the order of the left

@@ -13,7 +13,7 @@ use Rattle.std.proofs.lemmas.Fmt.{decimal_injective, parse-decimal}
 use Rattle.std.proofs.lemmas.List.{append_cancel_right, length-map, take-map, drop-map}
 use Rattle.std.proofs.lemmas.List.Splits.{join_with_byte-slice_split}
 use Rattle.gp_memory.proofs.Basics.{map_append, within_of}
-use Rattle.gp_syntax.specs.declared.found.EdgeImage.{EdgeImage}
+use Rattle.gp_syntax.specs.Images.{EdgeImage}
 use Rattle.gp_syntax.specs.declared.found.Item.{Item as Recorded}
 use Rattle.gp_syntax.specs.Tree.{item_of}
 use Rattle.gp_syntax.specs.Rule.{Found}

@@ -4,7 +4,7 @@ use Rattle.std.specs.Prelude.{All, codes, flat_map, Result, Ok, Err, OnErr}
 use Rattle.std.specs.List.{join_with_byte}
 use Rattle.std.proofs.lemmas.List.{take_all, length-map}
 use Rattle.std.proofs.lemmas.List.Elements.{All-map}
-use Rattle.gp_syntax.specs.declared.found.EdgeImage.{EdgeImage}
+use Rattle.gp_syntax.specs.Images.{EdgeImage}
 use Rattle.gp_syntax.specs.Rule.{Found}
 use Rattle.gp_trace.specs.TraceText.{image_word, images_of, found_line, trace_text}
 use Rattle.gp_syntax.specs.Run.{Item}

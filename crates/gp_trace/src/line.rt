@@ -110,10 +110,7 @@ fn image(word: &[u8]) -> Option<EdgeImage>
     ensures { MatchOption result (SpellsNoImage word.now) (SpellsImage word.now) }
 {
     if let Some(number) = number(word) {
-        return Some(EdgeImage {
-            number,
-            reversed: false,
-        });
+        return Some(EdgeImage::new(number, false));
     }
     match word.strip_suffix(b"~") {
         Some(word) => reversed_image(word),
@@ -125,10 +122,7 @@ fn reversed_image(word: &[u8]) -> Option<EdgeImage>
     ensures { MatchOption result (SpellsNoNumber word.now) (λ i. SpellsNumber word.now i.number × (i.reversed ≡ true)) }
 {
     match number(word) {
-        Some(number) => Some(EdgeImage {
-            number,
-            reversed: true,
-        }),
+        Some(number) => Some(EdgeImage::new(number, true)),
         None => None,
     }
 }

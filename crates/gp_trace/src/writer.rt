@@ -124,7 +124,7 @@ fn put_edge(edge: EdgeImage, sheet: &mut Sheet)
 {
     sheet.put(b" ");
     sheet.number(edge.number);
-    sheet.put(tilde(edge.reversed));
+    sheet.put(tilde(edge.reversed()));
 }
 
 fn tilde(reversed: bool) -> &'static [u8]

@@ -9,7 +9,7 @@ use Rattle.gp_values.specs.Graph.{Graph, Node, Edge, node_at, edge_at}
 use Rattle.gp_syntax.specs.declared.kinds.VariableType.{VariableType}
 use Rattle.gp_syntax.specs.declared.kinds.VariableType.TheVariants as types
 use Rattle.gp_syntax.specs.Assigned.{PartialAssignment, IsWhole, assigned_of}
-use Rattle.gp_syntax.specs.declared.found.EdgeImage.{EdgeImage}
+use Rattle.gp_syntax.specs.Images.{EdgeImage}
 use Rattle.gp_syntax.specs.Expression.{Expression, Variable, Dot, Join}
 use Rattle.gp_syntax.specs.Value.{Assignment, Setting, Value, value_of, is_of}
 use Rattle.gp_syntax.specs.Rule.{Rule, LeftNode, LeftEdge, Found}

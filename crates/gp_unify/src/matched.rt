@@ -126,7 +126,7 @@ fn unify_edges(
     ensures told { TellsAll result (unify_all (type_in assignment.old.types) (map (λ p. label_of p.label) edges.now) (edge_labels graph.now.graph (map (λ i. i.number) images.now)) (known_of assignment.old)) assignment.old assignment.new }
 {
     'edges: for i in 0..edges.len() {
-        let image = edge_label(graph, images[i].number);
+        let image = edge_label(graph, images[i].number());
         if !unify_image(alloc, &edges[i].label, image, assignment)? {
             return Ok(false);
         }

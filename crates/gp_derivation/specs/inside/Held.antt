@@ -1,6 +1,6 @@
 -- How a table is held: its entries, and what takes its live steps back.
 use Rattle.std.specs.Prelude.{ℕ, ◌-◌, ◌<◌, ◌≤◌, List, [], ◌∷◌, All, length, take, set, reverse, Option, Some}
-use Rattle.gp_syntax.specs.declared.found.EdgeImage.{EdgeImage}
+use Rattle.gp_syntax.specs.Images.{EdgeImage}
 use Rattle.gp_derivation.specs.declared.table.Taken.{Taken}
 use Rattle.gp_derivation.specs.declared.table.Replaced.{Replaced}
 use Rattle.gp_derivation.specs.declared.table.EdgeTable.TheInside.{Inside}

@@ -225,7 +225,7 @@ fn push_edge(
     if count > 1 {
         found.push_node(if reversed { source } else { target })?;
     }
-    found.push_edge(EdgeImage { number, reversed })
+    found.push_edge(EdgeImage::new(number, reversed))
 }
 
 fn below(random: &mut Lcg64Xsh32, count: u64) -> u64 {

@@ -43,10 +43,7 @@ fn match_of(alloc: Global, count: u64) -> Result<Item, Wrong> {
     let mut found = Found::new(alloc, 3);
     for number in 0..count {
         found.push_node(number)?;
-        found.push_edge(EdgeImage {
-            number,
-            reversed: number == 1,
-        })?;
+        found.push_edge(EdgeImage::new(number, number == 1))?;
     }
     found.set_rule(4);
     Ok(Item::Step(found).copy(alloc)?)

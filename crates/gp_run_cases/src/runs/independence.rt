@@ -209,9 +209,6 @@ fn edge_match(alloc: Global, number: u64) -> Result<Found, NoMemory> {
     let mut found = Found::new(alloc, 0);
     found.push_node(0)?;
     found.push_node(1)?;
-    found.push_edge(EdgeImage {
-        number,
-        reversed: false,
-    })?;
+    found.push_edge(EdgeImage::new(number, false))?;
     Ok(found)
 }

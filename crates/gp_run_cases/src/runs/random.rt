@@ -243,7 +243,7 @@ fn guess_edge(
     if let Some((source, target, _, _)) = graph.edge(number) {
         found.push_node(if reversed { target } else { source })?;
         found.push_node(if reversed { source } else { target })?;
-        found.push_edge(EdgeImage { number, reversed })?;
+        found.push_edge(EdgeImage::new(number, reversed))?;
     }
     Ok(())
 }

@@ -4,7 +4,7 @@ use Rattle.std.specs.Option.{option_map_or}
 use Rattle.gp_values.specs.declared.marks.EdgeMark.{EdgeMark}
 use Rattle.gp_values.specs.declared.marks.EdgeMark.TheVariants as edge_marks
 use Rattle.gp_values.specs.Graph.{Graph, Node, Edge, edge_at}
-use Rattle.gp_syntax.specs.declared.found.EdgeImage.{EdgeImage}
+use Rattle.gp_syntax.specs.Images.{EdgeImage}
 use Rattle.gp_step.specs.declared.made.Carried.{Carried}
 use Rattle.gp_step.specs.declared.made.Kept.{Kept}
 use Rattle.gp_step.specs.declared.made.KeptEdge.{KeptEdge}

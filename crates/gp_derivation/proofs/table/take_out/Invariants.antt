@@ -1,5 +1,5 @@
 use Rattle.std.proofs.Common.{◌≡◌, map, drop, length, vec_len, vec_capacity}
-use Rattle.gp_syntax.specs.declared.found.EdgeImage.{EdgeImage}
+use Rattle.gp_syntax.specs.Images.{EdgeImage}
 use Rattle.gp_derivation.specs.inside.Table.{all_emptied}
 use Rattle.gp_derivation.proofs.table.take_out.Given as goal
 

@@ -1,6 +1,6 @@
 use Rattle.std.proofs.Common.{◌≡◌, ◌<◌, false, [], map, length, slice_index, slice_index_or, sym, ap, refl, subst, ◌∙◌, arith}
 use Rattle.std.proofs.lemmas.List.{get_or-map, length-map}
-use Rattle.gp_syntax.specs.declared.found.EdgeImage.{EdgeImage}
+use Rattle.gp_syntax.specs.Images.{EdgeImage}
 use Rattle.gp_step.specs.inside.Made.{number_of, carried_at}
 use Rattle.gp_step.specs.inside.Scene.{SceneView, IsReady}
 use Rattle.gp_step.specs.inside.Same.{IsUnchanged}

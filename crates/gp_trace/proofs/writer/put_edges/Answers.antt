@@ -1,6 +1,6 @@
 use Rattle.std.proofs.Common.{ℕ, List, ◌∷◌}
 use Rattle.std.proofs.lemmas.List.Elements.{All-nil, All-more}
-use Rattle.gp_syntax.specs.declared.found.EdgeImage.{EdgeImage}
+use Rattle.gp_syntax.specs.Images.{EdgeImage}
 use Rattle.gp_trace.specs.TraceText.{image_word}
 use Rattle.gp_trace.specs.Reading.{IsNumber}
 use Rattle.gp_trace.proofs.Puts.{nothing, and_then, told}

@@ -1,6 +1,6 @@
 use Rattle.std.proofs.Common.{map, take}
 use Rattle.std.specs.Prelude.{All}
-use Rattle.gp_syntax.specs.declared.found.EdgeImage.{EdgeImage}
+use Rattle.gp_syntax.specs.Images.{EdgeImage}
 use Rattle.gp_trace.specs.TraceText.{image_word}
 use Rattle.gp_trace.specs.Reading.{IsNumber}
 use Rattle.gp_trace.specs.inside.Lines.{spaced}

@@ -1,6 +1,6 @@
 use Rattle.std.proofs.Common.{◌≡◌, length, replicate, None, Some, sym, ap, ◌∙◌}
 use Rattle.std.proofs.lemmas.List.{length-map}
-use Rattle.gp_syntax.specs.declared.found.EdgeImage.{EdgeImage}
+use Rattle.gp_syntax.specs.Images.{EdgeImage}
 use Rattle.gp_syntax.specs.Tree.{rule_of_tree}
 use Rattle.gp_unify.proofs.Matches.{one_from_nothing, none_from_nothing, of_match}
 use Rattle.gp_unify.proofs.matched.assignment_by.Goals as goal

@@ -1,7 +1,7 @@
 use Rattle.std.proofs.Common.{◌≡◌, map, Option, option_and_then, refl, sym, ap, ◌∙◌}
 use Rattle.gp_syntax.specs.declared.rule.LeftNode.{LeftNode}
 use Rattle.gp_syntax.specs.declared.rule.LeftEdge.{LeftEdge}
-use Rattle.gp_syntax.specs.declared.found.EdgeImage.{EdgeImage}
+use Rattle.gp_syntax.specs.Images.{EdgeImage}
 use Rattle.gp_syntax.specs.Simple.{IsSimple}
 use Rattle.gp_syntax.specs.Tree.{label_of}
 use Rattle.gp_syntax.specs.Typing.{type_in}
