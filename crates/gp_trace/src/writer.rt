@@ -123,7 +123,7 @@ fn put_edge(edge: EdgeImage, sheet: &mut Sheet)
     ensures held { IsNumber edge.number }
 {
     sheet.put(b" ");
-    sheet.number(edge.number);
+    sheet.number(edge.number());
     sheet.put(tilde(edge.reversed()));
 }
 

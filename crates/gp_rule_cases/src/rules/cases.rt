@@ -89,7 +89,7 @@ pub(crate) fn put_found(found: &Found, out: &mut Answer) {
     }
     out.word(b"edges");
     for image in found.edges() {
-        out.number(image.number);
+        out.number(image.number());
         out.put(if image.reversed() { b"~" } else { b"" });
     }
 }

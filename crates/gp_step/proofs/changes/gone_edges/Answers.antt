@@ -16,7 +16,7 @@ loop-i-preserved c =
     elim c.if-not-keeps_edge.branch [
       | then-not-keeps_edge+in_ok-push w ↦
           (let no : kept c.loop-i.i ≡ false = sym said ∙ w.if-not-keeps_edge.true in
-          rw w.removed-is (rw w.in_ok-push.ensures.items (s.goes no)))
+          rw w.removed-is (rw w.in_ok-push.ensures.items (rw w.number.ensures (rw c.index-edges-i.is (s.goes no)))))
       | else-not-keeps_edge w ↦
           (let yes : kept c.loop-i.i ≡ true = sym said ∙ w.if-not-keeps_edge.false in
           rw w.removed-is (s.stays yes))

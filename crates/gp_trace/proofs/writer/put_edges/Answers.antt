@@ -1,4 +1,4 @@
-use Rattle.std.proofs.Common.{ℕ, List, ◌∷◌}
+use Rattle.std.proofs.Common.{ℕ, List, ◌∷◌, subst}
 use Rattle.std.proofs.lemmas.List.Elements.{All-nil, All-more}
 use Rattle.gp_syntax.specs.Images.{EdgeImage}
 use Rattle.gp_trace.specs.TraceText.{image_word}
@@ -12,8 +12,8 @@ loop-edge-init c = record { text = nothing; held = All-nil (λ (i : EdgeImage). 
 
 pub loop-edge-preserved : goal.loop-edge-preserved
 loop-edge-preserved c = record {
-  text = told (one_more (λ (w : List ℕ). 32 ∷ w) image_word c.args.edges.now c.loop-edge.edge-index _ c.loop-edge-test.true) (and_then c.loop-edge.invariant.text c.put_edge.ensures.text);
-  held = All-more (λ (i : EdgeImage). IsNumber i.number) c.args.edges.now c.loop-edge.edge-index _ c.loop-edge-test.true c.loop-edge.invariant.held c.put_edge.ensures.held;
+  text = told (one_more (λ (w : List ℕ). 32 ∷ w) image_word c.args.edges.now c.loop-edge.edge-index _ c.loop-edge-test.true) (and_then c.loop-edge.invariant.text (rw c.edge-item.is at c.put_edge.ensures.text));
+  held = All-more (λ (i : EdgeImage). IsNumber i.number) c.args.edges.now c.loop-edge.edge-index _ c.loop-edge-test.true c.loop-edge.invariant.held (let held : IsNumber c.edge-item.result.number = c.put_edge.ensures.held in subst (λ (i : EdgeImage). IsNumber i.number) c.edge-item.is held);
 }
 
 pub returns-clause-text : goal.returns-clause-text

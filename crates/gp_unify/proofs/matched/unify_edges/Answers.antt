@@ -1,5 +1,6 @@
-use Rattle.std.proofs.Common.{◌≡◌, ◌∷◌, [], length, map, ◌<◌, List, Some, None, sym, subst, ◌∙◌, arith, get_or}
-use Rattle.std.specs.Option.{option_copied}
+use Rattle.std.proofs.Common.{◌≡◌, ◌∷◌, [], length, map, ◌<◌, List, Some, None, sym, subst, ap, ◌∙◌, arith, get_or}
+use Rattle.std.specs.Option.{option_copied, option_map}
+use Rattle.gp_values.specs.Graph.{Edge, edge_at}
 use Rattle.gp_syntax.specs.declared.kinds.VariableType.{VariableType}
 use Rattle.gp_syntax.specs.declared.rule.LeftEdge.{LeftEdge}
 use Rattle.gp_syntax.specs.Images.{EdgeImage}
@@ -28,7 +29,7 @@ returns-then-not-branch c =
     let es = map (λ (p : LeftEdge). label_of p.label) c.args.edges.now in
     let vs = edge_labels g (map (λ (j : EdgeImage). j.number) c.args.images.now) in
     let e = asked_at (λ (p : LeftEdge). label_of p.label) c.args.edges.now i p l in
-    let f = edge_found_at g c.args.images.now i _ _ n c.edge_label-image.ensures in
+    let f = edge_found_at g c.args.images.now i _ _ n (c.edge_label-image.ensures ∙ ap (λ k. option_map (λ (x : Edge). x.label) (edge_at g k)) (c.number.ensures ∙ ap (λ (j : EdgeImage). j.number) c.index-images-i.is)) in
     let h = told_no _ _ _ _ c.if-not-branch.true c.in_ok-unify_image.ensures in
     record {
       told = unify_stops ts es vs i _ _ (known_of c.edges.assignment) _ e f c.edges.invariant.on
@@ -46,7 +47,7 @@ edges-preserved c =
     let es = map (λ (p : LeftEdge). label_of p.label) c.args.edges.now in
     let vs = edge_labels g (map (λ (j : EdgeImage). j.number) c.args.images.now) in
     let e = asked_at (λ (p : LeftEdge). label_of p.label) c.args.edges.now i p l in
-    let f = edge_found_at g c.args.images.now i _ _ n c.edge_label-image.ensures in
+    let f = edge_found_at g c.args.images.now i _ _ n (c.edge_label-image.ensures ∙ ap (λ k. option_map (λ (x : Edge). x.label) (edge_at g k)) (c.number.ensures ∙ ap (λ (j : EdgeImage). j.number) c.index-images-i.is)) in
     let h = told_yes _ _ _ _ c.if-not-branch.false c.in_ok-unify_image.ensures in
     record {
       on = unify_on ts es vs i _ _ (known_of c.edges.assignment) (known_of c.unify_image.new.assignment) _ e f c.edges.invariant.on
