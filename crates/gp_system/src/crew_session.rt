@@ -31,7 +31,7 @@ use std::sync::Wait;
 use std::thread::Threads;
 
 // How many candidates a search may look at for each of the fan.
-const CANDIDATES: u64 = 10_000;
+const CANDIDATES: u64 = 20_000;
 
 // With how many counted items the crew has a loop first, from within a turn: eight steps, and the turns between them.
 const FIRST_LEASE: u64 = 15;
