@@ -16,9 +16,9 @@ use gp_values::{EdgeMark, List, NodeMark};
 use std::alloc::Global;
 use std::marker::Model;
 
-/// A host graph: nodes and edges, each kind numbered from 0 in the order in which they were added. A number is
-/// not used again after a removal. Contracts see the graph, and how many nodes and edges can be added without
-/// growing.
+/// A host graph: nodes and edges, each kind numbered from 0 in the order in which they were added. What is added gets a
+/// number that no node, or no edge, had before; what is put back has the number that it had, and dropping what was added
+/// last gives its number back. Contracts see the graph, and how many nodes and edges can be added without growing.
 pub struct Graph {
     nodes: Vec<Option<NodeSlot>>,
     edges: Vec<Option<EdgeSlot>>,

@@ -1,6 +1,7 @@
 //! The text that tells why a text has no tokens.
 
-ghost use Rattle.std.specs.Prelude.{◌≡◌, ◌++◌, OnOk};
+ghost use Rattle.std.specs.Prelude.{◌≡◌, ◌++◌, OnOk, OnErr};
+ghost use Rattle.gp_values.specs.Texts.{IsBegun};
 ghost use Rattle.gp_tokens.specs.FaultText.{lex_text};
 ghost use Rattle.gp_tokens.specs.inside.FaultParts.{kind_text, offset_of};
 
@@ -34,10 +35,12 @@ impl LexFault {
         }
     }
 
-    /// Puts the kind of the fault and its offset behind what `text` holds. On refusal a part of it may stand there.
+    /// Puts the kind of the fault and its offset behind what `text` holds. On refusal `text` holds what it held, and behind
+    /// it a beginning of these.
     #[tactic(auto, using(crate::proofs::FaultTexts::lex_text_is))]
     pub fn write_text(&self, text: &mut Vec<u8>) -> Result<(), NoMemory>
-        ensures { OnOk result (text.new.items ≡ text.old.items ++ lex_text self.now) }
+        ensures ok { OnOk result (text.new.items ≡ text.old.items ++ lex_text self.now) }
+        ensures err { OnErr result (IsBegun (lex_text self.now) text.old.items text.new.items) }
     {
         text.extend_from_slice(self.kind().as_bytes())?;
         if let Some(offset) = self.offset() {

@@ -136,7 +136,7 @@ module _ {System State Found Goal Reason : Type 0} (m : Meaning State Found Goal
     pub start : SameStart c d
     -- each answer is true
     pub answers : Each (λ t. Says t.before t.event t.reply t.after) es
-    -- the entries are those from before and then each match that was answered Committed, in that order
+    -- the entries are those from before and then each match that was committed, by an offer or in a batch, in that order
     pub entries_are : d.entries ≡ c.entries ++ commits es
     -- a goal of one match gets at most one entry
     pub once : m.mode c.goal ≡ Once → length d.entries ≤ 1
@@ -157,7 +157,7 @@ module _ (System : Type 0) {State Found Goal Reason : Type 0} (m : Meaning State
   abbrev pub EveryRunIsSound : Type 0
   EveryRunIsSound = (c d : Core System State Found Goal Reason) (es : List (Answered System State Found Goal Reason)) → Legal m c → Run m c es d → IsSound m c es d
 
-  -- the same from a core that was just started: its entries are then just the matches that were answered Committed
+  -- the same from a core that was just started: its entries are then just the matches that were committed
   abbrev pub EveryRunFromStart : Type 0
   EveryRunFromStart = (c d : Core System State Found Goal Reason) (es : List (Answered System State Found Goal Reason)) (s : System) (base : State) (goal : Goal) (left : ℕ)
       → m.shares goal < 2 ^ 32 → left < 2 ^ 64 → IsFresh m c s base goal left → Run m c es d → IsSound m c es d × (d.entries ≡ commits es)

@@ -2,7 +2,9 @@
 //!
 //! Call `Gate::start` with a core that was just started: it gives the gate and the first pass. Split a pass for each thread,
 //! and let each take turns with `Gate::turn`: a turn is one event of the one core, and nobody else has the core meanwhile.
-//! Join the passes, and `Gate::close` gives the core back. Only `turn` and `close` may wait, and they take no memory.
+//! Join the passes, and `Gate::close` gives the core back. Only `turn` and `close` may wait. A turn takes
+//! memory for a look, whose entries are copied, and for what is offered; `split`, `join`, `close`, and a turn that reports a
+//! barren share or asks to stop, take none.
 //!
 //! A pass tells by its contracts what it knows: a beginning of the entries, after a turn all of them, and the ending once it
 //! was met. What is seen of a pass is in `specs/Pass`, what a turn does in `specs/Turn`, and words on lists in

@@ -6,3 +6,4 @@ mod Answered
 mod Lists
 mod Stops
 mod Joined
+mod Order

@@ -1,5 +1,5 @@
 -- Facts on each of a list, and entries as steps.
-use Rattle.std.proofs.Common.{◌≡◌, ℕ, ◌≤◌, List, [], ◌∷◌, ◌++◌, length, take, drop, refl, subst, ap, arith}
+use Rattle.std.proofs.Common.{◌≡◌, ℕ, ◌≤◌, List, [], ◌∷◌, ◌++◌, length, take, drop, refl, subst, ap, ◌∙◌, arith, append-nil, take_all}
 use Rattle.std.specs.List.{All}
 use Rattle.std.proofs.lemmas.List.{drop_all}
 use Rattle.std.proofs.lemmas.List.Elements.{All-nil, All-append, All-same, All-take}
@@ -11,6 +11,10 @@ use Rattle.opt_worker.specs.Replica.{IsReplica}
 -- what was written into a whole vector
 pub written : {X : Type 0} (P : X → Type 0) (n : ℕ) (new old : List X) → length old ≤ length new → All P new → All P (take n (new ++ drop (length new) old))
 written P n new old long all = All-take P n (new ++ drop (length new) old) (All-append P new (drop (length new) old) all (All-same P (drop (length new) old) [] (drop_all (length new) old long) (All-nil P)))
+
+-- what is written so is the vector then
+pub written_whole : {X : Type 0} (n : ℕ) (new old : List X) → length old ≤ length new → n ≡ length new → take n (new ++ drop (length new) old) ≡ new
+written_whole n new old long is = ap (λ xs. take n (new ++ xs)) (drop_all (length new) old long) ∙ ap (λ xs. take n xs) (append-nil new) ∙ take_all n new (omega (arith, is))
 
 -- the base has no step of any entries
 pub at_base : {State Found Goal Reason : Type 0} (m : Meaning State Found Goal Reason) (base : State) (entries : List Found) (at : State) → at ≡ base → IsReplica m base entries at

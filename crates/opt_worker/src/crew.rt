@@ -1,15 +1,15 @@
 //! Pursuing a goal.
 
-ghost use Rattle.std.specs.Prelude.{◌≡◌, ◌≤◌, ◌<◌, ◌+◌, ◌^◌, ℕ, [], None, Some, length, vec_len, vec_capacity};
-ghost use Rattle.std.specs.List.{All};
+ghost use Rattle.std.specs.Prelude.{◌≡◌, ◌≤◌, ◌<◌, ◌+◌, ◌^◌, ℕ, [], None, Some, length, reverse, vec_len, vec_capacity};
+ghost use Rattle.std.specs.List.{All, AllZip};
 ghost use Rattle.opt_core.specs.Core.{Legal};
 ghost use Rattle.opt_core.specs.Runs.{SameStart};
 ghost use Rattle.opt_core.specs.declared.event.Ending.{Ending};
 ghost use Rattle.opt_gate.specs.Pass.{IsPassOf, start_of};
-ghost use Rattle.opt_worker.specs.Replica.{IsReplica};
+ghost use Rattle.opt_worker.specs.Replica.{IsReplica, IsLater, ComeBack};
 ghost use Rattle.opt_worker.specs.Entries.{AreSteps};
 ghost use Rattle.opt_worker.specs.Events.{CameByEvents};
-ghost use Rattle.opt_worker.specs.inside.Jobs.{IsReady, IsBack};
+ghost use Rattle.opt_worker.specs.inside.Jobs.{IsReady, IsBack, counted_down, numbers_of, states_of};
 
 use crate::pace::Pace;
 use crate::worker::{Site, work_on};
@@ -51,6 +51,8 @@ fn divide<S: System>(
     ensures gate { IsPassOf gate.now pass.new }
     ensures len { vec_len jobs.new ≡ vec_len replicas.old }
     ensures ready { All (λ job. IsReady (S.means (start_of gate.now).system) gate.now job) jobs.new.items }
+    ensures numbers { numbers_of jobs.new.items ≡ counted_down (vec_len replicas.old) }
+    ensures states { states_of jobs.new.items ≡ reverse replicas.old.items }
     ensures emptied { replicas.new.items ≡ [] }
     ensures capacity { vec_capacity replicas.new ≡ vec_capacity replicas.old }
 {
@@ -79,6 +81,7 @@ where
     requires ready { All (λ job. IsReady (S.means (start_of gate.now).system) gate.now job) jobs.old }
     ensures len { length jobs.new ≡ length jobs.old }
     ensures back { All (λ job. IsBack (S.means (start_of gate.now).system) gate.now job) jobs.new }
+    ensures later { AllZip (λ before after. IsLater before.0 after.0) jobs.old jobs.new }
 {
     let threads = jobs.len();
     thread::for_each_mut(
@@ -87,7 +90,7 @@ where
         threads,
         &|_, job: &mut (Pass<S>, S::State)|
             requires { (s.now ≡ (start_of gate.now).system) × IsReady (S.means (start_of gate.now).system) gate.now job.now }
-            ensures { IsBack (S.means (start_of gate.entry.now).system) gate.entry.now job.exit.now }
+            ensures { IsBack (S.means (start_of gate.entry.now).system) gate.entry.now job.exit.now × IsLater job.entry.now.0 job.exit.now.0 }
         {
             let site = Site {
                 system: s,
@@ -115,6 +118,7 @@ fn gather<S: System>(
     ensures ended { (x : Ending S.Reason) × (pass.new.ending ≡ Some x) }
     ensures len { vec_len replicas.new ≡ vec_len jobs.old }
     ensures follow { All (λ at. IsReplica (S.means (start_of gate.now).system) (start_of gate.now).base pass.new.knows at) replicas.new.items }
+    ensures order { replicas.new.items ≡ reverse (states_of jobs.old.items) }
 {
     while let Some((other, state)) = jobs.pop() {
         pass.join(gate, other);
@@ -149,6 +153,7 @@ where
     ensures ended { (x : Ending S.Reason) × (result.0.ending ≡ Some x) }
     ensures steps { AreSteps (S.means s.now) core.goal core.base result.0.entries }
     ensures len { vec_len result.1 ≡ vec_len replicas }
+    ensures order { ComeBack (S.means s.now) core replicas.items result.1.items }
     ensures follow { All (λ at. IsReplica (S.means s.now) core.base result.0.entries at) result.1.items }
 {
     let alloc = *replicas.allocator();

@@ -1,11 +1,25 @@
 -- What a worker is given and gives back.
-use Rattle.std.specs.Prelude.{◌≡◌}
+use Rattle.std.specs.Prelude.{◌≡◌, ℕ, zero, suc, List, [], ◌∷◌, map}
 use Rattle.opt_system.specs.Meaning.{Meaning}
 use Rattle.opt_core.specs.Core.{Core, reached}
 use Rattle.opt_gate.specs.declared.key.Key.{Key}
 use Rattle.opt_gate.specs.Pass.{PassView, GateView, IsPassOf, start_of}
 use Rattle.opt_gate.specs.Turn.{entries_told}
 use Rattle.opt_worker.specs.Replica.{IsReplica, IsDone}
+
+-- the numbers below this one, the greatest first
+abbrev pub counted_down : ℕ → List ℕ
+counted_down zero = []
+counted_down (suc n) = n ∷ counted_down n
+
+module _ {K F R State : Type 0} where
+  -- the numbers of the passes of jobs
+  abbrev pub numbers_of : List (PassView K F R × State) → List ℕ
+  numbers_of jobs = map (λ (job : PassView K F R × State). job.0.number) jobs
+
+  -- the replicas of jobs
+  abbrev pub states_of : List (PassView K F R × State) → List State
+  states_of jobs = map (λ (job : PassView K F R × State). job.1) jobs
 
 module _ {System State Found Goal Reason : Type 0} (m : Meaning State Found Goal Reason) where
   -- the replica is where the pass was told that the core is

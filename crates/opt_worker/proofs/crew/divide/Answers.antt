@@ -1,10 +1,12 @@
-use Rattle.std.proofs.Common.{◌≡◌, ◌∙◌, Some, ap, arith, length}
+use Rattle.std.proofs.Common.{◌≡◌, ◌∙◌, Some, ap, arith, length, vec_len}
+use Rattle.std.specs.Prelude.{reverse}
 use Rattle.std.proofs.lemmas.List.{length_push}
 use Rattle.std.proofs.lemmas.List.Elements.{All-pop, All-push, All-same}
 use Rattle.std.proofs.lemmas.Grind.{common_steps}
 use Rattle.opt_gate.specs.Pass.{start_of}
-use Rattle.opt_worker.specs.inside.Jobs.{IsReady}
+use Rattle.opt_worker.specs.inside.Jobs.{IsReady, counted_down}
 use Rattle.opt_worker.proofs.Joined.{left_of, ready_one}
+use Rattle.opt_worker.proofs.Order.{numbers_on, states_on}
 use Rattle.opt_worker.proofs.crew.divide.Goals as goal
 
 pub loop-state-preserved : goal.loop-state-preserved
@@ -25,4 +27,8 @@ loop-state-preserved g c =
       All-same (λ job. IsReady m gate job) c.push_reserved.new.self.items _ c.push_reserved.ensures.items (All-push (λ job. IsReady m gate job) c.loop-state.jobs.items (c.split.result, c.in-Some.state) i.5 one),
       grind (arith, common_steps),
       grind (arith, common_steps),
+      numbers_on c.loop-state.jobs.items c.push_reserved.new.self.items c.split.result c.in-Some.state (vec_len c.pop.new.self) (vec_len c.loop-state.replicas) (counted_down (vec_len c.args.replicas.now))
+          c.push_reserved.ensures.items (ap (λ p. p.number) c.split.ensures.new ∙ c.len-number.ensures) (omega (arith, fewer, c.pop.new.self.ok.0, c.loop-state.replicas.ok.0)) i.8,
+      states_on c.loop-state.jobs.items c.push_reserved.new.self.items c.split.result c.in-Some.state c.loop-state.replicas.items c.pop.new.self.items (reverse c.args.replicas.now.items)
+          c.push_reserved.ensures.items c.in-Some.ensures.items i.9,
     )

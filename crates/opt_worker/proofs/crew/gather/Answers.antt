@@ -1,10 +1,12 @@
 use Rattle.std.proofs.Common.{◌∙◌, Some, ap, arith, length}
+use Rattle.std.specs.Prelude.{reverse}
 use Rattle.std.proofs.lemmas.List.{length_push}
 use Rattle.std.proofs.lemmas.List.Elements.{All-pop}
 use Rattle.std.proofs.lemmas.Grind.{common_steps}
 use Rattle.opt_gate.specs.Pass.{start_of}
-use Rattle.opt_worker.specs.inside.Jobs.{IsBack}
+use Rattle.opt_worker.specs.inside.Jobs.{IsBack, states_of}
 use Rattle.opt_worker.proofs.Joined.{joined_of, follow_more}
+use Rattle.opt_worker.proofs.Order.{order_on}
 use Rattle.opt_worker.proofs.crew.gather.Goals as goal
 
 pub loop-other-preserved : goal.loop-other-preserved
@@ -22,4 +24,6 @@ loop-other-preserved g c =
       all.0,
       follow_more m (start_of gate).base c.loop-other.pass.knows c.in-Some.other.knows c.join.new.self.knows c.loop-other.replicas.items c.push_reserved.new.self.items c.in-Some.state c.join.ensures.prefix.0 c.join.ensures.prefix.1 c.push_reserved.ensures.items i.4 all.1.2,
       grind (arith, common_steps),
+      order_on c.loop-other.jobs.items c.pop.new.self.items c.in-Some.other c.in-Some.state c.loop-other.replicas.items c.push_reserved.new.self.items (reverse (states_of c.args.jobs.now.items))
+          c.in-Some.ensures.items c.push_reserved.ensures.items i.6,
     )

@@ -1,9 +1,10 @@
-use Rattle.std.proofs.Common.{◌≡◌, ◌+◌, ◌<◌, Some, vec_len, vec_capacity}
+use Rattle.std.proofs.Common.{◌≡◌, ◌+◌, ◌<◌, ◌++◌, Some, vec_len, vec_capacity}
+use Rattle.std.specs.Prelude.{reverse}
 use Rattle.std.specs.List.{All}
 use Rattle.opt_core.specs.declared.event.Ending.{Ending}
 use Rattle.opt_gate.specs.Pass.{IsPassOf, start_of}
 use Rattle.opt_worker.specs.Replica.{IsReplica}
-use Rattle.opt_worker.specs.inside.Jobs.{IsBack}
+use Rattle.opt_worker.specs.inside.Jobs.{IsBack, states_of}
 use Rattle.opt_worker.proofs.crew.gather.Given as goal
 
 abbrev pub invariant-loop-other : goal.invariant-loop-other
@@ -14,6 +15,7 @@ invariant-loop-other g l =
     × All (λ job. IsBack (g.S.System.means (start_of l.gate).system) l.gate job) l.jobs.items
     × All (λ at. IsReplica (g.S.System.means (start_of l.gate).system) (start_of l.gate).base l.pass.knows at) l.replicas.items
     × (vec_capacity l.replicas ≡ vec_capacity l.initial.replicas)
+    × (l.replicas.items ++ reverse (states_of l.jobs.items) ≡ reverse (states_of l.initial.jobs.items))
 
 abbrev pub decreases-loop-other : goal.decreases-loop-other
 decreases-loop-other g l = vec_len l.jobs

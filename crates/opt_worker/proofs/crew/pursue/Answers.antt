@@ -1,16 +1,18 @@
-use Rattle.std.proofs.Common.{◌≡◌, ◌≤◌, ◌∙◌, sym, subst, ap, arith, length}
-use Rattle.std.specs.List.{All}
+use Rattle.std.proofs.Common.{◌≡◌, ◌≤◌, ◌∙◌, refl, sym, subst, ap, arith, length}
+use Rattle.std.specs.Prelude.{List, reverse}
+use Rattle.std.specs.List.{All, AllZip}
 use Rattle.std.proofs.lemmas.List.Elements.{All-weaker, All-same}
 use Rattle.opt_gate.specs.Pass.{start_of}
-use Rattle.opt_worker.specs.Replica.{IsReplica}
+use Rattle.opt_worker.specs.Replica.{IsReplica, IsLater, ComeBack, unworked}
 use Rattle.opt_core.specs.Core.{Legal}
 use Rattle.opt_core.specs.Runs.{SameStart}
-use Rattle.opt_worker.specs.inside.Jobs.{IsReady, IsBack}
-use Rattle.opt_worker.proofs.Lists.{written, at_base, are_steps}
+use Rattle.opt_worker.specs.inside.Jobs.{IsReady, IsBack, counted_down, states_of}
+use Rattle.opt_worker.proofs.Lists.{written, written_whole, at_base, are_steps}
 use Rattle.opt_worker.specs.Events.{CameByEvents}
 use Rattle.opt_core.specs.Runs.{EventsLead}
 use Rattle.opt_worker.proofs.Stops.{came_by}
 use Rattle.opt_worker.proofs.Joined.{no_steps}
+use Rattle.opt_worker.proofs.Order.{come_back}
 use Rattle.opt_worker.proofs.crew.pursue.Goals as goal
 
 pub returns-in-Err-clause-steps : goal.returns-in-Err-clause-steps
@@ -95,3 +97,23 @@ run-requires-clause-system g c κs within = c.requires.system ∙ sym (ap (λ x.
 
 pub returns-in-Err-clause-start : goal.returns-in-Err-clause-start
 returns-in-Err-clause-start g c = subst (λ x. SameStart x c.stopped-in-Err.result) c.in-Err.ensures.err c.stopped-in-Err.ensures.start
+
+pub returns-in_default-clause-order : goal.returns-in_default-clause-order
+returns-in_default-clause-order g c = unworked refl
+
+pub returns-in-Err-clause-order : goal.returns-in-Err-clause-order
+returns-in-Err-clause-order g c = unworked refl
+
+pub returns-clause-order : goal.returns-clause-order
+returns-clause-order g c =
+    let gate = c.in-Ok-start.started.0 in
+    let given = c.divide.new.jobs.items in
+    let back = c.run.new.jobs in
+    let same = ap (λ xs. length xs) c.deref_mut.ensures.value in
+    let long : length given ≤ length back = omega (arith, same, c.run.ensures.len) in
+    let whole = written_whole c.divide.new.jobs.len back given long (omega (arith, same, c.run.ensures.len, c.divide.new.jobs.ok.0)) in
+    let later = subst (λ (xs : List _). AllZip (λ x y. IsLater x.0 y.0) xs back) c.deref_mut.ensures.value c.run.ensures.later in
+    let numbers = c.divide.ensures.numbers ∙ ap (λ n. counted_down n) (omega (arith, c.divide.ensures.len, c.divide.new.jobs.ok.0)) in
+    subst (λ x. ComeBack (g.S.System.means x) c.args.core c.args.replicas.items c.gather.new.replicas.items) (ap (λ x. x.system) c.in-Ok-start.ensures.ok.0 ∙ sym c.requires.system)
+    (come_back (g.S.System.means (start_of gate).system) c.args.core gate given back c.args.replicas.items c.gather.new.replicas.items c.in-Ok-start.ensures.ok.0
+    c.divide.ensures.ready c.run.ensures.back later numbers c.divide.ensures.states (c.gather.ensures.order ∙ ap (λ xs. reverse (states_of xs)) whole))
