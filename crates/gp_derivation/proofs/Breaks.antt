@@ -1,4 +1,5 @@
--- Items break at one place at most: before it a beginning replays, and from it on none does.
+-- Items break at one place at most: before it a beginning replays, and from it on none does. Where they break at none,
+-- they have an upgrade.
 use Rattle.std.proofs.Common.{inl, inr, ℕ, ◌+◌, ◌<◌, List, arith}
 use Rattle.std.proofs.lemmas.Bool.{cases_lt}
 use Rattle.gp_values.specs.Graph.{Graph}
@@ -6,6 +7,7 @@ use Rattle.gp_syntax.specs.Rule.{Rule}
 use Rattle.gp_syntax.specs.Run.{Item}
 use Rattle.gp_derivation.specs.Upgrade.{BreaksAtItem}
 use Rattle.gp_derivation.specs.Laws.{BreaksAreTold}
+use Rattle.gp_derivation.proofs.Existing.{upgraded_or_broken}
 
 -- of two such places none is before the other
 not_before : (rules : List Rule) (host : Graph) (s : List Item) (m n : ℕ) → m < n → BreaksAtItem rules host s m → BreaksAtItem rules host s n → ⊥
@@ -18,5 +20,6 @@ told rules host s = record {
         | inl l ↦ absurd (not_before rules host s m n l b d)
         | inr l ↦ elim (cases_lt n m) [ inl k ↦ absurd (not_before rules host s n m k d b) | inr k ↦ omega arith ]
       ];
+  some = λ w n. upgraded_or_broken rules host w n s;
   none = λ t n u b. let l = u.beginnings (n + 1) in b.none l.was l.replays_anew;
 }

@@ -3,10 +3,10 @@ pub mod Changes
 pub mod Alike
 pub mod Renumbered
 pub mod OneStep
-pub mod Breaks
 pub mod Moves
 pub mod Stacks
 pub mod Standings
+pub mod Anew
 pub mod Followed
 pub mod Upgraded
 pub mod Rights
@@ -15,6 +15,8 @@ pub mod AlikeGraphs
 pub mod TwinItems
 pub mod TwinRuns
 pub mod Twins
+pub mod Existing
+pub mod Breaks
 pub mod Decided
 pub mod Counted
 pub mod StepperMoves

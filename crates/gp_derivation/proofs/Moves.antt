@@ -8,7 +8,7 @@ use Rattle.std.proofs.lemmas.Option.{none-some, slice_get_within}
 use Rattle.gp_memory.proofs.Basics.{first_or_later as split_head, here as at_head, is_some_of, later as behind, none_in, some_at as element, some_same, some_there as some_of, standing, stands_in}
 use Rattle.gp_values.specs.declared.marks.EdgeMark.TheVariants as edge_marks
 use Rattle.gp_values.specs.Apart.{AreApart}
-use Rattle.gp_values.specs.Graph.{Graph, Edge, IsGraph, edge_at}
+use Rattle.gp_values.specs.Graph.{Graph, Edge, edge_at}
 use Rattle.gp_syntax.specs.Expression.{Expression}
 use Rattle.gp_syntax.specs.Value.{Assignment, value_of}
 use Rattle.gp_syntax.specs.Rule.{Rule, RightEdge, Found, kept_edge, kept_edges}
@@ -16,9 +16,10 @@ use Rattle.gp_syntax.specs.Match.{MatchBy, setting_of}
 use Rattle.gp_syntax.specs.Step.{Places, MakesEdge, StepBy, made_mark, found_edge}
 use Rattle.gp_syntax.specs.WellFormed.{IsWellFormed}
 use Rattle.gp_syntax.proofs.Unique.{contained}
+use Rattle.gp_step.specs.Laws.{IsNumbered}
 use Rattle.gp_step.specs.Halves.{image_of, next_of, images_from}
 use Rattle.gp_step.proofs.Halves.{Keeps, same_place, length-images, count-cons}
-use Rattle.gp_step.proofs.Afters.{numbered, keeps_edges}
+use Rattle.gp_step.proofs.Afters.{keeps_edges}
 use Rattle.gp_derivation.specs.StepAnew.{StepAnewBy}
 use Rattle.gp_derivation.specs.inside.Table.{IsTable, today, all_today, found_today, as_it_was, emptied, all_emptied, moved}
 use Rattle.gp_derivation.proofs.Tables.{mapped, edge_was, edge_then, all_today_length, all_today_at}
@@ -160,7 +161,7 @@ made_of r h n images p = images_are n.edges (kept_edges r) h.next_edge images p
 
 -- ---- the step
 
-module _ (r : Rule) (t : List (Option ℕ)) (h k : Graph) (m : Found) (es : List ℕ) (a : Assignment) (c : IsWellFormed r) (w : IsGraph h) (table : IsTable t h) (all : all_today t m.edges ≡ Some es)
+module _ (r : Rule) (t : List (Option ℕ)) (h k : Graph) (m : Found) (es : List ℕ) (a : Assignment) (c : IsWellFormed r) (w : IsNumbered h) (table : IsTable t h) (all : all_today t m.edges ≡ Some es)
     (b : MatchBy r h (record m { edges = es }) a) (s : StepBy r h (record m { edges = es }) a k) where
   abbrev n : Found
   n = record m { edges = es }
@@ -196,7 +197,7 @@ module _ (r : Rule) (t : List (Option ℕ)) (h k : Graph) (m : Found) (es : List
   made_apart = subst AreApart same s.edge_places.apart
 
   keeps : Keeps (kept_edges r) es h.next_edge
-  keeps = keeps_edges r h n a (numbered h w) b c
+  keeps = keeps_edges r h n a w b c
 
   -- what is made was matched, or has a new number
   made_place : (q : ℕ) → Contains made q → Contains es q ⊎ (h.next_edge ≤ q)
@@ -361,7 +362,7 @@ module _ (r : Rule) (t : List (Option ℕ)) (h k : Graph) (m : Found) (es : List
 
 -- ---- the match, by today's numbers
 
-pub step_was : (r : Rule) (t : List (Option ℕ)) (h k : Graph) (m n : Found) (a : Assignment) → IsWellFormed r → IsGraph h → IsTable t h → found_today t m ≡ Some n
+pub step_was : (r : Rule) (t : List (Option ℕ)) (h k : Graph) (m n : Found) (a : Assignment) → IsWellFormed r → IsNumbered h → IsTable t h → found_today t m ≡ Some n
     → ((e : Expression ℕ) → value_of e (setting_of r (as_it_was t h) m a) ≡ value_of e (setting_of r h n a)) → MatchBy r h n a → StepBy r h n a k
     → StepAnewBy r (as_it_was t h) m a (as_it_was (moved t m.edges (images_from n.edges (kept_edges r) h.next_edge)) k)
 step_was r t h k m n a c w table found =
@@ -371,7 +372,7 @@ step_was r t h k m n a c w table found =
     → StepAnewBy r (as_it_was t h) m a (as_it_was (moved t m.edges (images_from z.edges (kept_edges r) h.next_edge)) k))
     p.2 (λ v b s. step_of_step r t h k m p.0 a c w table p.1 b s v)
 
-pub table_moved : (r : Rule) (t : List (Option ℕ)) (h k : Graph) (m n : Found) (a : Assignment) → IsWellFormed r → IsGraph h → IsTable t h → found_today t m ≡ Some n
+pub table_moved : (r : Rule) (t : List (Option ℕ)) (h k : Graph) (m n : Found) (a : Assignment) → IsWellFormed r → IsNumbered h → IsTable t h → found_today t m ≡ Some n
     → ((e : Expression ℕ) → value_of e (setting_of r (as_it_was t h) m a) ≡ value_of e (setting_of r h n a)) → MatchBy r h n a → StepBy r h n a k
     → IsTable (moved t m.edges (images_from n.edges (kept_edges r) h.next_edge)) k
 table_moved r t h k m n a c w table found _ =

@@ -6,8 +6,9 @@ use Rattle.std.specs.Ordering.{nat_cmp}
 use Rattle.std.specs.FinMap.{FinMap, get, get-empty}
 use Rattle.std.proofs.lemmas.Bool.{cases_lt}
 use Rattle.gp_memory.proofs.Basics.{first_step, here, is_some_of, later, some_same, some_there as some_of}
-use Rattle.gp_values.specs.Graph.{Graph, Edge, IsGraph, edge_at}
+use Rattle.gp_values.specs.Graph.{Graph, Edge, edge_at}
 use Rattle.gp_values.proofs.Graphs.{get-insert_here, get-insert_apart, same_graph}
+use Rattle.gp_step.specs.Laws.{IsNumbered}
 use Rattle.gp_derivation.specs.Upgrade.{AreAlike}
 use Rattle.gp_derivation.specs.inside.Table.{IsTable, today, all_today, put_if, renumbered, as_it_was, own_numbers}
 
@@ -64,14 +65,14 @@ none_past : (o : Option Edge) (next e : ℕ) → (IsSome o → e < next) → nex
 none_past None next e below l = refl
 none_past (Some d) next e below l = let b : e < next = below refl in absurd (omega arith)
 
-pub own_today : (g : Graph) → IsGraph g → (e : ℕ) → today (own_numbers g 0 g.next_edge) e ≡ option_map (λ (d : Edge). e) (edge_at g e)
+pub own_today : (g : Graph) → IsNumbered g → (e : ℕ) → today (own_numbers g 0 g.next_edge) e ≡ option_map (λ (d : Edge). e) (edge_at g e)
 own_today g w e =
     elim (cases_lt e g.next_edge) [
       | inl l ↦ own_at g 0 g.next_edge e e (omega arith) l
       | inr l ↦ own_past g 0 g.next_edge e l ∙ none_past (edge_at g e) g.next_edge e (w.edges_below e) l
     ]
 
-pub own_table : (g : Graph) → IsGraph g → IsTable (own_numbers g 0 g.next_edge) g
+pub own_table : (g : Graph) → IsNumbered g → IsTable (own_numbers g 0 g.next_edge) g
 own_table g w = record {
   there = λ e k h.
       let d = mapped (λ (d : Edge). e) (edge_at g e) k (sym (own_today g w e) ∙ h) in
@@ -86,7 +87,7 @@ its_own : (f : ℕ → Option Edge) (e : ℕ) (o : Option Edge) → f e ≡ o �
 its_own f e None h = refl
 its_own f e (Some d) h = h
 
-pub own_graph : (g : Graph) → IsGraph g → as_it_was (own_numbers g 0 g.next_edge) g ≡ g
+pub own_graph : (g : Graph) → IsNumbered g → as_it_was (own_numbers g 0 g.next_edge) g ≡ g
 own_graph g w =
     same_graph (as_it_was (own_numbers g 0 g.next_edge) g) g (λ n. refl)
     (λ e. edge_was (own_numbers g 0 g.next_edge) g e ∙ ap (option_and_then (edge_at g)) (own_today g w e) ∙ its_own (edge_at g) e (edge_at g e) refl)

@@ -40,7 +40,7 @@ module _ (rules : List Rule) (ok : (i : ℕ) (r : Rule) → slice_get rules i �
       anew_one_way ms c h k a (subst (λ (p : Graph). StepsAnewTo rules p ms k) one b)
 
   -- today's lead to a graph whose numbers are below the next ones
-  numbered_on : (ms : List Found) (g h : Graph) → IsNumbered g → StepsTo rules g ms h → IsNumbered h
+  pub numbered_on : (ms : List Found) (g h : Graph) → IsNumbered g → StepsTo rules g ms h → IsNumbered h
   numbered_on [] g h n a = subst IsNumbered (sym a) n
   numbered_on (m ∷ ms) g h n (c, r, e, s, a) = numbered_on ms c h (numbered_step (ok m.rule r e) n s.1.is_match s.2) a
 

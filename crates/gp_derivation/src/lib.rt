@@ -4,13 +4,14 @@
 //! Call `is_derivation` with the program, the host, the items of the trace with their version (`gp_trace::read_trace`), and
 //! the text of the result. `specs/Derivation` says what it decides, over the runs that `gp_certify` looks for. Items of
 //! version 1 are brought up to date first (`upgrade`); which of several edges that carry the same between the same nodes
-//! they then name makes no difference (`proofs/Twins`).
+//! they then name makes no difference (`laws::upgrades_end_alike`).
 //!
 //! In version 1 of traces a step deleted all matched edges and made those of the right side anew; in version 2 an edge that
 //! is on both sides stays, with its number. `upgrade` takes the items of a trace of version 1, with the rules and the host
 //! that they are of: the answer are items of version 2, the same but for the numbers of edges, or the first item that was no
 //! step. `specs/StepAnew` has the step as it was, `specs/Upgrade` what it is to bring items up to date; the laws in `laws`
-//! say that the step as it was leads to one graph, and that items break at one place at most.
+//! say that an applying match led to one graph by the step as it was, that items can be brought up to date or break at one
+//! place, and that all that they can be brought up to date as end alike.
 //!
 //! Call `Stepper::new` with the journal of a run: it stands before the first item, with all steps taken back. `forward`
 //! makes what the next item says, and `back` takes back what the one before says: over a step one step, over a turn

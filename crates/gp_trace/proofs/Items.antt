@@ -90,7 +90,7 @@ image_same n m true false h k e = absurd (no_tilde n m k (e ∙ append-nil (deci
 image_same n m false true h k e = absurd (no_tilde m n h (sym e ∙ append-nil (decimal n)))
 image_same n m false false h k e = (decimal_injective n m h k (sym (append-nil (decimal n)) ∙ e ∙ append-nil (decimal m)), refl)
 
-abbrev head_word : List (List ℕ) → List ℕ
+abbrev pub head_word : List (List ℕ) → List ℕ
 head_word [] = []
 head_word (w ∷ ws) = w
 

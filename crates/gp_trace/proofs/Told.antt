@@ -10,6 +10,7 @@ use Rattle.gp_trace.specs.Reading.{CanBeHeld, IsTraceOf, StopsShort, GoesOn, Bre
 use Rattle.gp_trace.specs.Laws.{BreaksAreTold}
 use Rattle.gp_trace.specs.inside.Lines.{item_lines}
 use Rattle.gp_trace.proofs.Items.{IsItemless, end_itemless, lines_same}
+use Rattle.gp_trace.proofs.Existing.{some}
 
 -- a first line is that of one version
 same_header : (v w : Version) (a b : List ℕ) → header v ++ a ≡ header w ++ b → (v ≡ w) × (a ≡ b)
@@ -82,4 +83,4 @@ none text v t n h b =
     ]
 
 pub breaks_told : (text : List ℕ) → BreaksAreTold text
-breaks_told text = record { one = one text; none = none text }
+breaks_told text = record { some = some text; one = one text; none = none text }

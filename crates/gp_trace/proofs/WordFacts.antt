@@ -134,12 +134,12 @@ parted [] k x h = absurd cc
 parted (y ∷ xs) zero x h = ap (λ z. z ∷ xs) (sym (same_Some y x h))
 parted (y ∷ xs) (suc k) x h = let e : suc k + 1 ≡ suc (k + 1) = omega arith in rw e (ap (λ l. y ∷ l) (parted xs k x h))
 
-images_numbers : (is : List EdgeImage) → All (λ (j : EdgeImage). IsNumber j.number) is → All IsNumber (map (λ (j : EdgeImage). j.number) is)
+pub images_numbers : (is : List EdgeImage) → All (λ (j : EdgeImage). IsNumber j.number) is → All IsNumber (map (λ (j : EdgeImage). j.number) is)
 images_numbers [] h k d b = absurd (omega arith)
 images_numbers (i ∷ is) h zero d b = h 0 i (omega arith)
 images_numbers (i ∷ is) h (suc k) d b = images_numbers is (all_tail (λ (j : EdgeImage). IsNumber j.number) i is h) k d (omega arith)
 
-images_back : (is : List EdgeImage) → images_of (map (λ (i : EdgeImage). i.number) is) (map (λ (i : EdgeImage). i.reversed) is) ≡ is
+pub images_back : (is : List EdgeImage) → images_of (map (λ (i : EdgeImage). i.number) is) (map (λ (i : EdgeImage). i.reversed) is) ≡ is
 images_back [] = refl
 images_back (i ∷ is) = ap (λ l. i ∷ l) (images_back is)
 
@@ -184,7 +184,7 @@ found_split ws rule end m frame h =
     let s = first_split m.nodes _ end h.held.nodes (subst (λ l. StandsFirst l (codes "edges") end) e frame.edges) in
     (ap (take end) e ∙ s.0, ap (drop (end + 1)) e ∙ s.1)
 
-images_of_numbers : (es : List ℕ) (rs : List Bool) → All IsNumber es → All (λ (j : EdgeImage). IsNumber j.number) (images_of es rs)
+pub images_of_numbers : (es : List ℕ) (rs : List Bool) → All IsNumber es → All (λ (j : EdgeImage). IsNumber j.number) (images_of es rs)
 images_of_numbers [] rs h k d b = absurd (omega arith)
 images_of_numbers (e ∷ es) [] h k d b = absurd (omega arith)
 images_of_numbers (e ∷ es) (r ∷ rs) h zero d b = h 0 e (omega arith)

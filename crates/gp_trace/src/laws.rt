@@ -7,7 +7,7 @@ pub fn traces_are_told()
     ensures { TracesAreTold }
 {}
 
-/// A text breaks at one line at most, and the text of a list of items at none.
+/// A text is that of a list of items or breaks at one line, and not both.
 pub fn texts_break_once()
     ensures { TextsBreakOnce }
 {}

@@ -5,8 +5,8 @@
 //! is made piece by piece. The text is the function `text_in` of `specs/TraceText`; what is written is that of version
 //! 2, and it is of items that can be held, so that it is read back. The reader takes exactly the texts of both
 //! versions; of any other it tells the first line that is not of the form of its place (`specs/Reading`). The laws say
-//! that no two lists of items have one text, that each text breaks at one line at most, and the text of a list of items
-//! at none.
+//! that no two lists of items have one text, and that each text is that of a list of items or breaks at one line, and not
+//! both.
 #![tactic(auto)]
 
 mod fault;
