@@ -37,6 +37,9 @@ with_turn j = record j { items = j.items ++ Turn ∷ [] }
 abbrev pub with_mark : Journal → Journal
 with_mark j = record j { backs = j.backs + 1 }
 
+abbrev pub without_mark : Journal → Journal
+without_mark j = record j { backs = j.backs - 1 }
+
 abbrev pub with_back : ℕ → Journal → Journal
 with_back k j = record { trail = back_by k j.trail; items = j.items ++ Back k ∷ []; backs = j.backs - 1 }
 

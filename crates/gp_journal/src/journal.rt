@@ -5,7 +5,7 @@ ghost use Rattle.gp_syntax.specs.Rule.{Rule as AnyRule};
 ghost use Rattle.gp_syntax.specs.Tree.{rule_of_tree};
 ghost use Rattle.gp_journal.specs.Trail.{fresh, rooted};
 ghost use Rattle.gp_journal.specs.Leads.{AppliesBy, Leads};
-ghost use Rattle.gp_journal.specs.Journal.{with_step, with_turn, with_mark, with_back, items_of, IsJournalOf};
+ghost use Rattle.gp_journal.specs.Journal.{with_step, with_turn, with_mark, without_mark, with_back, items_of, IsJournalOf};
 
 use crate::items::Items;
 use crate::trail::{Trail, push_spare};
@@ -126,6 +126,15 @@ impl Journal {
         self.items.reserve(self.backs as usize + 1)?;
         self.backs += 1;
         Ok(self.trail.depth())
+    }
+
+    /// Gives up the room of one mark. It takes no memory.
+    pub fn unmark(&mut self)
+        requires { 0 < self.old.backs }
+        ensures unmarked { self.new ≡ without_mark self.old }
+        ensures of_rules { (rules : List AnyRule) → IsJournalOf rules self.old → IsJournalOf rules self.new }
+    {
+        self.backs -= 1;
     }
 
     /// Takes back the last `k` steps. It takes no memory, but the room of one mark.

@@ -1,5 +1,5 @@
 -- What a goal that a crew pursued came to, as what an engine answers.
-use Rattle.std.proofs.Common.{◌≡◌, inl, inr, ℕ, zero, suc, ◌+◌, ◌-◌, ◌*◌, ◌<◌, ◌%◌, min, Bool, true, false, List, [], ◌∷◌, ◌++◌, map, length, take, slice_get, Contains, All, Option, Some, None, refl, sym, ap, subst, ◌∙◌, arith, append_assoc}
+use Rattle.std.proofs.Common.{◌≡◌, inl, inr, ℕ, zero, suc, ◌+◌, ◌-◌, ◌*◌, ◌<◌, ◌%◌, min, Bool, true, false, List, [], ◌∷◌, ◌++◌, map, length, take, slice_get, Contains, All, Option, Some, None, refl, sym, ap, subst, ◌∙◌, arith}
 use Rattle.std.specs.Prelude.{if◌then◌else◌}
 use Rattle.gp_memory.proofs.Basics.{some_at as element}
 use Rattle.gp_values.specs.Graph.{Graph}
@@ -26,12 +26,13 @@ use Rattle.opt_core.specs.Core.{reached, AllApply, IsLegal}
 use Rattle.gp_journal.specs.Trail.{Trail, root_of, advanced}
 use Rattle.gp_journal.specs.Journal.{items_of}
 use Rattle.gp_system.specs.inside.Noted.{noted}
-use Rattle.gp_run.specs.Engine.{View, Adds, MakesCall, IsSpent, HasFaulty, HasCalled, HasRepeated, HasTurned, TurnMade}
+use Rattle.gp_run.specs.Engine.{View, live_with, kept_with, Adds, Keeps, MakesCall, IsSpent, HasFaulty, HasCalled, HasRepeated, HasTurned, TurnMade}
+use Rattle.gp_run.specs.declared.engine.Called.TheVariants as called
 use Rattle.gp_run.specs.declared.engine.Turned.TheVariants as turned
 use Rattle.gp_run.specs.declared.engine.Repeated.{Repeated}
 use Rattle.gp_run.specs.declared.engine.Repeated.TheVariants as repeated
 use Rattle.gp_run.specs.Ended.{HasEnded}
-use Rattle.gp_run.proofs.Leads.{adds-nothing, counted-append}
+use Rattle.gp_run.proofs.Leads.{adds-nothing, counted-append, kept_with-append, keeps_nothing, keeps_still, keeps_keeps}
 use Rattle.gp_run.proofs.Turns.{Turns, turns_bound, turns_spent, turns_faulty, turns_end}
 use Rattle.gp_system.specs.declared.goal.CallGoal.{CallGoal}
 use Rattle.gp_system.specs.declared.goal.Fault.{Fault}
@@ -42,6 +43,7 @@ use Rattle.gp_system.specs.inside.Pursued.{HasPursued, turns_first, system_of, c
 use Rattle.gp_system.proofs.Searches.{renumbered_applies, renumbered_faulty}
 use Rattle.gp_system.proofs.Systems.{contains_has, judged_applies, judged_faulty, well_formed_at, there}
 use Rattle.gp_system.proofs.Goes.{goes_by}
+use Rattle.gp_system.proofs.Marks.{depth_on, stands_behind, live_turns}
 use Rattle.gp_system.proofs.Pursuits.{turned_over, but_taken, all_taken, reached_root, called_once, so_far_on, has_applying}
 
 -- ---- what the ending says of the graph
@@ -134,6 +136,13 @@ module _ (goal : CallGoal) (given : ℕ) (x : Ending Fault) (v w : Shown) (h : H
   same_first : root_of w.journal.trail ≡ root_of v.journal.trail
   same_first = ap root_of there_now ∙ reached_root s goal h.well_formed v.journal.trail es
 
+  deep_now : length w.journal.trail.before ≡ length v.journal.trail.before + length es
+  deep_now = depth_on s v.journal.trail w.journal.trail es there_now
+
+  -- the graphs from before are behind those of the entries
+  keeps_now : Keeps (view_of v) (view_of w)
+  keeps_now = record { marks = h.room; live = omega (arith, deep_now); graphs = λ k. stands_behind s v.journal.trail w.journal.trail es there_now }
+
   items_now : items_of w.journal.items ≡ items_of v.journal.items ++ items_of (take (v.left - w.left) (noted goal.mode es))
   items_now = ap items_of h.items ∙ items-append v.journal.items (take (v.left - w.left) (noted goal.mode es))
 
@@ -188,15 +197,15 @@ module _ (c given : ℕ) (x : Ending Fault) (v w : Shown) (h : HasPursued (one c
   adds_none e = record {
     program = same_program (one c) given x v w h;
     first = same_first (one c) given x v w h;
-    items = items_now (one c) given x v w h ∙ ap (λ (l : List Item). items_of v.journal.items ++ items_of l) (take_nothing (v.left - w.left) (noted Once h.entries) (ap (λ (l : List Found). noted Once l) e));
     left = let l = unspent e in omega arith;
+    live = ap (λ (t : Trail). length t.before) (unmoved e);
+    kept = ap (λ (l : List meant.Item). Some l) (items_now (one c) given x v w h ∙ ap (λ (l : List Item). items_of v.journal.items ++ items_of l) (take_nothing (v.left - w.left) (noted Once h.entries) (ap (λ (l : List Found). noted Once l) e)));
   }
 
   stands_still : h.entries ≡ [] → MakesCall (Call c) (view_of v) (view_of w) (At c w.journal.trail.graph)
   stands_still e = record {
     trace = [];
     makes = record { run = subst (λ (g : Graph). Run (program_of_tree v.program) (Call c) v.journal.trail.graph [] [] (At c g)) (sym (ap (λ (t : Trail). t.graph) (unmoved e))) call_stands; adds = adds_none e };
-    room = h.room;
   }
 
   fails_still : (set : List ℕ) → slice_get v.program.sets c ≡ Some set → h.entries ≡ [] → ((m : Found) → (gp_means (system_of v.program h.further)).judged (one c) w.journal.trail m ≡ neither) → MakesCall (Call c) (view_of v) (view_of w) (Fails w.journal.trail.graph)
@@ -206,7 +215,6 @@ module _ (c given : ℕ) (x : Ending Fault) (v w : Shown) (h : HasPursued (one c
       run = subst (λ (g : Graph). Run (program_of_tree v.program) (Call c) g [] [] (Fails w.journal.trail.graph)) (ap (λ (t : Trail). t.graph) (unmoved e)) (call_fails i (blocked_now (one c) given x v w h set i none));
       adds = adds_none e;
     };
-    room = h.room;
   }
 
 -- the one entry
@@ -229,11 +237,11 @@ stepped_once c given x v w h (m ∷ []) e l =
         adds = record {
           program = same_program (one c) given x v w h;
           first = same_first (one c) given x v w h;
-          items = items_now (one c) given x v w h ∙ ap (λ (z : List Found). items_of v.journal.items ++ items_of (take (v.left - w.left) (noted Once z))) e ∙ ap (λ (z : ℕ). items_of v.journal.items ++ items_of (take z (noted Once (m ∷ [])))) d;
           left = omega arith;
+          live = let n = deep_now (one c) given x v w h in let b = ap (λ (z : List Found). length z) e in omega arith;
+          kept = ap (λ (l : List meant.Item). Some l) (items_now (one c) given x v w h ∙ ap (λ (z : List Found). items_of v.journal.items ++ items_of (take (v.left - w.left) (noted Once z))) e ∙ ap (λ (z : ℕ). items_of v.journal.items ++ items_of (take z (noted Once (m ∷ [])))) d);
         };
       };
-      room = h.room;
     }
 
 no_entry : (c given : ℕ) (x : Ending Fault) (v w : Shown) (h : HasPursued (one c) given x v w) → (Some x ≡ Some ending.Committed → ⊥) → h.entries ≡ []
@@ -244,10 +252,10 @@ no_entry c given x v w h n =
     ]
 
 pub called_so : (c given : ℕ) (x : Ending Fault) (v w : Shown) → c < length v.program.sets → given ≡ v.left → HasPursued (one c) given x v w → HasCalled c (called_of x) (view_of v) (view_of w)
-called_so c given ending.Committed v w l all_left h = stepped_once c given ending.Committed v w h h.entries refl (legal (one c) given ending.Committed v w h).ended.1
+called_so c given ending.Committed v w l all_left h = (stepped_once c given ending.Committed v w h h.entries refl (legal (one c) given ending.Committed v w h).ended.1, keeps_now (one c) given ending.Committed v w h)
 called_so c given ending.Blocked v w l all_left h =
     let set = element v.program.sets c l in
-    fails_still c given ending.Blocked v w h set.0 set.1 (no_entry c given ending.Blocked v w h (λ e. cc)) (legal (one c) given ending.Blocked v w h).ended
+    (fails_still c given ending.Blocked v w h set.0 set.1 (no_entry c given ending.Blocked v w h (λ e. cc)) (legal (one c) given ending.Blocked v w h).ended, keeps_now (one c) given ending.Blocked v w h)
 called_so c given ending.Bound v w l all_left h =
     let set = element v.program.sets c l in
     let z = (legal (one c) given ending.Bound v w h).ended in (
@@ -277,7 +285,16 @@ module _ (c given : ℕ) (x : Ending Fault) (u : View) (v w : Shown) (h : HasPur
 
   -- where the last turn began
   abbrev mid : View
-  mid = record { program = u.program; first = u.first; items = u.items ++ items_of (turns_first h.entries); graph = w.journal.trail.graph; left = w.left + 1; room = u.room }
+  mid = record {
+    program = u.program;
+    first = u.first;
+    graph = w.journal.trail.graph;
+    before = w.journal.trail.before;
+    live = length w.journal.trail.before;
+    left = w.left + 1;
+    marks = w.journal.backs;
+    kept = kept_with u.kept (items_of (turns_first h.entries));
+  }
 
   goes_so_far : SoFar u.program (Call c) u.graph [] (items_of (turns_first h.entries)) w.journal.trail.graph
   goes_so_far =
@@ -287,24 +304,33 @@ module _ (c given : ℕ) (x : Ending Fault) (u : View) (v w : Shown) (h : HasPur
       let i : SoFar u.program (Call c) v.journal.trail.graph [] (items_of (turns_first h.entries)) w.journal.trail.graph = subst (λ (p : Program). SoFar p (Call c) v.journal.trail.graph [] (items_of (turns_first h.entries)) w.journal.trail.graph) made.adds.program g in
       subst (λ (z : Graph). SoFar u.program (Call c) z [] (items_of (turns_first h.entries)) w.journal.trail.graph) made.graph i
 
-  items_before : items_of v.journal.items ≡ u.items ++ Turned ∷ []
-  items_before = made.adds.items
+  -- the items are those behind the turn, where they are kept
+  kept_now : Some (items_of w.journal.items) ≡ kept_with u.kept (Turned ∷ items_of (take (v.left - w.left) (noted Saturate h.entries)))
+  kept_now =
+      let more : List meant.Item = items_of (take (v.left - w.left) (noted Saturate h.entries)) in
+      ap (λ (l : List meant.Item). Some l) (items_now (all c) given x v w h) ∙ ap (λ (o : Option (List meant.Item)). kept_with o more) made.adds.kept ∙ sym (kept_with-append u.kept (Turned ∷ []) more)
+
+  -- each entry is one live step more
+  live_now : length w.journal.trail.before ≡ live_with u.live (items_of (turns_first h.entries))
+  live_now =
+      let n = deep_now (all c) given x v w h in
+      let b : length v.journal.trail.before ≡ u.live = made.adds.live in
+      omega (arith, live_turns u.live h.entries)
 
   -- all turns are made
-  full_items : v.left - w.left ≡ 2 * length h.entries → items_of w.journal.items ≡ (u.items ++ items_of (turns_first h.entries)) ++ Turned ∷ []
-  full_items e =
-      items_now (all c) given x v w h
-      ∙ ap (λ (l : List Item). items_of v.journal.items ++ items_of l) (all_taken h.entries (v.left - w.left) e)
-      ∙ ap (λ (l : List meant.Item). l ++ items_of (noted Saturate h.entries)) items_before
-      ∙ append_assoc u.items (Turned ∷ []) (items_of (noted Saturate h.entries))
-      ∙ ap (λ (l : List meant.Item). u.items ++ l) (ap items_of (turned_over h.entries) ∙ items-append (turns_first h.entries) (items.Turn ∷ []))
-      ∙ sym (append_assoc u.items (items_of (turns_first h.entries)) (Turned ∷ []))
+  full_kept : v.left - w.left ≡ 2 * length h.entries → Some (items_of w.journal.items) ≡ kept_with (kept_with u.kept (items_of (turns_first h.entries))) (Turned ∷ [])
+  full_kept e =
+      let over : items_of (items.Turn ∷ noted Saturate h.entries) ≡ items_of (turns_first h.entries) ++ Turned ∷ [] = ap items_of (turned_over h.entries) ∙ items-append (turns_first h.entries) (items.Turn ∷ []) in
+      kept_now
+      ∙ ap (λ (l : List Item). kept_with u.kept (Turned ∷ items_of l)) (all_taken h.entries (v.left - w.left) e)
+      ∙ ap (λ (l : List meant.Item). kept_with u.kept l) over
+      ∙ kept_with-append u.kept (items_of (turns_first h.entries)) (Turned ∷ [])
 
   full_turns : v.left ≡ w.left + 2 * length h.entries → Turns c u mid
   full_turns e = record {
     trace = items_of (turns_first h.entries);
-    adds = record { program = refl; first = refl; items = refl; left = let a = counted_turns h.entries in let b : v.left + 1 ≡ u.left = made.adds.left in omega arith };
-    room = refl;
+    adds = record { program = refl; first = refl; left = let a = counted_turns h.entries in let b : v.left + 1 ≡ u.left = made.adds.left in omega arith; live = live_now; kept = refl };
+    keeps = let k = keeps_now (all c) given x v w h in keeps_keeps u (view_of v) mid made.keeps (record { marks = k.marks; live = k.live; graphs = k.graphs });
     so_far = goes_so_far;
   }
 
@@ -313,22 +339,21 @@ module _ (c given : ℕ) (x : Ending Fault) (u : View) (v w : Shown) (h : HasPur
     adds = record {
       program = same_program (all c) given x v w h ∙ made.adds.program;
       first = same_first (all c) given x v w h ∙ made.adds.first;
-      items = full_items (omega arith);
       left = omega arith;
+      live = refl;
+      kept = full_kept (omega arith);
     };
     graph = refl;
-    room = h.room ∙ made.room;
+    keeps = keeps_still mid (view_of w) refl refl refl (λ k. refl);
   }
 
   -- the turn after the last step is missing
-  but_items : (m : Found) (ms : List Found) → h.entries ≡ m ∷ ms → (v.left - w.left) + 1 ≡ 2 * length (m ∷ ms) → items_of w.journal.items ≡ u.items ++ items_of (turns_first h.entries)
-  but_items m ms e l =
-      items_now (all c) given x v w h
-      ∙ ap (λ (z : List Found). items_of v.journal.items ++ items_of (take (v.left - w.left) (noted Saturate z))) e
-      ∙ ap (λ (z : List Item). items_of v.journal.items ++ items_of z) (but_taken m ms (v.left - w.left) l)
-      ∙ ap (λ (z : List meant.Item). z ++ items_of (items.Step m ∷ turns_first ms)) items_before
-      ∙ append_assoc u.items (Turned ∷ []) (items_of (items.Step m ∷ turns_first ms))
-      ∙ ap (λ (z : List Found). u.items ++ items_of (turns_first z)) (sym e)
+  but_kept : (m : Found) (ms : List Found) → h.entries ≡ m ∷ ms → (v.left - w.left) + 1 ≡ 2 * length (m ∷ ms) → Some (items_of w.journal.items) ≡ kept_with u.kept (items_of (turns_first h.entries))
+  but_kept m ms e l =
+      kept_now
+      ∙ ap (λ (z : List Found). kept_with u.kept (Turned ∷ items_of (take (v.left - w.left) (noted Saturate z)))) e
+      ∙ ap (λ (z : List Item). kept_with u.kept (Turned ∷ items_of z)) (but_taken m ms (v.left - w.left) l)
+      ∙ ap (λ (z : List Found). kept_with u.kept (items_of (turns_first z))) (sym e)
 
   but_turns : (es : List Found) → h.entries ≡ es → v.left + 1 ≡ w.left + 2 * length es → Turns c u (view_of w)
   but_turns [] e l = absurd (let g = used_now (all c) given x v w h in omega arith)
@@ -337,26 +362,29 @@ module _ (c given : ℕ) (x : Ending Fault) (u : View) (v w : Shown) (h : HasPur
     adds = record {
       program = same_program (all c) given x v w h ∙ made.adds.program;
       first = same_first (all c) given x v w h ∙ made.adds.first;
-      items = but_items m ms e (omega arith);
       left = let a = counted_turns h.entries in let b : v.left + 1 ≡ u.left = made.adds.left in let d = ap (λ (z : List Found). length z) e in omega arith;
+      live = live_now;
+      kept = but_kept m ms e (omega arith);
     };
-    room = h.room ∙ made.room;
+    keeps = keeps_keeps u (view_of v) (view_of w) made.keeps (keeps_now (all c) given x v w h);
     so_far = goes_so_far;
   }
 
   -- what the last call of the loop came to
   call_stands_now : MakesCall (Call c) (view_of w) (view_of w) (At c w.journal.trail.graph)
-  call_stands_now = record { trace = []; makes = record { run = call_stands; adds = adds-nothing (view_of w) }; room = refl }
+  call_stands_now = record { trace = []; makes = record { run = call_stands; adds = adds-nothing (view_of w) } }
 
-  call_fails_now : (set : List ℕ) → slice_get v.program.sets c ≡ Some set → ((m : Found) → (gp_means s2).judged (all c) w.journal.trail m ≡ neither) → MakesCall (Call c) (view_of w) (view_of w) (Fails w.journal.trail.graph)
-  call_fails_now set i none = record {
-    trace = [];
-    makes = record {
-      run = subst (λ (p : ProgramParts). Run (program_of_tree p) (Call c) w.journal.trail.graph [] [] (Fails w.journal.trail.graph)) (sym h.program) (call_fails i (blocked_now (all c) given x v w h set i none));
-      adds = adds-nothing (view_of w);
-    };
-    room = refl;
-  }
+  call_fails_now : (set : List ℕ) → slice_get v.program.sets c ≡ Some set → ((m : Found) → (gp_means s2).judged (all c) w.journal.trail m ≡ neither) → HasCalled c called.Blocked (view_of w) (view_of w)
+  call_fails_now set i none = (
+    record {
+      trace = [];
+      makes = record {
+        run = subst (λ (p : ProgramParts). Run (program_of_tree p) (Call c) w.journal.trail.graph [] [] (Fails w.journal.trail.graph)) (sym h.program) (call_fails i (blocked_now (all c) given x v w h set i none));
+        adds = adds-nothing (view_of w);
+      };
+    },
+    keeps_nothing (view_of w),
+  )
 
 -- how many items were used
 used_all : (c given : ℕ) (x : Ending Fault) (v w : Shown) (h : HasPursued (all c) given x v w) → (Some x ≡ Some ending.Bound → ⊥) → v.left ≡ w.left + 2 * length h.entries

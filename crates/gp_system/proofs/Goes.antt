@@ -6,7 +6,7 @@ use Rattle.gp_run.specs.declared.engine.Repeated.TheVariants as repeated
 use Rattle.gp_run.specs.declared.engine.Called.TheVariants as called
 use Rattle.gp_run.specs.declared.engine.Turned.TheVariants as turned
 use Rattle.gp_run.specs.Engine.{View, MakesCall, HasCalled, HasTurned, HasRepeated}
-use Rattle.gp_run.proofs.Leads.{adds-append}
+use Rattle.gp_run.proofs.Leads.{adds-append, keeps_keeps}
 use Rattle.gp_run.proofs.Turns.{Turns, turns_none, turns_more, turns_bound}
 use Rattle.gp_system.specs.declared.session.AfterTurn.{AfterTurn}
 use Rattle.gp_system.specs.declared.session.AfterTurn.TheVariants.{On, Dear, Came}
@@ -21,11 +21,10 @@ module _ (c : ℕ) (v w x : View) (t : Turns c v w) where
       record {
         trace = t.trace ++ m.trace;
         makes = record { run = t.so_far.onward [] _ m.trace _ _ refl refl r; adds = adds-append v w x t.trace m.trace t.adds m.makes.adds };
-        room = m.room ∙ t.room;
       }
 
   repeated_on : (r : Repeated) → HasRepeated c r w x → HasRepeated c r v x
-  repeated_on repeated.Ended m = rest_of_loop _ m
+  repeated_on repeated.Ended m = (rest_of_loop _ m.0, keeps_keeps v w x t.keeps m.1)
   repeated_on repeated.Bound m = (m.0, rest_of_loop m.0 m.1, m.2)
   repeated_on (repeated.Fault r k) m = (rest_of_loop _ m.0, m.1)
   repeated_on repeated.NoMemory m = tt

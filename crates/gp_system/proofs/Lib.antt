@@ -1,5 +1,6 @@
 pub mod Searches
 pub mod Nodes
+pub mod Marks
 pub mod Sessions
 pub mod Goes
 pub mod Runs

@@ -1,5 +1,6 @@
 -- Runs of a whole program.
 use Rattle.std.proofs.Common.{◌≡◌, ℕ, ◌+◌, Bool, List, map, sym, ap, subst, ◌∙◌, arith}
+use Rattle.gp_memory.proofs.Basics.{some_same}
 use Rattle.gp_values.specs.Graph.{Graph}
 use Rattle.gp_syntax.specs.declared.command.ProgramParts.{ProgramParts}
 use Rattle.gp_syntax.specs.declared.kinds.NumberKind.{NumberKind}
@@ -20,18 +21,25 @@ may_go_on : (p : ProgramParts) (n : Shown) (x : Ending) → program_of_tree n.pr
 may_go_on p n x e a = (subst (λ (q : Program). MayGoOn q n.journal.trail.graph x) e a.0, a.1)
 
 module _ {S : Type 0} (answer : S → Bool) (next : S → S) (p : ProgramParts) (host : Graph) (bound : ℕ) (s u : S) where
+  -- the items of the journal are the trace
+  items_are : (n : Shown) (x : Ending) (a : finished.HasRun answer next (program_of_tree p).main (view_of (begun p host bound)) (view_of n) s u x) → items_of n.journal.items ≡ a.trace
+  items_are n x a = some_same a.makes.adds.kept
+
+  counted_all : (n : Shown) (x : Ending) (a : finished.HasRun answer next (program_of_tree p).main (view_of (begun p host bound)) (view_of n) s u x) → n.left + counted (items_of n.journal.items) ≡ bound
+  counted_all n x a = ap (λ (t : List Item). n.left + counted t) (items_are n x a) ∙ a.makes.adds.left
+
   has_run : (n : Shown) (x : Ending) → finished.HasRun answer next (program_of_tree p).main (view_of (begun p host bound)) (view_of n) s u x → IsJournalOf (map rule_of_tree n.program.rules) n.journal → HasRun answer next (program_of_tree p) host bound s u n.journal x
   has_run n x a w = record {
     of_rules = subst (λ (q : Program). IsJournalOf q.rules n.journal) a.makes.adds.program w;
     host_first = a.makes.adds.first;
     picks = a.picks;
-    run = subst (λ (t : List Item). Run (program_of_tree p) (program_of_tree p).main host a.picks t x) (sym a.makes.adds.items) a.makes.run;
+    run = subst (λ (t : List Item). Run (program_of_tree p) (program_of_tree p).main host a.picks t x) (sym (items_are n x a)) a.makes.run;
     answers = a.answers;
-    within = let e : n.left + counted (items_of n.journal.items) ≡ bound = ap (λ (t : List Item). n.left + counted t) a.makes.adds.items ∙ a.makes.adds.left in omega arith;
+    within = let e = counted_all n x a in omega arith;
   }
 
   spent_whole : (n : Shown) (x : Ending) (a : finished.HasRun answer next (program_of_tree p).main (view_of (begun p host bound)) (view_of n) s u x) → n.left ≡ 0 → counted (items_of n.journal.items) ≡ bound
-  spent_whole n x a z = let e : n.left + counted (items_of n.journal.items) ≡ bound = ap (λ (t : List Item). n.left + counted t) a.makes.adds.items ∙ a.makes.adds.left in omega arith
+  spent_whole n x a z = let e = counted_all n x a in omega arith
 
   at_bound : (n : Shown) → IsJournalOf (map rule_of_tree n.program.rules) n.journal → HasFinished answer next finish.Bound (program_of_tree p).main (view_of (begun p host bound)) (view_of n) s u → HasEnded answer next (program_of_tree p) host bound s u (outcome.Bound n.journal)
   at_bound n w a =

@@ -1,12 +1,12 @@
 -- What a session tells after each call.
-use Rattle.std.proofs.Common.{◌≡◌, ℕ, suc, ◌+◌, ◌-◌, ◌<◌, ◌≤◌, ◌%◌, List, [], ◌∷◌, ◌++◌, map, length, take, slice_get, slice_index, slice_index_or, Contains, All, Option, Some, None, refl, sym, ap, subst, ◌∙◌, arith, add-one, append_assoc, append-nil}
+use Rattle.std.proofs.Common.{◌≡◌, ℕ, suc, ◌+◌, ◌-◌, ◌<◌, ◌≤◌, ◌%◌, List, [], ◌∷◌, ◌++◌, map, length, take, drop, slice_get, slice_index, slice_index_or, Contains, All, Option, Some, None, refl, sym, ap, subst, ◌∙◌, arith, add-one, append_assoc, append-nil}
 use Rattle.std.specs.Prelude.{Result, Ok, Err, OnOk, IfOk}
 use Rattle.std.specs.Option.{option_map_or}
 use Rattle.std.proofs.Math.Nat.{mod-one}
 use Rattle.std.proofs.Math.Seq.{take-suc}
 use Rattle.std.proofs.lemmas.Option.{get_or_from_slice_get, slice_get_within, slice_get-get_or}
 use Rattle.std.proofs.lemmas.List.Elements.{All-push}
-use Rattle.std.proofs.lemmas.List.{map-append, length-map, length-reverse}
+use Rattle.std.proofs.lemmas.List.{map-append, length-map}
 use Rattle.gp_values.specs.Graph.{Graph, IsGraph}
 use Rattle.gp_syntax.specs.declared.command.ProgramParts.{ProgramParts}
 use Rattle.gp_syntax.specs.declared.rule.RuleParts.{RuleParts}
@@ -18,25 +18,24 @@ use Rattle.gp_syntax.specs.Rule.{Rule, Found}
 use Rattle.gp_syntax.specs.Share.{first_node, Barren}
 use Rattle.gp_syntax.specs.Step.{Applies, Step, CallsTo, Blocked}
 use Rattle.gp_syntax.specs.Run as meant
-use Rattle.gp_syntax.specs.Run.{Program, Call, Stepped, Back, Gives, Fails, At, live, counted, Run, call_steps, call_fails, call_stands}
-use Rattle.gp_syntax.specs.Replay.{StepsTo}
+use Rattle.gp_syntax.specs.Run.{Program, Call, Stepped, Back, Fails, At, counted, Run, call_steps, call_fails, call_stands}
 use Rattle.gp_syntax.specs.Tree.{rule_of_tree, program_of_tree, item_of}
 use Rattle.gp_syntax.specs.WellFormed.{IsWellFormed}
-use Rattle.gp_unify.proofs.Candidates.{one_step}
 use Rattle.gp_step.proofs.Afters.{applying_steps}
-use Rattle.gp_journal.specs.Trail.{Trail, root_of, led_by, back_by, rooted}
-use Rattle.gp_journal.specs.Leads.{Led}
-use Rattle.gp_journal.specs.Journal.{Journal, IsJournalOf, items_of, with_step, with_turn, with_mark, with_back}
+use Rattle.gp_journal.specs.Trail.{Trail, root_of, led_by, back_by}
+use Rattle.gp_journal.specs.Journal.{Journal, items_of, with_step, with_turn, with_mark, without_mark, with_back}
 use Rattle.gp_journal.proofs.Replays.{rooted_back, caught_back}
-use Rattle.gp_journal.proofs.Stacks.{along, all_replay}
-use Rattle.gp_run.specs.Engine.{View, IsReplay, Adds, MakesCall, IsSpent, HasFaulty, HasCalled, HasTurned, HasMarked, TakesBack}
+use Rattle.gp_run.specs.Engine.{View, graphs, live_past, Adds, Keeps, MakesCall, IsSpent, HasFaulty, HasCalled, TurnMade, HasTurned, HasMarked, HasClosed, CanTakeBack, TakesBack}
+use Rattle.gp_run.specs.Ended.{HasEnded}
 use Rattle.gp_run.specs.declared.engine.Called.TheVariants as called
 use Rattle.gp_run.specs.declared.engine.Turned.TheVariants as turned
-use Rattle.gp_run.proofs.Leads.{adds-nothing}
+use Rattle.gp_run.specs.declared.engine.Repeated.TheVariants as repeated
+use Rattle.gp_run.proofs.Leads.{adds-nothing, keeps_still, keeps_nothing}
 use Rattle.gp_search.specs.declared.sought.Sought.{Sought}
 use Rattle.gp_search.specs.declared.sought.Sought.TheVariants as answers
 use Rattle.gp_system.specs.Sought.{HasSought, IsOfSet}
 use Rattle.gp_system.specs.inside.Viewed.{Shown, view_of, Grows, HasSoughtCall, AppliesForCall}
+use Rattle.gp_system.proofs.Marks.{stack, depth_back, goes_back}
 
 abbrev pub shown : ProgramParts → Journal → ℕ → Shown
 shown p j l = record { program = p; journal = j; left = l }
@@ -44,7 +43,7 @@ shown p j l = record { program = p; journal = j; left = l }
 -- ---- calls
 
 pub stands_here : (c : ℕ) (s : Shown) → MakesCall (Call c) (view_of s) (view_of s) (At c s.journal.trail.graph)
-stands_here c s = record { trace = []; makes = record { run = call_stands; adds = adds-nothing (view_of s) }; room = refl }
+stands_here c s = record { trace = []; makes = record { run = call_stands; adds = adds-nothing (view_of s) } }
 
 pub spent_here : (c : ℕ) (s : Shown) (m : Found) → AppliesForCall (program_of_tree s.program) c s.journal.trail.graph m → s.left ≡ 0 → IsSpent c (view_of s)
 spent_here c s m a e = (
@@ -67,25 +66,34 @@ steps_on rules set g m w whole a = record {
   step = subst (λ (o : Option Rule). Step a.rule g m (led_by o g m)) (sym a.is_rule) (applying_steps a.rule g m (well_formed_at rules m.rule a.rule w a.is_rule) whole a.holds);
 }
 
-adds_item : (p : ProgramParts) (j k : Journal) (i : Item) (l n : ℕ) → root_of k.trail ≡ root_of j.trail → k.items ≡ j.items ++ i ∷ [] → n + counted (item_of i ∷ []) ≡ l → Adds (view_of (shown p j l)) (view_of (shown p k n)) (item_of i ∷ [])
-adds_item p j k i l n e f h = record { program = refl; first = e; items = ap (λ (is : List Item). map item_of is) f ∙ map-append item_of j.items (i ∷ []); left = h }
+adds_item : (p : ProgramParts) (j k : Journal) (i : Item) (l n : ℕ) → root_of k.trail ≡ root_of j.trail → k.items ≡ j.items ++ i ∷ [] → length k.trail.before ≡ live_past (length j.trail.before) (item_of i) → n + counted (item_of i ∷ []) ≡ l → Adds (view_of (shown p j l)) (view_of (shown p k n)) (item_of i ∷ [])
+adds_item p j k i l n e f d h = record { program = refl; first = e; left = h; live = d; kept = ap (λ (is : List meant.Item). Some is) (ap (λ (is : List Item). map item_of is) f ∙ map-append item_of j.items (i ∷ [])) }
+
+-- one step more stands on what was there
+keeps_step : (p : ProgramParts) (j : Journal) (l n : ℕ) (m : Found) → Keeps (view_of (shown p j l)) (view_of (shown p (with_step (map rule_of_tree p.rules) j m) n))
+keeps_step p j l n m =
+    let w = view_of (shown p (with_step (map rule_of_tree p.rules) j m) n) in
+    let one : suc (length j.trail.before) - length j.trail.before ≡ 1 = omega arith in
+    record { marks = refl; live = omega arith; graphs = λ h. ap (λ (k : ℕ). drop k (graphs w)) one }
 
 call_stepped : (p : ProgramParts) (c : ℕ) (j : Journal) (l n : ℕ) (m : Found) → All IsWellFormed (map rule_of_tree p.rules) → IsGraph j.trail.graph → AppliesForCall (program_of_tree p) c j.trail.graph m → n + 1 ≡ l
-    → MakesCall (Call c) (view_of (shown p j l)) (view_of (shown p (with_step (map rule_of_tree p.rules) j m) n)) (Gives (with_step (map rule_of_tree p.rules) j m).trail.graph)
-call_stepped p c j l n m w whole a e = record {
-  trace = Stepped m ∷ [];
-  makes = record {
-    run = call_steps a.is_set (steps_on (map rule_of_tree p.rules) a.set j.trail.graph m w whole a.found);
-    adds = adds_item p j (with_step (map rule_of_tree p.rules) j m) (items.Step m) l n refl refl e;
-  };
-  room = refl;
-}
+    → HasCalled c called.Stepped (view_of (shown p j l)) (view_of (shown p (with_step (map rule_of_tree p.rules) j m) n))
+call_stepped p c j l n m w whole a e = (
+  record {
+    trace = Stepped m ∷ [];
+    makes = record {
+      run = call_steps a.is_set (steps_on (map rule_of_tree p.rules) a.set j.trail.graph m w whole a.found);
+      adds = adds_item p j (with_step (map rule_of_tree p.rules) j m) (items.Step m) l n refl refl (omega arith) e;
+    };
+  },
+  keeps_step p j l n m,
+)
 
 pub stepped_here : (s : Shown) (p : ProgramParts) (j k : Journal) (c l : ℕ) (m : Found) → shown p j l ≡ s → All IsWellFormed (map rule_of_tree p.rules) → IsGraph j.trail.graph → AppliesForCall (program_of_tree s.program) c s.journal.trail.graph m → 0 < l
-    → k ≡ with_step (map rule_of_tree p.rules) j m → MakesCall (Call c) (view_of s) (view_of (shown p k (l - 1))) (Gives k.trail.graph)
+    → k ≡ with_step (map rule_of_tree p.rules) j m → HasCalled c called.Stepped (view_of s) (view_of (shown p k (l - 1)))
 stepped_here s p j k c l m e w whole a pos f =
-    subst (λ (x : Journal). MakesCall (Call c) (view_of s) (view_of (shown p x (l - 1))) (Gives x.trail.graph)) (sym f)
-    (subst (λ (x : Shown). MakesCall (Call c) (view_of x) (view_of (shown p (with_step (map rule_of_tree p.rules) j m) (l - 1))) (Gives (with_step (map rule_of_tree p.rules) j m).trail.graph)) e
+    subst (λ (x : Journal). HasCalled c called.Stepped (view_of s) (view_of (shown p x (l - 1)))) (sym f)
+    (subst (λ (x : Shown). HasCalled c called.Stepped (view_of x) (view_of (shown p (with_step (map rule_of_tree p.rules) j m) (l - 1)))) e
     (call_stepped p c j l (l - 1) m w whole (subst (λ (x : Shown). AppliesForCall (program_of_tree x.program) c x.journal.trail.graph m) (sym e) a) (omega arith)))
 
 pub applies_for : (program : Program) (c : ℕ) (g : Graph) (m : Found) → HasSoughtCall program c g (answers.Applies m) → AppliesForCall program c g m
@@ -106,8 +114,8 @@ blocked rules set g b = record {
   none_faulty = λ i r m kind c e a. b.none_faulty i r m kind c e (share_one (first_node r) m.nodes) a;
 }
 
-pub blocked_here : (c : ℕ) (s : Shown) → HasSoughtCall (program_of_tree s.program) c s.journal.trail.graph answers.Barren → MakesCall (Call c) (view_of s) (view_of s) (Fails s.journal.trail.graph)
-blocked_here c s a = record { trace = []; makes = record { run = call_fails a.is_set (blocked (program_of_tree s.program).rules a.set s.journal.trail.graph a.sought); adds = adds-nothing (view_of s) }; room = refl }
+pub blocked_here : (c : ℕ) (s : Shown) → HasSoughtCall (program_of_tree s.program) c s.journal.trail.graph answers.Barren → HasCalled c called.Blocked (view_of s) (view_of s)
+blocked_here c s a = (record { trace = []; makes = record { run = call_fails a.is_set (blocked (program_of_tree s.program).rules a.set s.journal.trail.graph a.sought); adds = adds-nothing (view_of s) } }, keeps_nothing (view_of s))
 
 pub faulty_here : (c k : ℕ) (s : Shown) (m : Found) (kind : NumberKind) → k ≡ m.rule → HasSoughtCall (program_of_tree s.program) c s.journal.trail.graph (answers.Faulty m kind) → MakesCall (Call c) (view_of s) (view_of s) (At c s.journal.trail.graph) × HasFaulty c k kind (view_of s)
 faulty_here c k s m kind e a = (
@@ -116,63 +124,66 @@ faulty_here c k s m kind e a = (
       (record { set = a.set; is_set = a.is_set; in_set = a.sought.0.in_set; the_rule = a.sought.0.rule; is_rule = a.sought.0.is_rule; found = m; faulty = a.sought.0.holds }),
 )
 
+-- ---- turns
+
+turn_made : (p : ProgramParts) (j : Journal) (l : ℕ) → 0 < l → TurnMade (view_of (shown p j l)) (view_of (shown p (with_turn j) (l - 1)))
+turn_made p j l pos = record {
+  adds = adds_item p j (with_turn j) items.Turn l (l - 1) refl refl refl (omega arith);
+  graph = refl;
+  keeps = keeps_still (view_of (shown p j l)) (view_of (shown p (with_turn j) (l - 1))) refl refl refl (λ h. refl);
+}
+
+pub turned_here : (s : Shown) (p : ProgramParts) (j k : Journal) (l : ℕ) → shown p j l ≡ s → 0 < l → k ≡ with_turn j → HasTurned turned.Made (view_of s) (view_of (shown p k (l - 1)))
+turned_here s p j k l e pos f = subst (λ (x : Journal). HasTurned turned.Made (view_of s) (view_of (shown p x (l - 1)))) (sym f) (subst (λ (x : Shown). HasTurned turned.Made (view_of x) (view_of (shown p (with_turn j) (l - 1)))) e (turn_made p j l pos))
+
+turn_ended : (p : ProgramParts) (j : Journal) (l : ℕ) → HasEnded repeated.Ended (view_of (shown p j l)) (view_of (shown p (with_back 0 (with_mark j)) l))
+turn_ended p j l =
+    let marks : j.backs + 1 - 1 ≡ j.backs = omega arith in (
+      adds_item p j (with_back 0 (with_mark j)) (items.Back 0) l l refl refl (omega arith) (omega arith),
+      refl,
+      keeps_still (view_of (shown p j l)) (view_of (shown p (with_back 0 (with_mark j)) l)) marks refl refl (λ h. refl),
+    )
+
+pub ended_here : (s : Shown) (p : ProgramParts) (j m k : Journal) (l : ℕ) → shown p j l ≡ s → m ≡ with_mark j → k ≡ with_back 0 m → HasEnded repeated.Ended (view_of s) (view_of (shown p k l))
+ended_here s p j m k l e f g = subst (λ (x : Journal). HasEnded repeated.Ended (view_of s) (view_of (shown p x l))) (sym (g ∙ ap (with_back 0) f)) (subst (λ (x : Shown). HasEnded repeated.Ended (view_of x) (view_of (shown p (with_back 0 (with_mark j)) l))) e (turn_ended p j l))
+
 -- ---- marks, and taking back
 
-as_high : (rules : List Rule) (fs : List Found) (g : Graph) (bs : List Graph) → Led rules fs g bs → length fs ≡ length bs
-as_high rules [] g [] s = refl
-as_high rules [] g (b ∷ bs) s = absurd s
-as_high rules (f ∷ fs) g [] s = absurd s
-as_high rules (f ∷ fs) g (b ∷ bs) s = ap suc (as_high rules fs b bs s.1)
+marked_here : (p : ProgramParts) (j : Journal) (l n : ℕ) → n ≡ length j.trail.before → HasMarked n (view_of (shown p j l)) (view_of (shown p (with_mark j) l))
+marked_here p j l n e = record { live_steps = e; marks = refl; stays = record { program = refl; first = refl; graph = refl; live = refl; left = refl; kept = refl; before = λ h k. refl } }
 
-pub live_depth : (rules : List Rule) (j : Journal) → IsJournalOf rules j → length (live (items_of j.items)) ≡ length j.trail.before
-live_depth rules j w =
-    let k = along rules (items_of j.items) (rooted j.trail) j.trail [] w tt in
-    ap (λ (ms : List Found). length ms) k.live ∙ length-reverse k.found ∙ as_high rules k.found j.trail.graph j.trail.before k.stack
+pub marks : {E : Type 0} (r : Result ℕ E) (s : Shown) (p : ProgramParts) (j k : Journal) (l : ℕ) → shown p j l ≡ s → OnOk r (k ≡ with_mark j) → IfOk r (λ n. n ≡ length j.trail.before) → IfOk r (λ n. HasMarked n (view_of s) (view_of (shown p k l)))
+marks (Ok n) s p j k l e a b = subst (λ (x : Shown). HasMarked n (view_of x) (view_of (shown p k l))) e (subst (λ (x : Journal). HasMarked n (view_of (shown p j l)) (view_of (shown p x l))) (sym a) (marked_here p j l n b))
+marks (Err x) s p j k l e a b = tt
 
-one_end : (rules : List Rule) (ms : List Found) (g h k : Graph) → All IsWellFormed rules → StepsTo rules g ms h → StepsTo rules g ms k → h ≡ k
-one_end rules [] g h k w a b = a ∙ sym b
-one_end rules (m ∷ ms) g h k w a b =
-    let same_rule : b.1 ≡ a.1 = let x : Some b.1 ≡ Some a.1 = sym b.2 ∙ a.2 in cc in
-    let step : Step a.1 g m b.0 = subst (λ (r : Rule). Step r g m b.0) same_rule b.3 in
-    let same : b.0 ≡ a.0 = one_step a.1 g m b.0 a.0 (well_formed_at rules m.rule a.1 w a.2) step a.3 in
-    one_end rules ms a.0 h k w a.4 (subst (λ (x : Graph). StepsTo rules x ms k) same b.4)
+closed_here : (p : ProgramParts) (j : Journal) (l : ℕ) → 0 < j.backs → HasClosed (view_of (shown p j l)) (view_of (shown p (without_mark j) l))
+closed_here p j l some = record { marks = omega arith; stays = record { program = refl; first = refl; graph = refl; live = refl; left = refl; kept = refl; before = λ h k. refl } }
 
-replays_here : (p : ProgramParts) (j : Journal) (l : ℕ) → IsJournalOf (map rule_of_tree p.rules) j → IsReplay (view_of (shown p j l))
-replays_here p j l w = (all_replay.journals (map rule_of_tree p.rules) j w).whole
+pub closes : (s : Shown) (p : ProgramParts) (j k : Journal) (l : ℕ) → shown p j l ≡ s → 0 < s.journal.backs → k ≡ without_mark j → HasClosed (view_of s) (view_of (shown p k l))
+closes s p j k l e some f =
+    subst (λ (x : Journal). HasClosed (view_of s) (view_of (shown p x l))) (sym f)
+    (subst (λ (x : Shown). HasClosed (view_of x) (view_of (shown p (without_mark j) l))) e (closed_here p j l (subst (λ (x : Shown). 0 < x.journal.backs) (sym e) some)))
 
-pub replays_shown : (s : Shown) (p : ProgramParts) (j : Journal) (l : ℕ) → shown p j l ≡ s → IsJournalOf (map rule_of_tree p.rules) j → IsReplay (view_of s)
-replays_shown s p j l e w = subst (λ (x : Shown). IsReplay (view_of x)) e (replays_here p j l w)
+pub low_enough : (s : Shown) (p : ProgramParts) (j : Journal) (l mark : ℕ) → shown p j l ≡ s → CanTakeBack mark (view_of s) → mark ≤ length j.trail.before
+low_enough s p j l mark e h = subst (λ (x : Shown). mark ≤ length x.journal.trail.before) (sym e) h.live
 
-marked_here : (p : ProgramParts) (j : Journal) (l n : ℕ) → IsJournalOf (map rule_of_tree p.rules) j → n ≡ length j.trail.before → HasMarked n (view_of (shown p j l)) (view_of (shown p (with_mark j) l))
-marked_here p j l n w e = record { live_steps = e ∙ sym (live_depth (map rule_of_tree p.rules) j w); view = refl }
-
-pub marks : {E : Type 0} (r : Result ℕ E) (s : Shown) (p : ProgramParts) (j k : Journal) (l : ℕ) → shown p j l ≡ s → IsJournalOf (map rule_of_tree p.rules) j → OnOk r (k ≡ with_mark j) → IfOk r (λ n. n ≡ length j.trail.before)
-    → IfOk r (λ n. HasMarked n (view_of s) (view_of (shown p k l)))
-marks (Ok n) s p j k l e w a b = subst (λ (x : Shown). HasMarked n (view_of x) (view_of (shown p k l))) e (subst (λ (x : Journal). HasMarked n (view_of (shown p j l)) (view_of (shown p x l))) (sym a) (marked_here p j l n w b))
-marks (Err x) s p j k l e w a b = tt
-
-pub low_enough : (s : Shown) (p : ProgramParts) (j : Journal) (l mark : ℕ) → shown p j l ≡ s → IsJournalOf (map rule_of_tree p.rules) j → mark ≤ length (live (view_of s).items) → mark ≤ length j.trail.before
-low_enough s p j l mark e w h = subst (λ (n : ℕ). mark ≤ n) (live_depth (map rule_of_tree p.rules) j w) (subst (λ (x : Shown). mark ≤ length (live (view_of x).items)) (sym e) h)
-
-back_here : (p : ProgramParts) (j : Journal) (l mark d : ℕ) → All IsWellFormed (map rule_of_tree p.rules) → IsJournalOf (map rule_of_tree p.rules) j → IsJournalOf (map rule_of_tree p.rules) (with_back (d - mark) j) → d ≡ length j.trail.before → 1 ≤ j.backs
-    → TakesBack mark (view_of (shown p j l)) (view_of (shown p (with_back (d - mark) j) l))
-back_here p j l mark d w before later e room =
-    let rules = map rule_of_tree p.rules in
+back_here : (p : ProgramParts) (j : Journal) (l mark d : ℕ) → d ≡ length j.trail.before → CanTakeBack mark (view_of (shown p j l)) → TakesBack mark (view_of (shown p j l)) (view_of (shown p (with_back (d - mark) j) l))
+back_here p j l mark d e can =
     let same : root_of (back_by (d - mark) j.trail) ≡ root_of j.trail = ap (λ (t : Trail). t.graph) (rooted_back (d - mark) j.trail) in
-    let deep : d ≡ length (live (items_of j.items)) = e ∙ sym (live_depth rules j before) in
+    let some : 0 < j.backs = can.open_mark in
+    let many : length j.trail.before - mark ≡ d - mark = omega (arith, e) in
     record {
-      adds = subst (λ (i : ℕ). Adds (view_of (shown p j l)) (view_of (shown p (with_back (d - mark) j) l)) (Back (i - mark) ∷ [])) deep (adds_item p j (with_back (d - mark) j) (items.Back (d - mark)) l l same refl (omega arith));
-      room = omega arith;
-      graph = λ h a. one_end rules (live (items_of (with_back (d - mark) j).items)) (root_of j.trail) (back_by (d - mark) j.trail).graph h w
-          (subst (λ (x : Graph). StepsTo rules x (live (items_of (with_back (d - mark) j).items)) (back_by (d - mark) j.trail).graph) same (all_replay.journals rules (with_back (d - mark) j) later).whole.steps) a.steps;
+      adds = subst (λ (i : ℕ). Adds (view_of (shown p j l)) (view_of (shown p (with_back (d - mark) j) l)) (Back i ∷ [])) (sym many) (adds_item p j (with_back (d - mark) j) (items.Back (d - mark)) l l same refl (depth_back (d - mark) j.trail) (omega arith));
+      marks = omega (arith, some);
+      graph = λ h hs there.
+          let down = goes_back (d - mark) j.trail h hs (subst (λ (i : ℕ). drop i (stack j.trail) ≡ h ∷ hs) many there) in
+          (down.0, λ k. down.1);
     }
 
-pub backs : (s : Shown) (p : ProgramParts) (j k : Journal) (l mark d : ℕ) → shown p j l ≡ s → All IsWellFormed (map rule_of_tree p.rules) → IsJournalOf (map rule_of_tree p.rules) j → IsJournalOf (map rule_of_tree p.rules) k → d ≡ length j.trail.before → 1 ≤ s.journal.backs → k ≡ with_back (d - mark) j
-    → TakesBack mark (view_of s) (view_of (shown p k l))
-backs s p j k l mark d e w before later f room h =
+pub backs : (s : Shown) (p : ProgramParts) (j k : Journal) (l mark d : ℕ) → shown p j l ≡ s → d ≡ length j.trail.before → CanTakeBack mark (view_of s) → k ≡ with_back (d - mark) j → TakesBack mark (view_of s) (view_of (shown p k l))
+backs s p j k l mark d e f can h =
     subst (λ (x : Shown). TakesBack mark (view_of x) (view_of (shown p k l))) e
-    (subst (λ (x : Journal). TakesBack mark (view_of (shown p j l)) (view_of (shown p x l))) (sym h)
-    (back_here p j l mark d w before (subst (IsJournalOf (map rule_of_tree p.rules)) h later) f (subst (λ (x : Shown). 1 ≤ x.journal.backs) (sym e) room)))
+    (subst (λ (x : Journal). TakesBack mark (view_of (shown p j l)) (view_of (shown p x l))) (sym h) (back_here p j l mark d f (subst (λ (x : Shown). CanTakeBack mark (view_of x)) (sym e) can)))
 
 -- ---- the set of a call
 
@@ -219,7 +230,7 @@ failed_graph : {program : Program} {c : ℕ} {g h : Graph} {t : List meant.Item}
 failed_graph (call_fails s b) = refl
 
 pub same_graph : (c : ℕ) (w x y : View) → HasTurned turned.Made w x → HasCalled c called.Blocked x y → y.graph ≡ w.graph
-same_graph c w x y a m = failed_graph m.makes.run ∙ a.graph
+same_graph c w x y a m = failed_graph m.0.makes.run ∙ a.graph
 
 -- ---- items that are added
 
@@ -250,6 +261,9 @@ grows_here s p j k l n i same e f h = subst (λ (x : Shown). Grows x (shown p k 
 
 pub grows_turn : (s : Shown) (p : ProgramParts) (j k : Journal) (l n : ℕ) → shown p j l ≡ s → k ≡ with_turn j → Grows s (shown p k n)
 grows_turn s p j k l n e f = subst (λ (x : Journal). Grows s (shown p x n)) (sym f) (grows_here s p j (with_turn j) l n items.Turn e refl refl refl)
+
+pub grows_closed : (s : Shown) (p : ProgramParts) (j k : Journal) (l n : ℕ) → shown p j l ≡ s → k ≡ without_mark j → Grows s (shown p k n)
+grows_closed s p j k l n e f = subst (λ (x : Journal). Grows s (shown p x n)) (sym f) (subst (λ (x : Shown). Grows x (shown p (without_mark j) n)) e (record { program = refl; first = refl; caught = refl; more = []; items = sym (append-nil (items_of j.items)) }))
 
 pub grows_back : (s : Shown) (p : ProgramParts) (j k : Journal) (l n i : ℕ) → shown p j l ≡ s → k ≡ with_back i j → Grows s (shown p k n)
 grows_back s p j k l n i e f = subst (λ (x : Journal). Grows s (shown p x n)) (sym f) (grows_here s p j (with_back i j) l n (items.Back i) e (ap (λ (t : Trail). t.graph) (rooted_back i j.trail)) (caught_back i j.trail) refl)

@@ -7,9 +7,9 @@ use opt_worker::Pacing;
 pub struct Crew {
     /// How many workers there are. With none or one, each call is searched where the run stands, and nothing waits.
     pub workers: u32,
-    /// All workers have a call from where a search on the run's own graph looked at 10,000 candidates for each of the
-    /// fan, 64 at least, and at four for each part of the run, so that bringing them there is cheap beside it; with 1 or
-    /// none at once. A loop comes back from them behind a number of steps that doubles.
+    /// How many candidates, in units of 20,000, a search on the run's own graph looks at before all workers have the call:
+    /// 64 units at least, and four candidates more for each part of the run, which cost less than bringing the workers there.
+    /// With 1 or 0 all have it at once where some rule has a first candidate. A loop comes back after steps that double.
     pub fan: u32,
     /// How many independent matches a worker may offer in one turn, for a loop over a call. With none it is one.
     pub batch: u32,

@@ -233,10 +233,6 @@ impl<'a, R: Threads + Wait + Sync> Engine<R> for CrewSession<'a> {
 
     ghost ready = { λ _. IsSync R.row };
 
-    fn replays(&self) {
-        self.session.replays_here();
-    }
-
     fn call(&mut self, rt: &R, call: u32) -> Called {
         if self.is_wide(call) {
             return self.pursue_one(rt, call);
@@ -262,5 +258,9 @@ impl<'a, R: Threads + Wait + Sync> Engine<R> for CrewSession<'a> {
 
     fn back_to(&mut self, _rt: &R, mark: u64) {
         self.session.take_back(mark);
+    }
+
+    fn close_mark(&mut self, _rt: &R) {
+        self.session.close_here();
     }
 }

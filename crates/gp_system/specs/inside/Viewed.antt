@@ -1,5 +1,5 @@
 -- What a session tells of itself.
-use Rattle.std.specs.Prelude.{◌≡◌, ℕ, List, [], ◌++◌, All, map, Some, slice_get, refl}
+use Rattle.std.specs.Prelude.{◌≡◌, ℕ, List, [], ◌++◌, All, length, map, Some, slice_get, refl}
 use Rattle.std.specs.Coded.{Coded, code_by, coded×, coded_ℕ}
 use Rattle.gp_values.specs.Graph.{Graph}
 use Rattle.gp_syntax.specs.declared.command.ProgramParts.{ProgramParts}
@@ -25,14 +25,17 @@ pub record Shown : Type 0 where
 abbrev pub shown_code : Coded Shown
 shown_code = code_by (ProgramParts × (Journal × ℕ)) (coded× program_row.coded (coded× journal_code coded_ℕ)) (λ s. (s.program, (s.journal, s.left))) (λ p. record { program = p.0; journal = p.1.0; left = p.1.1 }) (λ _. refl)
 
+-- the steps that can be taken back are all that are live, each mark has room kept for it, and all items are kept
 abbrev pub view_of : Shown → View
 view_of s = record {
   program = program_of_tree s.program;
   first = root_of s.journal.trail;
-  items = items_of s.journal.items;
   graph = s.journal.trail.graph;
+  before = s.journal.trail.before;
+  live = length s.journal.trail.before;
   left = s.left;
-  room = s.journal.backs;
+  marks = s.journal.backs;
+  kept = Some (items_of s.journal.items);
 }
 
 -- at the beginning of a run
