@@ -191,10 +191,14 @@ module _ {old new : KnownFiles} {held : Content} (known : old.content ≡ Some h
 
   module _ {k : CheckCommand} {p : Program} {g : Graph} where
     pub of_check : {version : Version} {items : List Item} {text : List ℕ} {said : Said} → HasTrace old.content k.trace version items → HasBytes old.content k.result text →
-        Good 0 → ((IsDerivation p g version items text → ⊥) → Good 1) → Checks old new k p g said → Good (status_of said)
+        (IsDerivation p g version items text → Good 0) → ((IsDerivation p g version items text → ⊥) → Good 1) → Checks old new k p g said → Good (status_of said)
     of_check ht hr one none (at_trace x) = trace_passes ht x
     of_check ht hr one none (at_result _ x) = result_passes hr x
-    of_check ht hr one none (is_derivation _ _ _) = one
+    of_check {version} {items} {text} ht hr one none (is_derivation {version = w} {items = t} {text = u} kt kr d) =
+        let e = same_trace known kt ht in
+        one (subst (λ (v : Version). IsDerivation p g v items text) e.0
+        (subst (λ (s : List Item). IsDerivation p g w s text) e.1
+        (subst (λ (b : List ℕ). IsDerivation p g w t b) (same_bytes old.content k.result u text known kr.file hr.file) d)))
     of_check {version} {items} {text} ht hr one none (is_none {version = w} {items = t} {text = u} kt kr n) =
         let e = same_trace known ht kt in
         none (λ d. n (subst (λ (v : Version). IsDerivation p g v t u) e.0

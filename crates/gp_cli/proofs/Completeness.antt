@@ -1,24 +1,25 @@
 -- From the cause to the status of the top call.
-use Rattle.std.proofs.Common.{◌≡◌, ℕ, ◌<◌, List, [], ◌∷◌, refl, sym, ap, subst, arith, inl, inr}
+use Rattle.std.proofs.Common.{◌≡◌, ℕ, ◌<◌, List, [], ◌∷◌, Some, refl, sym, ap, subst, arith, inl, inr}
 use Rattle.std.proofs.lemmas.Option.{option_and_then_some}
-use Rattle.gp_io.specs.Outside.{KnownFiles, KnownSink}
+use Rattle.gp_io.specs.Outside.{Content, KnownFiles, KnownSink}
 use Rattle.gp_values.specs.Names.{Name}
 use Rattle.gp_values.specs.Graph.{Graph}
-use Rattle.gp_syntax.specs.Run.{Program}
+use Rattle.gp_syntax.specs.Run.{Program, Item}
 use Rattle.gp_reader.specs.Laws.{TextsHaveNoFault, TextsHaveOneProgram, TreesHaveNoFault}
-use Rattle.gp_fmt.specs.Laws.{CanonicalTextsAreRead, CanonicalTextsStay}
+use Rattle.gp_fmt.specs.Laws.{CanonicalTextsAreRead, CanonicalTextsMeanTheSame, CanonicalTextsStay}
 use Rattle.gp_derivation.specs.Derivation.{IsDerivation}
+use Rattle.gp_trace.specs.declared.version.Version.{Version}
 use Rattle.gp_trace.specs.declared.version.Version.TheVariants.{Two}
-use Rattle.gp_words.specs.CommandLine.{run, demo, check, fmt, step, command_of}
+use Rattle.gp_words.specs.CommandLine.{CheckCommand, run, demo, check, fmt, step, command_of}
 use Rattle.gp_cli.specs.Texts.{Said}
-use Rattle.gp_cli.specs.Inputs.{HasProgram, HasProgramTree, HasHost, HasTrace}
+use Rattle.gp_cli.specs.Inputs.{HasBytes, HasProgram, HasProgramTree, HasHost, HasTrace}
 use Rattle.gp_cli.specs.Answer.{IsTrue, Answered, replied, no_memory, out_fault, err_fault}
-use Rattle.gp_cli.specs.Completes.{IsOneOf, Stays, NoSinkFails, NothingFails, Refuses, RunCompletes, CheckCompletes, ChecksRuns, FmtCompletes, FormatsAgain, StepCompletes, DemoCompletes, RefusesWords, files_of, RefusesProgram, RefusesHost, RefusesTrace, RefusesResult, RefusesScript, RefusesTree, RefusesDemoProgram, RefusesDemoHost, TellsFaults, Completes}
+use Rattle.gp_cli.specs.Completes.{IsOneOf, Stays, NoSinkFails, NothingFails, Refuses, RunCompletes, CheckCompletes, ChecksRuns, TellsDerivation, FmtCompletes, FormatsTheSame, FormatsAgain, StepCompletes, DemoCompletes, RefusesWords, files_of, RefusesProgram, RefusesHost, RefusesTrace, RefusesResult, RefusesScript, RefusesTree, RefusesDemoProgram, RefusesDemoHost, TellsFaults, Completes}
 use Rattle.gp_cli.specs.Written.{TakesAll}
 use Rattle.gp_cli.proofs.Held.{same_program, same_host}
 use Rattle.gp_cli.proofs.Causes.{status_of, shown, OfRun, OfDemo, of_run, of_demo_answer, of_demo_program, of_demo_host, MayBeUnread, never_unread, of_both, of_faulty_program, of_faulty_host, of_check, of_faulty_trace, of_long_result, of_step, of_faulty_script}
 use Rattle.gp_cli.proofs.Commands.{by_command, no_command, both_of_command}
-use Rattle.gp_cli.proofs.Formats.{of_tree, of_treeless, is_written, read_back, gives_again}
+use Rattle.gp_cli.proofs.Formats.{of_tree, of_treeless, is_written, read_back, writes_the_same, gives_again}
 use Rattle.gp_cli.proofs.Ran.{derived}
 
 -- what holds of the texts of programs
@@ -27,6 +28,7 @@ pub record Laws : Type 0 where
   pub one_program : TextsHaveOneProgram
   pub trees : TreesHaveNoFault
   pub read : CanonicalTextsAreRead
+  pub mean : CanonicalTextsMeanTheSame
   pub stay : CanonicalTextsStay
 
 stayed : {before now : KnownSink} {pieces : List (List ℕ)} → TakesAll before now pieces → before.faults < now.faults → ⊥
@@ -37,6 +39,9 @@ OfCheck = IsOneOf (0 ∷ 1 ∷ 7 ∷ [])
 
 abbrev OfStep : ℕ → Type 0
 OfStep = IsOneOf (0 ∷ 5 ∷ 6 ∷ 7 ∷ [])
+
+fmts_the_same : {words : List Name} {old new : KnownFiles} → CanonicalTextsAreRead → CanonicalTextsMeanTheSame → FormatsTheSame words old new
+fmts_the_same read mean k journal result text w r = writes_the_same read mean k w r
 
 module _ {words : List Name} {old new : KnownFiles} {out_old out_new err_old err_new : KnownSink} where
   -- ---- what is written: a reply, want of memory, or a failed write
@@ -76,26 +81,37 @@ module _ {words : List Name} {old new : KnownFiles} {out_old out_new err_old err
       answers_well OfRun (inr (inr (inr (inr (inl refl)))))
       (λ said is. of_both known OfRun (never_unread OfRun n) faultless hp hh (λ q others h kp kh x. of_run x) (by_command (run k) w is)) not_out not_err a
 
-  checks_complete : {s : ℕ} → TextsHaveNoFault → Answered words old new out_old out_new err_old err_new s → CheckCompletes words old new out_old out_new err_old err_new s
-  checks_complete faultless a held k p names g version items text known w hp hh ht hr n not_out not_err =
-      let never = never_unread OfCheck n in
-      answers_well OfCheck (inr (inr (inl refl)))
-      (λ said is. of_both known OfCheck never faultless hp hh (λ q others h kp kh x. of_check known OfCheck never ht hr (inl refl) (λ none. inr (inl refl)) x) (by_command (check k) w is)) not_out not_err a
+  -- the status is one of these, of which 0 has this cause, and so has 1
+  checked : {s : ℕ} → (Good : ℕ → Type 0) → Good 7 → TextsHaveNoFault → TextsHaveOneProgram → Answered words old new out_old out_new err_old err_new s → {held : Content} {k : CheckCommand} {p : Program} {names : List Name} {g : Graph}
+      {version : Version} {items : List Item} {text : List ℕ} → old.content ≡ Some held → command_of words ≡ Some (check k) → HasProgram old.content k.program p names → HasHost old.content k.host g →
+      HasTrace old.content k.trace version items → HasBytes old.content k.result text → Stays old.faults new.faults → Stays out_old.faults out_new.faults → Stays err_old.faults err_new.faults →
+      (IsDerivation p g version items text → Good 0) → ((IsDerivation p g version items text → ⊥) → Good 1) → Good s
+  checked Good seven faultless one_program a {k = k} {p = p} {g = g} {version = version} {items = items} {text = text} known w hp hh ht hr n not_out not_err zero one =
+      let never = never_unread Good n in
+      answers_well Good seven
+      (λ said is. of_both known Good never faultless hp hh
+      (λ q others h kp kh x.
+      let same_p = same_program known one_program hp kp in
+      let same_g = same_host known hh kh in
+      of_check known Good never ht hr
+      (λ d. zero (subst (λ (z : Program). IsDerivation z g version items text) (sym same_p) (subst (λ (z : Graph). IsDerivation q z version items text) (sym same_g) d)))
+      (λ none. one (λ d. none (subst (λ (z : Graph). IsDerivation q z version items text) same_g (subst (λ (z : Program). IsDerivation z g version items text) same_p d)))) x)
+      (by_command (check k) w is)) not_out not_err a
+
+  checks_complete : {s : ℕ} → TextsHaveNoFault → TextsHaveOneProgram → Answered words old new out_old out_new err_old err_new s → CheckCompletes words old new out_old out_new err_old err_new s
+  checks_complete faultless one_program a held k p names g version items text known w hp hh ht hr n not_out not_err = record {
+    either = checked OfCheck (inr (inr (inl refl))) faultless one_program a known w hp hh ht hr n not_out not_err (λ d. inl refl) (λ none. inr (inl refl));
+    derivation = λ d. checked (IsOneOf (0 ∷ 7 ∷ [])) (inr (inl refl)) faultless one_program a known w hp hh ht hr n not_out not_err (λ e. inl refl) (λ none. absurd (none d));
+    none = λ no. checked (IsOneOf (1 ∷ 7 ∷ [])) (inr (inl refl)) faultless one_program a known w hp hh ht hr n not_out not_err (λ d. absurd (no d)) (λ none. inl refl);
+  }
 
   checks_run : {s : ℕ} → TextsHaveNoFault → TextsHaveOneProgram → Answered words old new out_old out_new err_old err_new s → ChecksRuns words old new out_old out_new err_old err_new s
   checks_run faultless one_program a held k program host journal result known w written bp bh bt br n not_out not_err =
       let d = derived written in
-      let Good : ℕ → Type 0 = IsOneOf (0 ∷ 7 ∷ []) in
-      let never = never_unread Good n in
       let hp : HasProgram old.content k.program d.p _ = record { bytes = program; has = bp; tells = record { text = d.of_program; names = refl } } in
       let hh : HasHost old.content k.host d.g = record { bytes = host; has = bh; text = d.of_host } in
       let ht : HasTrace old.content k.trace Two d.items = record { bytes = journal; has = bt; text = d.of_trace } in
-      answers_well Good (inr (inl refl))
-      (λ said is. of_both known Good never faultless hp hh
-      (λ q others h kp kh x. of_check known Good never ht br (inl refl)
-      (λ none. absurd (none (subst (λ (h : Graph). IsDerivation q h Two d.items result) (same_host known hh kh)
-      (subst (λ (q : Program). IsDerivation q d.g Two d.items result) (same_program known one_program hp kp) d.derivation)))) x)
-      (by_command (check k) w is)) not_out not_err a
+      (checks_complete faultless one_program a held k d.p _ d.g Two d.items result known w hp hh ht br n not_out not_err).derivation d.derivation
 
   fmts_complete : {s : ℕ} → TreesHaveNoFault → Answered words old new out_old out_new err_old err_new s → FmtCompletes words old new out_old out_new err_old err_new s
   fmts_complete faultless a held k tree known w h n not_out not_err =
@@ -172,9 +188,10 @@ module _ {words : List Name} {old new : KnownFiles} {out_old out_new err_old err
   pub completes : {s : ℕ} → Laws → Answered words old new out_old out_new err_old err_new s → Completes words old new out_old out_new err_old err_new s
   completes laws a = record {
     runs = runs_complete laws.faultless a;
-    checks = checks_complete laws.faultless a;
+    checks = checks_complete laws.faultless laws.one_program a;
     checks_runs = checks_run laws.faultless laws.one_program a;
     formats = fmts_complete laws.trees a;
+    formats_the_same = fmts_the_same laws.read laws.mean;
     formats_again = fmts_again laws.trees laws.read laws.stay a;
     steps = steps_complete laws.faultless a;
     demos = demos_complete a;

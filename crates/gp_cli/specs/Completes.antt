@@ -1,15 +1,16 @@
 -- From the cause to the status of the top call.
-use Rattle.std.specs.Prelude.{◌≡◌, ◌⊎◌, ℕ, ◌<◌, true, List, [], ◌∷◌, Option, Some, None, option_and_then}
+use Rattle.std.specs.Prelude.{◌≡◌, ◌⊎◌, ◌↔◌, ℕ, ◌<◌, true, List, [], ◌∷◌, Option, Some, None, option_and_then}
 use Rattle.gp_io.specs.Outside.{Content, KnownFiles, KnownSink, Rose}
 use Rattle.gp_values.specs.Names.{Name}
 use Rattle.gp_values.specs.Graph.{Graph}
 use Rattle.gp_syntax.specs.declared.tree.Ast.{Ast}
 use Rattle.gp_syntax.specs.Run.{Program, Item}
 use Rattle.gp_reader.specs.declared.fault.ProgramFault.{ProgramFault}
-use Rattle.gp_reader.specs.Program.{IsProgramText, IsFaultyText}
+use Rattle.gp_reader.specs.Program.{HasTree, IsProgramText, IsFaultyText}
 use Rattle.gp_hostfile.specs.declared.fault.HostFault.{HostFault}
 use Rattle.gp_hostfile.specs.Host.{IsHostFault}
 use Rattle.gp_trace.specs.declared.version.Version.{Version}
+use Rattle.gp_derivation.specs.Derivation.{IsDerivation}
 use Rattle.gp_derivation.specs.declared.line.Line.{Line}
 use Rattle.gp_words.specs.CommandLine.{RunCommand, DemoCommand, CheckCommand, FmtCommand, StepCommand, Command, run, demo, check, fmt, step, command_of}
 use Rattle.gp_cli.specs.Inputs.{HasBytes, HasLongFile, HasProgram, HasProgramTree, HasHost, HasTrace, HasScript, HasFaultyProgram, HasTreelessProgram, HasFaultyHost, HasFaultyTrace, HasFaultyScript}
@@ -31,13 +32,19 @@ RunCompletes words old new out_old out_new err_old err_new status =
     HasProgram old.content k.program p rule_names → HasHost old.content k.host g →
     Stays old.faults new.faults → Stays out_old.faults out_new.faults → Stays err_old.faults err_new.faults → IsOneOf (0 ∷ 1 ∷ 5 ∷ 6 ∷ 7 ∷ []) status
 
+-- Which of two answers is given, or want of memory: status 0 where they are a derivation, and status 1 where they are none.
+pub record TellsDerivation (p : Program) (g : Graph) (version : Version) (items : List Item) (text : List ℕ) (status : ℕ) : Type 0 where
+  pub either : IsOneOf (0 ∷ 1 ∷ 7 ∷ []) status
+  pub derivation : IsDerivation p g version items text → IsOneOf (0 ∷ 7 ∷ []) status
+  pub none : (IsDerivation p g version items text → ⊥) → IsOneOf (1 ∷ 7 ∷ []) status
+
 -- Likewise `check` of a program, a host, a trace and a result says whether they are a derivation.
 abbrev pub CheckCompletes : List Name → KnownFiles → KnownFiles → KnownSink → KnownSink → KnownSink → KnownSink → ℕ → Type 0
 CheckCompletes words old new out_old out_new err_old err_new status =
     (held : Content) (k : CheckCommand) (p : Program) (rule_names : List Name) (g : Graph) (version : Version) (items : List Item) (text : List ℕ) →
     old.content ≡ Some held → command_of words ≡ Some (check k) → HasProgram old.content k.program p rule_names → HasHost old.content k.host g →
     HasTrace old.content k.trace version items → HasBytes old.content k.result text →
-    Stays old.faults new.faults → Stays out_old.faults out_new.faults → Stays err_old.faults err_new.faults → IsOneOf (0 ∷ 1 ∷ 7 ∷ []) status
+    Stays old.faults new.faults → Stays out_old.faults out_new.faults → Stays err_old.faults err_new.faults → TellsDerivation p g version items text status
 
 -- The journal and the result that a call of `run` wrote with status 0 or 1: its words asked for the journal, and these were
 -- the bytes of its program and of its host.
@@ -70,6 +77,20 @@ abbrev pub FmtCompletes : List Name → KnownFiles → KnownFiles → KnownSink 
 FmtCompletes words old new out_old out_new err_old err_new status =
     (held : Content) (k : FmtCommand) (tree : Ast) → old.content ≡ Some held → command_of words ≡ Some (fmt k) → HasProgramTree old.content k.program tree →
     Stays old.faults new.faults → Stays out_old.faults out_new.faults → Stays err_old.faults err_new.faults → IsOneOf (0 ∷ 7 ∷ []) status
+
+-- Both texts have this tree, and they have one program, or one fault in a name, a call or a rule.
+pub record AreOneProgram (text other : List ℕ) : Type 0 where
+  pub tree : Ast
+  pub has_tree : HasTree text tree
+  pub other_has : HasTree other tree
+  pub program : (p : Program) → IsProgramText text p ↔ IsProgramText other p
+  pub fault : (f : ProgramFault) → IsFaultyText text f ↔ IsFaultyText other f
+
+-- What `fmt` writes with status 0 is a text of the program that its file has.
+abbrev pub FormatsTheSame : List Name → KnownFiles → KnownFiles → Type 0
+FormatsTheSame words old new =
+    (k : FmtCommand) (journal result text : List ℕ) → command_of words ≡ Some (fmt k) → Replies words old new 0 journal result text →
+    (bytes : List ℕ) × HasBytes old.content k.program bytes × AreOneProgram bytes result
 
 -- The result that a call of `fmt` wrote with status 0.
 pub record HasFormatted (result : List ℕ) : Type 0 where
@@ -197,6 +218,7 @@ pub record Completes (words : List Name) (old new : KnownFiles) (out_old out_new
   pub checks : CheckCompletes words old new out_old out_new err_old err_new status
   pub checks_runs : ChecksRuns words old new out_old out_new err_old err_new status
   pub formats : FmtCompletes words old new out_old out_new err_old err_new status
+  pub formats_the_same : FormatsTheSame words old new
   pub formats_again : FormatsAgain words old new out_old out_new err_old err_new status
   pub steps : StepCompletes words old new out_old out_new err_old err_new status
   pub demos : DemoCompletes words out_old out_new err_old err_new status

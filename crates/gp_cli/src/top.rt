@@ -24,7 +24,7 @@ use crate::said::{Said, Stop, or_stopped, settled};
 use crate::status::Status;
 use crate::step::step;
 use crate::texts::reply_of;
-use gp_fmt::laws::{canonical_texts_are_read, canonical_texts_stay};
+use gp_fmt::laws::{canonical_texts_are_read, canonical_texts_mean_the_same, canonical_texts_stay};
 use gp_io::{Files, Sink};
 use gp_memory::NoMemory;
 use gp_reader::laws::{texts_have_one_fault, texts_have_one_program, texts_have_one_tree};
@@ -139,6 +139,7 @@ fn answer_words<F: Files, O: Sink, E: Sink, R: Threads + Wait + Sync>(
     texts_have_one_program();
     texts_have_one_tree();
     canonical_texts_are_read();
+    canonical_texts_mean_the_same();
     canonical_texts_stay();
     match reply_to(resources, words, files) {
         Ok(reply) => deliver(&reply, out, err),

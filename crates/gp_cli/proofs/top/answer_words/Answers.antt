@@ -12,6 +12,7 @@ returns-in-Ok-clause-complete g c =
       one_program = c.texts_have_one_program.ensures;
       trees = c.texts_have_one_tree.ensures.none;
       read = c.canonical_texts_are_read.ensures;
+      mean = c.canonical_texts_mean_the_same.ensures;
       stay = c.canonical_texts_stay.ensures;
     } in
     completes laws (delivered c.in-Ok.ensures.replies c.deliver.ensures)
@@ -26,6 +27,7 @@ returns-in-Err-clause-complete g c =
       one_program = c.texts_have_one_program.ensures;
       trees = c.texts_have_one_tree.ensures.none;
       read = c.canonical_texts_are_read.ensures;
+      mean = c.canonical_texts_mean_the_same.ensures;
       stay = c.canonical_texts_stay.ensures;
     } in
     rw c.code.ensures (completes laws (silent _ _))
