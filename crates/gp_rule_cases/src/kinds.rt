@@ -51,7 +51,6 @@ pub enum RuleKind {
     Loop,
     Order,
     Plan,
-    Probes,
     Round,
     Search,
     Step,
@@ -62,7 +61,7 @@ pub enum RuleKind {
 }
 
 /// The files of rows, `NAME.rows`, and the kind of each.
-pub const FILES: [(&'static str, Kind); 49] = [
+pub const FILES: [(&'static str, Kind); 48] = [
     ("tokens", Kind::Text(TextKind::Tokens)),
     ("token_lines", Kind::Text(TextKind::TokenLines)),
     ("classes", Kind::Text(TextKind::Classes)),
@@ -106,7 +105,6 @@ pub const FILES: [(&'static str, Kind); 49] = [
     ("numbers", Kind::Rule(RuleKind::Worth)),
     ("orders", Kind::Rule(RuleKind::Order)),
     ("plans", Kind::Rule(RuleKind::Plan)),
-    ("probes", Kind::Rule(RuleKind::Probes)),
     ("rounds", Kind::Rule(RuleKind::Round)),
     ("searches", Kind::Rule(RuleKind::Search)),
     ("steps", Kind::Rule(RuleKind::Step)),
@@ -161,7 +159,6 @@ fn answer_of_rule(kind: RuleKind, alloc: Global, fields: &[&[u8]], out: &mut Ans
         RuleKind::Loop => searches::repeated(alloc, fields, out),
         RuleKind::Order => lists::order(alloc, fields, out),
         RuleKind::Plan => searches::planned(alloc, fields, out),
-        RuleKind::Probes => searches::probes(alloc, fields, out),
         RuleKind::Round => hints::round(fields, out),
         RuleKind::Search => searches::answer(alloc, fields, out),
         RuleKind::Step => steps::answer(alloc, fields, out),

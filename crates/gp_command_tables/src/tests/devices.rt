@@ -44,6 +44,11 @@ read:
 % 9 err
 usa
 
+- 3 -
+% 
+% 9 err
+usa
+
 4 - -
 % demo closure 3 1
 % 9 out
@@ -83,6 +88,17 @@ fn check_row<R: AllocGlobal + Threads + Wait + Sync>(rt: &R, row: &str) -> Resul
 fn failing_devices_have_their_answers(rt: HostRuntime) -> Result<(), Fail> {
     for row in FAILING.split("\n\n") {
         check_row(&rt, row)?;
+    }
+    Ok(())
+}
+
+#[test]
+fn each_beginning_of_a_program_is_refused(rt: HostRuntime) -> Result<(), Fail> {
+    for count in 0..MAKE.len() {
+        let mut call = failing(Some(("run p h", "")), None, None, None);
+        call.program = &MAKE.as_bytes()[..count];
+        let told = told_of(&rt, &call, &Pacing::Free);
+        expect(told.text().starts_with(b"3 err\nprogram: "), "a beginning")?;
     }
     Ok(())
 }

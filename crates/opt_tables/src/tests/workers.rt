@@ -115,17 +115,27 @@ fn was_set(flag: &AtomicBool) -> bool {
     false
 }
 
-// Holds a worker in its search until the goal was stopped.
+// Holds a worker in its search until the goal was stopped. Whether either waited in vain is told.
 #[derive(Drop)]
 struct UntilStopped {
     searched: AtomicBool,
     stopped: AtomicBool,
+    is_late: AtomicBool,
+}
+
+impl UntilStopped {
+    // Waits until the flag is set.
+    fn wait_for(&self, flag: &AtomicBool) {
+        if !was_set(flag) {
+            self.is_late.store(true, Ordering::SeqCst);
+        }
+    }
 }
 
 impl Pace for UntilStopped {
     fn searched(&self, _rt: &impl Wait, _worker: u32, _told: u64) {
         self.searched.store(true, Ordering::SeqCst);
-        was_set(&self.stopped);
+        self.wait_for(&self.stopped);
     }
 
     fn turned(&self, _rt: &impl Wait, _worker: u32, _told: u64, _committed: bool) {}
@@ -143,7 +153,7 @@ fn stop_by_hand<R: Wait>(
     requires system { s.now ≡ (start_of gate.now).system }
     ensures { IsPassOf gate.now result }
 {
-    was_set(&pace.searched);
+    pace.wait_for(&pace.searched);
     gate.turn(rt, &mut pass, s, Ask::Stop);
     pace.stopped.store(true, Ordering::SeqCst);
     pass
@@ -158,6 +168,7 @@ fn stopped_in_search<R: Threads + Wait + Sync>(rt: &R, alloc: Global) -> Result<
     let pace = UntilStopped {
         searched: AtomicBool::new(false),
         stopped: AtomicBool::new(false),
+        is_late: AtomicBool::new(false),
     };
     let (door, held) = (&gate, &pace);
     let (mut p, q) = thread::join(
@@ -174,10 +185,13 @@ fn stopped_in_search<R: Threads + Wait + Sync>(rt: &R, alloc: Global) -> Result<
     );
     p.join(&gate, q);
     put_core(gate.close(rt, p), &mut told);
+    if !pace.is_late.load(Ordering::SeqCst) {
+        told.put(", in time");
+    }
     Ok(told)
 }
 
 #[test]
 fn a_stop_by_hand_ends_a_worker_that_is_held_in_its_search(rt: HostRuntime) -> Result<(), Fail> {
-    stopped_in_search(&rt, rt.alloc())?.expect("[] 10 stopped")
+    stopped_in_search(&rt, rt.alloc())?.expect("[] 10 stopped, in time")
 }

@@ -1,4 +1,6 @@
-//! Cores of two shares over the rules of a program.
+//! Cores of two shares, or one, over the rules of a program.
+
+ghost use Rattle.std.specs.Prelude.{◌<◌};
 
 use super::told_by;
 use crate::tests::answers::Answer;
@@ -24,6 +26,8 @@ const NONE: &str = "[ | ]";
 pub(crate) const ONE: &str = "[ (a, 1) | ]";
 
 const TWO: &str = "[ (a, 1) (b, 2) | ]";
+
+const THREE: &str = "[ (a, 1) (b, 2) (c, 3) | ]";
 
 const GREATEST: &str = "[ (a, 170141183460469231731687303715884105727) | ]";
 
@@ -117,15 +121,48 @@ const ON_RULES: [Row; 8] = [
     ),
 ];
 
-// What the events of a row are answered.
-fn told_of_rules(alloc: Global, row: &Row) -> Result<Answer, Fail> {
+// The same with one share. The sender of a batch was told of no entry: it has up to so many matches.
+const BATCHES: [Row; 3] = [
+    // a batch is committed whole: AnswersBatch, with `left_after Saturate` for each
+    (
+        DEL,
+        THREE,
+        Mode::Saturate,
+        10,
+        "batch 3",
+        "batched 0 3, [0/0, 0/1, 0/2] 4 running",
+    ),
+    // up to where the items are spent
+    (
+        DEL,
+        THREE,
+        Mode::Saturate,
+        3,
+        "batch 3",
+        "batched 0 2 closed bound, [0/0, 0/1] 0 bound",
+    ),
+    // or up to a match that does not apply any more
+    (
+        DEL,
+        THREE,
+        Mode::Saturate,
+        10,
+        "offer 0 0/1, batch 3",
+        "committed 0, batched 1 1 stale 2, [0/1, 0/0] 6 running",
+    ),
+];
+
+// What the events of a row are answered by a core of so many shares.
+fn told_of_rules(alloc: Global, row: &Row, shares: u32) -> Result<Answer, Fail>
+    requires { 0 < shares }
+{
     let (program, host, mode, items, events, _) = *row;
     let goal = CallGoal { call: 0, mode };
     let base = Trail::new(alloc, read_host(alloc, host.as_bytes())?);
     let mut at = base.copy()?;
     let program = read_program(alloc, program.as_bytes())?;
     let plans = plans_of(alloc, program.parts().rules.as_slice())?;
-    let system = Gp::new(alloc, &program, &plans, 2);
+    let system = Gp::new(alloc, &program, &plans, shares);
     match Core::start(alloc, &system, base.copy()?, goal, items) {
         Ok(core) => Ok(told_by(alloc, &system, core, &base, &mut at, events)),
         Err(_) => Err(Fail::new("no core was made")),
@@ -137,7 +174,10 @@ fn cores_over_rules_answer_each_event_as_their_senders_were_told(
     rt: HostRuntime,
 ) -> Result<(), Fail> {
     for row in &ON_RULES {
-        told_of_rules(rt.alloc(), row)?.expect(row.5)?;
+        told_of_rules(rt.alloc(), row, 2)?.expect(row.5)?;
+    }
+    for row in &BATCHES {
+        told_of_rules(rt.alloc(), row, 1)?.expect(row.5)?;
     }
     Ok(())
 }
