@@ -1,5 +1,5 @@
-# Asked of a result: the chart that its program has, drawn anew, is the host. Texts in a host tell its boxes apart.
-# It reads the lines of `scripts/graph-to-dot --lines`, `host` or `result` before each.
+# Checks that the chart of the resulting program, drawn again, is the host. The texts in a host tell its boxes apart.
+# Reads the lines of `scripts/graph-to-dot --lines`, each after the word `host` or `result`.
 $1 == "host" && $2 == "node" { text[$3] = $6; if (used[$6]++) { print "two boxes " $6; wrong = 1 } }
 $1 == "host" && $2 == "edge" { wanted[text[$4] " " $7 " " text[$5]]++; wanted_edges++ }
 $1 == "result" && $2 == "node" { nodes++; words = split(substr($6, 2, length($6) - 2), word, "\":\""); if ($4 != "-" || $5 != "-") { print "a root, or marked"; wrong = 1 } }

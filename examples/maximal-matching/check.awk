@@ -1,5 +1,5 @@
-# Several results are right: which edges are taken depends on their order.
-# It reads the lines of `scripts/graph-to-dot --lines`, `host` or `result` before each.
+# Several results are correct: which edges are taken depends on their order.
+# Reads the lines of `scripts/graph-to-dot --lines`, each after the word `host` or `result`.
 $1 == "host" && $2 == "edge" { edges_wanted++ }
 $1 == "result" && $2 == "node" { is_grey[$3] = ($5 == "grey"); taken[$3] += 0 }
 $1 == "result" && $2 == "edge" { from[++edges] = $4; to[edges] = $5; if ($6 == "red") { taken[$4]++; taken[$5]++ } }

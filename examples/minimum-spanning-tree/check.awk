@@ -1,5 +1,5 @@
-# Several results are right: edges of one weight may stand for each other. The sum has to be that of Kruskal's algorithm.
-# It reads the lines of `scripts/graph-to-dot --lines`, `host` or `result` before each.
+# Several results are correct: edges of the same weight may replace each other. The sum must be that of Kruskal's algorithm.
+# Reads the lines of `scripts/graph-to-dot --lines`, each after the word `host` or `result`.
 $2 == "node" { place[$1, $3] = nodes[$1]++; label[$1, nodes[$1]] = $6 }
 $1 == "result" && $2 == "node" && ($4 != "-" || $5 != "-") { print $3 " is a root or marked"; wrong = 1 }
 $2 == "edge" { edges[$1]++; same[place[$1, $4] " " place[$1, $5] " " $7] += $1 == "host" ? 1 : -1 }

@@ -1,6 +1,6 @@
-# Several results are right: which transition fires is left open. The tokens have to follow from the numbers of firings.
-# The net has to be dead, or has fired as often as it may.
-# It reads the lines of `scripts/graph-to-dot --lines`, `host` or `result` before each.
+# Several results are correct: which transition fires is left open. The tokens must follow from the numbers of firings.
+# The net must be dead, or have fired as often as it may.
+# Reads the lines of `scripts/graph-to-dot --lines`, each after the word `host` or `result`.
 $2 == "node" { place[$1, $3] = ++nodes[$1]; label[$1, nodes[$1]] = $6 }
 $1 == "host" && $2 == "node" && $4 == "R" { limit = $6 }
 $1 == "result" && $2 == "node" && $4 == "R" { left = $6; roots++; if ($5 != "-") { print "the root is marked"; wrong = 1 } }

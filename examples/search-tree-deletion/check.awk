@@ -1,5 +1,5 @@
-# Asked of a result: a search tree of just the numbers that were not to be deleted.
-# It reads the lines of `scripts/graph-to-dot --lines`, `host` or `result` before each.
+# Checks that the result is a search tree of exactly the numbers that were not to be deleted.
+# Reads the lines of `scripts/graph-to-dot --lines`, each after the word `host` or `result`.
 $1 == "host" && $2 == "node" && $5 == "blue" { waiting = $6 == "empty" ? 0 : split($6, wait, ":") }
 $1 == "host" && $2 == "node" && $4 == "-" { wanted[$6] = 1 }
 $1 == "result" && $2 == "node" && $4 == "R" { if ($5 == "green") tree = $3; else { list = $6; lists++ }; roots++ }

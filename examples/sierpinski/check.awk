@@ -1,5 +1,5 @@
-# Several results are right: the nodes may be made, and so numbered, in another order. Counted are nodes, edges and degrees.
-# It reads the lines of `scripts/graph-to-dot --lines`, `host` or `result` before each.
+# Several results are correct: nodes may be created, and so numbered, in another order. Counts nodes, edges, and degrees.
+# Reads the lines of `scripts/graph-to-dot --lines`, each after the word `host` or `result`.
 $1 == "host" && $2 == "node" { generation = $6 }
 $1 == "result" && $2 == "node" { nodes++; ends[$3] += 0; if ($4 != "-" || $5 != "-") { print $3 " is a root or marked"; wrong = 1 } }
 $1 == "result" && $2 == "edge" { edges++; ends[$4]++; ends[$5]++; of_kind[$7]++; if ($6 != "-") { print $3 " is marked"; wrong = 1 } }

@@ -1,5 +1,5 @@
-# Several results are right: the search may take the edges of a node in any order.
-# It reads the lines of `scripts/graph-to-dot --lines`, `host` or `result` before each.
+# Several results are correct: the search may take the edges of a node in any order.
+# Reads the lines of `scripts/graph-to-dot --lines`, each after the word `host` or `result`.
 $1 == "host" && $2 == "edge" { edges_wanted++ }
 $1 == "result" && $2 == "node" { is_grey[$3] = ($5 == "grey"); grey += is_grey[$3]; if ($4 == "R") { reached[$3] = 1; roots++ } }
 $1 == "result" && $2 == "edge" { from[++edges] = $4; to[edges] = $5; is_red[edges] = ($6 == "red"); red += is_red[edges] }

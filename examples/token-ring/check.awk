@@ -1,5 +1,5 @@
-# Several results are right: where the token is at the end depends on when a process asks.
-# It reads the lines of `scripts/graph-to-dot --lines`, `host` or `result` before each.
+# Several results are correct: where the token is at the end depends on when a process asks for it.
+# Reads the lines of `scripts/graph-to-dot --lines`, each after the word `host` or `result`.
 $1 == "host" && $2 == "node" { processes++ }
 $1 == "result" && $2 == "node" { left++; tokens += ($4 == "R") }
 $1 == "result" && $2 == "node" && ($5 != "-" || $6 !~ /:0$/) { print $3 " is not done: " $6; wrong = 1 }

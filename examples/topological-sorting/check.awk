@@ -1,5 +1,5 @@
-# Several results are right: nodes without a path between them may come in either order.
-# It reads the lines of `scripts/graph-to-dot --lines`, `host` or `result` before each.
+# Several results are correct: nodes without a path between them may be in either order.
+# Reads the lines of `scripts/graph-to-dot --lines`, each after the word `host` or `result`.
 $1 == "host" && $2 == "node" { wanted++ }
 $1 == "host" && $2 == "edge" { edges_wanted++ }
 $1 == "result" && $2 == "node" { split($6, part, ":"); number[$3] = part[1]; if ($5 == "grey") seen[part[1]]++ }

@@ -1,5 +1,5 @@
-# Two results are right where edges with two labels stand side by side. The edges that may stay are worked out anew.
-# It reads the lines of `scripts/graph-to-dot --lines`, `host` or `result` before each.
+# Two results are correct if parallel edges have different labels. Works out again which edges may stay.
+# Reads the lines of `scripts/graph-to-dot --lines`, each after the word `host` or `result`.
 $2 == "node" { place[$1, $3] = ++nodes[$1]; label[$1, nodes[$1]] = $6 }
 $1 == "result" && $2 == "node" && ($4 != "-" || $5 != "-") { print $3 " is a root or marked"; wrong = 1 }
 $1 == "host" && $2 == "edge" { from = place[$1, $4]; to = place[$1, $5]; there[from, to, $7] = 1 }

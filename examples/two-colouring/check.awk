@@ -1,5 +1,5 @@
-# Several results are right: each part of the graph may be coloured the other way round.
-# It reads the lines of `scripts/graph-to-dot --lines`, `host` or `result` before each.
+# Several results are correct: the two colors may be swapped in each component of the graph.
+# Reads the lines of `scripts/graph-to-dot --lines`, each after the word `host` or `result`.
 $2 == "node" { label[$1, $3] = $6; if ($1 == "result") colour[$3] = $5; nodes[$1]++ }
 $2 == "edge" { edges[$1] = edges[$1] " " $4 ">" $5; if ($1 == "result") { from[++count] = $4; to[count] = $5 } }
 END {

@@ -1,5 +1,5 @@
-# Several results are right: new nodes may be numbered in another order. The types are worked out anew.
-# It reads the lines of `scripts/graph-to-dot --lines`, `host` or `result` before each.
+# Several results are correct: new nodes may be numbered in another order. Works out the types again.
+# Reads the lines of `scripts/graph-to-dot --lines`, each after the word `host` or `result`.
 $2 == "node" { n = place[$1, $3] = ++nodes[$1]; label[$1, n] = $6; mark[n] = $5; if ($4 == "R") { root[$1] = n; roots[$1]++ } }
 $2 == "edge" {
   from = place[$1, $4]; to = place[$1, $5]

@@ -22,7 +22,7 @@ function read_row(file, cells,   line, got, count, cell) {
         sub(/\r$/, "", line)
       }
       cells[count] = cell substr(line, 1, RLENGTH - 1); line = substr(line, RLENGTH + 1)
-      if (line != "" && substr(line, 1, 1) != separator) refuse(file_name ", line " row_line, "something stands behind the closing quotation mark of a cell")
+      if (line != "" && substr(line, 1, 1) != separator) refuse(file_name ", line " row_line, "something follows the closing quotation mark of a cell")
     } else {
       got = index(line, separator)
       cells[count] = got ? substr(line, 1, got - 1) : line
@@ -55,14 +55,14 @@ function wanted_column(name) {
 
 # The place of a column that may be missing, or 0.
 function taken_column(name) {
-  if (name in column_twice) refuse(file_name, "two columns " told(name))
+  if (name in column_twice) refuse(file_name, "two columns are named " told(name))
   return name in column ? column[name] : 0
 }
 
 function next_row(file, cells,   count) {
   count = read_row(file, cells)
   where_row = file_name ", line " row_line
-  if (count != 0 && count != columns) refuse(where_row, count (count == 1 ? " cell" : " cells") ", and there are " columns " columns")
+  if (count != 0 && count != columns) refuse(where_row, count (count == 1 ? " cell" : " cells") ", but there are " columns " columns")
   return count
 }
 

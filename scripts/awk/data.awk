@@ -21,12 +21,12 @@ function is_integer(text) { return text ~ /^(0|-?[1-9][0-9]*)$/ }
 
 function check_range(number, where,   limit, size) {
   limit = "170141183460469231731687303715884105728"; size = magnitude(number)
-  if (is_less(limit, size) || (number !~ /^-/ && size == limit)) refuse(where, told(number) " is past 128 bits")
+  if (is_less(limit, size) || (number !~ /^-/ && size == limit)) refuse(where, told(number) " does not fit into 128 bits")
 }
 
 function check_string(text, where) {
-  if (text ~ /"/) refuse(where, "a quotation mark in " told(text) ": no string of a host has one")
-  if (text ~ /[^ -~]/) refuse(where, "a character outside 32 to 126 in " told(text) ": no string of a host has one")
+  if (text ~ /"/) refuse(where, "a quotation mark in " told(text) ": a string in a host cannot contain one")
+  if (text ~ /[^ -~]/) refuse(where, "a character outside 32 to 126 in " told(text) ": a string in a host cannot contain one")
 }
 
 function integer_atom(text, where) { check_range(text, where); return text }
@@ -55,20 +55,20 @@ function said_list(text, where,   list) {
   if (text ~ /[^ -~\t\r\n]/) check_string(text, where)
   tokens = 0; in_comment = 0; cut_line(text)
   list = in_comment ? "no list" : list_of_tokens(1, tokens, where)
-  if (list == "no list") refuse(where, told(text) " is no list as a host writes it")
+  if (list == "no list") refuse(where, told(text) " is not a list in the notation of hosts")
   return list
 }
 
 function check_mark(kind, mark, where) {
   if (mark != "" && mark !~ (kind == "node" ? "^(red|green|blue|grey)$" : "^(red|green|blue|dashed)$"))
-    refuse(where, told(mark) " is no mark of " (kind == "node" ? "a node" : "an edge"))
+    refuse(where, told(mark) " is not a mark for " (kind == "node" ? "a node" : "an edge"))
   return mark
 }
 
 function is_root(text, where,   word) {
   word = tolower(text)
   if (word ~ /^(true|1)$/) return 1
-  if (word !~ /^(false|0)?$/) refuse(where, told(text) " stands for a root, and is neither true nor false")
+  if (word !~ /^(false|0)?$/) refuse(where, told(text) " should say whether the node is a root, but is neither true nor false")
   return 0
 }
 
@@ -100,7 +100,7 @@ function after_list(list, mark) { return shown(list) (mark == "" ? "" : " # " ma
 function write_host(   i, name, taken) {
   for (i = 0; i < made_nodes; i++) if (is_name(id_of[i])) taken[id_of[i]] = 1
   for (i = 0; i < made_nodes; i++) {
-    advice = " (a node's name is its label, unless --node-label says another or none)"
+    advice = " (the label of a node is its name, unless --node-label says otherwise)"
     if (!has_list[i]) n_list[i] = plain_atom(id_of[i], place_of[i])
     advice = ""
     name[i] = id_of[i]
@@ -122,7 +122,7 @@ function write_host(   i, name, taken) {
 # The list of node or edge i, whose label has the tokens `first` to `last`.
 function checked_list(first, last, where,   list) {
   list = list_of_tokens(first, last, where)
-  if (list == "no list") refuse(where, "its label is no list as a host writes it")
+  if (list == "no list") refuse(where, "its label is not a list in the notation of hosts")
   return list
 }
 
@@ -134,21 +134,21 @@ function is_item(name, is_rooted, comma, last, has_mark) {
 
 function read_checked(file,   i, where, seen) {
   read_tokens(file)
-  if (read_graph(1) <= tokens) refuse("", "no graph: something stands behind `]`")
+  if (read_graph(1) <= tokens) refuse("", "not a graph: something follows `]`")
   for (i = 0; i < node_count; i++) {
     where = "node " told(node[i])
-    if (!is_name(node[i])) refuse(where, "no name of a host")
-    if (!is_item(node[i], root[i], from[i] - 1, to[i], mark[i] != "")) refuse(where, "no node as a host writes it")
+    if (!is_name(node[i])) refuse(where, "not a valid name in a host")
+    if (!is_item(node[i], root[i], from[i] - 1, to[i], mark[i] != "")) refuse(where, "not a node in the notation of hosts")
     if (("node", node[i]) in seen) refuse(where, "two nodes have this name")
     seen["node", node[i]] = 1; called[node[i]] = node[i]
     n_list[node[i]] = checked_list(from[i], to[i], where); check_mark("node", mark[i], where)
   }
   for (i = 0; i < edge_count; i++) {
     where = "edge " told(edge[i])
-    if (!is_name(edge[i])) refuse(where, "no name of a host")
+    if (!is_name(edge[i])) refuse(where, "not a valid name in a host")
     if (("edge", edge[i]) in seen) refuse(where, "two edges have this name")
     if (both[i] || token[edge_from[i] - 6] != edge[i] || token[edge_from[i] - 4] != source[i] ||
-      !is_item(target[i], 0, edge_from[i] - 1, edge_to[i], edge_mark[i] != "")) refuse(where, "no edge as a host writes it")
+      !is_item(target[i], 0, edge_from[i] - 1, edge_to[i], edge_mark[i] != "")) refuse(where, "not an edge in the notation of hosts")
     seen["edge", edge[i]] = 1
     if (!(("node", source[i]) in seen)) refuse(where, "there is no node " told(source[i]))
     if (!(("node", target[i]) in seen)) refuse(where, "there is no node " told(target[i]))
@@ -160,10 +160,10 @@ function read_checked(file,   i, where, seen) {
 function call_by_labels(   i, atom, text, where, other) {
   for (i = 0; i < node_count; i++) {
     where = "node " told(node[i])
-    if (n_list[node[i]] == "") refuse(where, "its label has no atom, so it has no name by its label")
+    if (n_list[node[i]] == "") refuse(where, "its label has no atom, so --by-label gives it no name")
     split(n_list[node[i]], atom, "\t")
     text = plain_text(atom[1])
-    if (text == "") refuse(where, "its label begins with the empty string, which is no name")
+    if (text == "") refuse(where, "its label begins with the empty string, which is not a name")
     if (text in other) refuse(where, "it has the name " told(text) " by its label, as node " told(other[text]))
     other[text] = node[i]; called[node[i]] = text
   }

@@ -33,7 +33,7 @@ function read_nodes(file,   cells, id, list_places, list_count, how, mark, root,
 }
 
 function end_of(id) {
-  if (id == "") refuse(where_row, "an edge without a node at an end")
+  if (id == "") refuse(where_row, "an edge without a source or a target")
   if (has_nodes || (id in number_of)) return node_of(id, where_row)
   return new_node(id, where_row)
 }

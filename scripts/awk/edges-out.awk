@@ -4,7 +4,7 @@
 function cells_of(list, names, count, where,   i, atom, spare, text, row) {
   if (count < 0) return csv(shown(list))
   spare = list == "" ? 0 : split(list, atom, "\t")
-  if (spare > count) refuse(where, "its label has " spare (spare == 1 ? " atom" : " atoms") ", and columns are named for " count)
+  if (spare > count) refuse(where, "its label has " spare (spare == 1 ? " atom" : " atoms") ", but columns are named for only " count)
   for (i = 1; i <= count; i++) {
     text = i > spare ? "" : plain_text(atom[i])
     if (i <= spare && atom[i] ~ /^"/ && (text == "" || is_integer(text)))

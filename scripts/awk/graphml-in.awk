@@ -45,11 +45,11 @@ function read_data(name,   id, kept) {
       id = needed("key")
       if (!(id in key_name)) refuse(tag_place(), "there is no key " told(id))
       if (!(key_name[id] in used)) { pass_element(); continue }
-      if (key_name[id] in said) refuse(tag_place(), "data of the name " told(key_name[id]) " for the second time in one " name)
+      if (key_name[id] in said) refuse(tag_place(), "data named " told(key_name[id]) " for the second time in one " name)
       said_place[key_name[id]] = tag_place()
       said[key_name[id]] = content("data"); said_type[key_name[id]] = key_type[id]
     } else if (tag ~ /^(graph|hyperedge|port|endpoint)$/)
-      refuse(tag_place(), "<" tag "> in a " name ": no host has that")
+      refuse(tag_place(), "<" tag "> in a " name ": a host cannot represent that")
     else pass_element()
   }
 }
@@ -68,7 +68,7 @@ function typed_atom(name,   text) {
   text = said[name]
   if (said_type[name] !~ /^(int|integer|long)$/) return string_atom(text, said_place[name])
   gsub(/^[ \t\r\n]+|[ \t\r\n]+$/, "", text); sub(/^\+/, "", text)
-  if (text !~ /^-?[0-9]+$/) refuse(said_place[name], told(text) " is no integer, and its key has the type " said_type[name])
+  if (text !~ /^-?[0-9]+$/) refuse(said_place[name], told(text) " is not an integer, but its key has the type " said_type[name])
   text = signed(text ~ /^-/, trimmed(magnitude(text)))
   return integer_atom(text, said_place[name])
 }
@@ -114,12 +114,12 @@ function read_edge(   from_id, to_id, where, list) {
 
 function read_graphml_graph(   i) {
   graphs++
-  if (graphs > 1) refuse(tag_place(), "a second graph: a host is one")
+  if (graphs > 1) refuse(tag_place(), "a second graph: a host is a single graph")
   if (is_closed) return
   while (next_tag() && tag != "/graph") {
     if (tag == "node") read_node()
     else if (tag == "edge") read_edge()
-    else if (tag ~ /^(graph|hyperedge)$/) refuse(tag_place(), "<" tag ">: no host has that")
+    else if (tag ~ /^(graph|hyperedge)$/) refuse(tag_place(), "<" tag ">: a host cannot represent that")
     else pass_element()
   }
   for (i = 0; i < made_edges; i++) {
@@ -144,15 +144,15 @@ BEGIN {
   edge_columns = choose(ENVIRON["LABEL"], ENVIRON["HAS_LABEL"], edge_names)
   node_columns = choose(ENVIRON["NODE_LABEL"], ENVIRON["HAS_NODE_LABEL"], node_names)
   read_xml(ENVIRON["FILE"])
-  if (!next_tag()) refuse(xml_name, "no GraphML: there is no tag")
-  if (tag != "graphml") refuse(tag_place(), "no GraphML: the first tag is " told("<" tag ">"))
+  if (!next_tag()) refuse(xml_name, "not GraphML: there is no tag")
+  if (tag != "graphml") refuse(tag_place(), "not GraphML: the first tag is " told("<" tag ">"))
   if (!is_closed) while (next_tag() && tag != "/graphml") {
     if (tag == "key") read_key()
     else if (tag == "graph") read_graphml_graph()
     else pass_element()
   }
-  if (next_tag()) refuse(tag_place(), "no XML: <" tag "> stands behind the end")
-  if (graphs == 0) refuse(xml_name, "there is no graph in it")
+  if (next_tag()) refuse(tag_place(), "not XML: <" tag "> follows the end")
+  if (graphs == 0) refuse(xml_name, "it contains no graph")
   check_names("label", ENVIRON["HAS_LABEL"], edge_names, edge_columns, "edge")
   check_names("label", ENVIRON["HAS_NODE_LABEL"], node_names, node_columns, "node")
   write_host()

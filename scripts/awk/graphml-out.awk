@@ -12,14 +12,14 @@ function add_key(id, kind, name, type) {
 function note_types(kind, list, count, where,   i, atom, spare, type, size) {
   if (count < 0) return
   spare = list == "" ? 0 : split(list, atom, "\t")
-  if (spare > count) refuse(where, "its label has " spare (spare == 1 ? " atom" : " atoms") ", and names are given for " count)
+  if (spare > count) refuse(where, "its label has " spare (spare == 1 ? " atom" : " atoms") ", but names are given for only " count)
   for (i = 1; i <= spare; i++) {
     type = atom[i] ~ /^"/ ? "string" : "long"
     size = magnitude(atom[i])
     if (type == "long" && (is_less("9223372036854775808", size) || (atom[i] !~ /^-/ && size == "9223372036854775808")))
-      refuse(where, told(atom[i]) " is past 64 bits, and data of the type long have no more")
+      refuse(where, told(atom[i]) " does not fit into 64 bits, as data of type long must")
     if (((kind, i) in type_of) && type_of[kind, i] != type)
-      refuse(where, told(atom[i]) " is " (type == "long" ? "an integer" : "a string") ", and others in its place are not: data of one name have one type")
+      refuse(where, told(atom[i]) " is " (type == "long" ? "an integer" : "a string") ", but others in its place are not: all data of one name have the same type")
     type_of[kind, i] = type
   }
 }

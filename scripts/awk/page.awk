@@ -2,14 +2,14 @@
 
 function html(text) { gsub(/&/, "\\&amp;", text); gsub(/</, "\\&lt;", text); gsub(/>/, "\\&gt;", text); gsub(/"/, "\\&quot;", text); return text }
 
-# What an item means, for who reads no journals.
+# What an item means, for readers who do not know journals.
 function note(item, rule,   word, count) {
   split(item, word, " ")
-  if (word[1] == "step") return "a step of the rule " rule " comes next: what it takes is bold"
-  if (word[1] == "turn") return "a turn of a loop begins next"
+  if (word[1] == "step") return "next: a step of the rule " rule "; what it matches is bold"
+  if (word[1] == "turn") return "next: a turn of a loop begins"
   count = word[2] + 0
   if (word[1] == "back")
-    return "what was tried is taken back next: " (count == 0 ? "it made no step" : count == 1 ? "the last step" : "the last " count " steps")
+    return "next: what was tried is undone (" (count == 0 ? "it made no step" : count == 1 ? "the last step" : "the last " count " steps") ")"
   return rule == "fail" ? "the program failed, at this graph" : "the result"
 }
 

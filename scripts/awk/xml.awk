@@ -10,7 +10,7 @@ function read_xml(file) {
   RS = "<"
   if ((getline piece <file) <= 0) refuse(xml_name, "cannot be read, or is empty")
   sub(/^\357\273\277/, "", piece)
-  if (piece !~ /^[ \t\r\n]*$/) refuse(xml_name, "no XML: it begins with " told(piece))
+  if (piece !~ /^[ \t\r\n]*$/) refuse(xml_name, "not XML: it begins with " told(piece))
   xml_next = 1 + lines_in(piece)
 }
 
@@ -28,7 +28,7 @@ function raw_piece() {
 function passed_over(opening, closing,   text, at) {
   text = substr(piece, length(opening) + 1)
   while (!(at = index(text, closing))) {
-    if ((getline piece <xml_file) <= 0) refuse(xml_place(), "no XML: " told("<" opening) " has no end")
+    if ((getline piece <xml_file) <= 0) refuse(xml_place(), "not XML: " told("<" opening) " has no end")
     xml_next += lines_in(piece)
     text = text "<" piece
   }
@@ -41,7 +41,7 @@ function decoded(text,   made, at, name) {
   while (at = index(text, "&")) {
     made = made substr(text, 1, at - 1); text = substr(text, at + 1)
     at = index(text, ";")
-    if (!at) refuse(xml_place(), "no XML: an `&` that begins no reference")
+    if (!at) refuse(xml_place(), "not XML: an `&` that does not begin a reference")
     name = substr(text, 1, at - 1); text = substr(text, at + 1)
     made = made referred(name)
   }
@@ -58,8 +58,8 @@ function referred(name,   code, i, digit) {
   if (name ~ /^#[0-9]+$/) code = substr(name, 2) + 0
   else if (name ~ /^#x[0-9A-Fa-f]+$/)
     for (i = 3; i <= length(name); i++) code = 16 * code + index("0123456789abcdef", tolower(substr(name, i, 1))) - 1
-  else refuse(xml_place(), "no XML: the reference " told("&" name ";") " stands for nothing known here")
-  if (code < 1 || code > 1114111) refuse(xml_place(), "no XML: there is no character " told("&" name ";"))
+  else refuse(xml_place(), "not XML: the reference " told("&" name ";") " is not known")
+  if (code < 1 || code > 1114111) refuse(xml_place(), "not XML: there is no character " told("&" name ";"))
   if (code < 128) return sprintf("%c", code)
   if (code < 2048) return sprintf("%c%c", 192 + int(code / 64), 128 + code % 64)
   if (code < 65536) return sprintf("%c%c%c", 224 + int(code / 4096), 128 + int(code / 64) % 64, 128 + code % 64)
@@ -73,7 +73,7 @@ function read_attributes(   name, value) {
     value = substr(piece, 1, RLENGTH); piece = substr(piece, RLENGTH + 1)
     name = value; sub(/[ \t\r\n]*=.*/, "", name); sub(/^[ \t\r\n]+/, "", name)
     sub(/^[^=]*=[ \t\r\n]*/, "", value)
-    if (name in attribute) refuse(xml_place(), "no XML: two attributes " told(name))
+    if (name in attribute) refuse(xml_place(), "not XML: two attributes " told(name))
     attribute[name] = decoded(substr(value, 2, length(value) - 2))
   }
   sub(/^[ \t\r\n]+/, "", piece)
@@ -95,17 +95,17 @@ function text_behind(   made) {
 function next_tag(   name) {
   if (!xml_here) { xml_here = 1; skip_prolog() }
   if (!xml_waiting) {
-    if (depth > 0) refuse(xml_place(), "no XML: the file ends inside of " told("<" opened[depth] ">"))
+    if (depth > 0) refuse(xml_place(), "not XML: the file ends inside " told("<" opened[depth] ">"))
     return 0
   }
-  if (!match(piece, /^\/?[A-Za-z_:][-A-Za-z0-9_.:]*/)) refuse(xml_place(), "no XML: " told("<" substr(piece, 1, 20)) " is no tag")
+  if (!match(piece, /^\/?[A-Za-z_:][-A-Za-z0-9_.:]*/)) refuse(xml_place(), "not XML: " told("<" substr(piece, 1, 20)) " is not a tag")
   name = substr(piece, 1, RLENGTH); piece = substr(piece, RLENGTH + 1)
   read_attributes()
   is_closed = piece ~ /^\//
-  if (piece !~ /^\/?>/ || (is_closed && name ~ /^\//)) refuse(xml_place(), "no XML: the tag " told("<" name) " does not end as tags do")
+  if (piece !~ /^\/?>/ || (is_closed && name ~ /^\//)) refuse(xml_place(), "not XML: the tag " told("<" name) " does not end like a tag")
   piece = substr(piece, is_closed ? 3 : 2)
   if (name ~ /^\//) {
-    if (depth == 0 || opened[depth] != substr(name, 2)) refuse(xml_place(), "no XML: " told("<" name ">") " closes nothing that is open")
+    if (depth == 0 || opened[depth] != substr(name, 2)) refuse(xml_place(), "not XML: " told("<" name ">") " closes no open tag")
     depth--
   } else if (!is_closed) opened[++depth] = name
   tag = name; sub(/^\/[^:]*:/, "/", tag); sub(/^[^\/:]*:/, "", tag)
@@ -120,8 +120,8 @@ function skip_prolog() {
     if (piece ~ /^!--/) passed_over("!--", "-->")
     else if (piece ~ /^\?/) passed_over("?", "?>")
     else if (piece ~ /^!DOCTYPE[^[>]*>/) passed_over("!DOCTYPE", ">")
-    else if (piece ~ /^!DOCTYPE/) refuse(xml_place(), "a DOCTYPE with declarations of its own is not read here")
+    else if (piece ~ /^!DOCTYPE/) refuse(xml_place(), "a DOCTYPE with declarations is not supported")
     else return
-    if (piece !~ /^[ \t\r\n]*$/) refuse(xml_place(), "no XML: text before the first tag")
+    if (piece !~ /^[ \t\r\n]*$/) refuse(xml_place(), "not XML: text before the first tag")
   }
 }
