@@ -4,3 +4,4 @@ pub mod Held
 pub mod Edges
 pub mod Passing
 pub mod Puts
+pub mod More

@@ -8,9 +8,10 @@ ghost use Rattle.gp_hostfile.specs.inside.Stages.{Makes, AreNodes, HasEnds, tree
 
 use crate::check::{Ends, HostNames, edge_mark, integer, node_mark};
 use crate::fault::HostFault;
+use crate::names::TextNames;
 use crate::tree::{AtomTree, EdgeTree, HostTree, NodeTree};
 use gp_graph::Graph;
-use gp_values::{Atom, List, NameTable};
+use gp_values::{Atom, List};
 use std::alloc::Global;
 
 /// The graph of a tree, by its names. Where the tree has no fault, only memory can be wanting. The tree's nodes
@@ -18,7 +19,7 @@ use std::alloc::Global;
 pub(crate) fn build(
     alloc: Global,
     tree: HostTree<'_>,
-    names: &HostNames,
+    names: &HostNames<'_>,
 ) -> Result<Graph, HostFault>
     requires names { names.now.nodes ≡ node_names (tree_in tree) }
     requires ends { AllZip (HasEnds names.now.nodes) tree.edges.items names.now.ends.items }
@@ -65,7 +66,7 @@ fn build_node(alloc: Global, node: &NodeTree<'_>, graph: &mut Graph) -> Result<(
 fn build_edges(
     alloc: Global,
     edges: &[EdgeTree<'_>],
-    names: &HostNames,
+    names: &HostNames<'_>,
     graph: &mut Graph,
 ) -> Result<(), HostFault>
     requires nodes { AreNodes names.now.nodes graph.old.graph }
@@ -84,7 +85,7 @@ fn build_edge(
     alloc: Global,
     edge: &EdgeTree<'_>,
     ends: &Ends,
-    _nodes: &NameTable,
+    _nodes: &TextNames<'_>,
     graph: &mut Graph,
 ) -> Result<(), HostFault>
     requires nodes { AreNodes _nodes.now graph.old.graph }

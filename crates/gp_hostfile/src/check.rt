@@ -12,10 +12,11 @@ ghost use Rattle.gp_hostfile.specs.declared.tree.NodeTree.{NodeTree};
 ghost use Rattle.gp_hostfile.specs.declared.tree.EdgeTree.{EdgeTree};
 
 use crate::fault::HostFault;
+use crate::names::TextNames;
 use crate::tree::{AtomTree, EdgeTree, Halves, HostTree, NodeTree};
 use gp_memory::NoMemory;
 use gp_tokens::{Numeral, Slice};
-use gp_values::{EdgeMark, NameTable, NodeMark};
+use gp_values::{EdgeMark, NodeMark};
 use std::alloc::Global;
 
 /// The numbers of the nodes that the ends of an edge name.
@@ -26,12 +27,12 @@ pub(crate) struct Ends {
 }
 
 /// The names of a host: those of its nodes, and which nodes the ends of each edge name, in order.
-pub(crate) struct HostNames {
-    pub(crate) nodes: NameTable,
+pub(crate) struct HostNames<'t> {
+    pub(crate) nodes: TextNames<'t>,
     pub(crate) ends: Vec<Ends>,
 }
 
-impl Drop for HostNames {
+impl<'t> Drop for HostNames<'t> {
     fn drop(self) {
         let HostNames { nodes, ends } = self;
         drop(nodes);
@@ -40,7 +41,7 @@ impl Drop for HostNames {
 }
 
 /// Finds the first fault, or gives the names.
-pub(crate) fn check(alloc: Global, tree: &HostTree<'_>) -> Result<HostNames, HostFault>
+pub(crate) fn check<'t>(alloc: Global, tree: &HostTree<'t>) -> Result<HostNames<'t>, HostFault>
     ensures fault { Checks result (first_fault (tree_in tree.now)) }
     ensures names { IfOk result (λ h. h.nodes ≡ node_names (tree_in tree.now)) }
     ensures ends { IfOk result (λ h. AllZip (HasEnds h.nodes) tree.now.edges.items h.ends.items) }
@@ -102,13 +103,13 @@ pub(crate) fn integer(negative: bool, value: &Halves, start: u32) -> Result<i128
     }
 }
 
-fn check_node_names(alloc: Global, nodes: &[NodeTree<'_>]) -> Result<NameTable, HostFault>
+fn check_node_names<'t>(alloc: Global, nodes: &[NodeTree<'t>]) -> Result<TextNames<'t>, HostFault>
     ensures fault { Checks result (option_map faults.TwoNodes (first_doubled (map (λ (n : NodeTree). n.name) nodes.now))) }
     ensures names { IfOk result (λ t. t ≡ map (λ (n : NodeTree). n.name) nodes.now) }
 {
-    let mut names = NameTable::new(alloc);
+    let mut names = TextNames::with_room(alloc, nodes.len())?;
     for node in nodes {
-        if !names.add(alloc, node.name.as_bytes())? {
+        if !names.add(node.name.as_bytes())? {
             return Err(HostFault::TwoNodes(node.name.copy(alloc)?));
         }
     }
@@ -118,9 +119,9 @@ fn check_node_names(alloc: Global, nodes: &[NodeTree<'_>]) -> Result<NameTable, 
 fn check_edge_names(alloc: Global, edges: &[EdgeTree<'_>]) -> Result<(), HostFault>
     ensures { Checks result (option_map faults.TwoEdges (first_doubled (map (λ (e : EdgeTree). e.name) edges.now))) }
 {
-    let mut names = NameTable::new(alloc);
+    let mut names = TextNames::with_room(alloc, edges.len())?;
     for edge in edges {
-        if !names.add(alloc, edge.name.as_bytes())? {
+        if !names.add(edge.name.as_bytes())? {
             return Err(HostFault::TwoEdges(edge.name.copy(alloc)?));
         }
     }
@@ -130,7 +131,7 @@ fn check_edge_names(alloc: Global, edges: &[EdgeTree<'_>]) -> Result<(), HostFau
 fn check_ends(
     alloc: Global,
     edges: &[EdgeTree<'_>],
-    nodes: &NameTable,
+    nodes: &TextNames<'_>,
 ) -> Result<Vec<Ends>, HostFault>
     ensures fault { Checks result (first_found (ends_fault nodes.now) edges.now) }
     ensures ends { IfOk result (λ ends. AllZip (HasEnds nodes.now) edges.now ends.items) }
@@ -153,7 +154,7 @@ fn put(ends: &mut Vec<Ends>, more: Ends) -> Result<(), NoMemory>
 }
 
 // The number of the node that an end names, or the fault that it names none.
-fn end(alloc: Global, name: &Slice<'_>, nodes: &NameTable) -> Result<u64, HostFault>
+fn end(alloc: Global, name: &Slice<'_>, nodes: &TextNames<'_>) -> Result<u64, HostFault>
     ensures { Finds result (place_of nodes.now name.now) (faults.NoSuchEnd name.now) }
 {
     match nodes.place(name.as_bytes()) {

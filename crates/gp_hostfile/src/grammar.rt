@@ -7,10 +7,9 @@ ghost use Rattle.gp_hostfile.specs.Grammar as spec;
 ghost use Rattle.gp_hostfile.specs.inside.Edges.{item, placed_label, last_label};
 ghost use Rattle.gp_hostfile.specs.inside.Passing.{Passes};
 
+use crate::many::{repeated_by, separated_by};
 use crate::tree::{AtomTree, AtomTrees, EdgeTree, Halves, HostTree, NodeTree};
-use gp_tokens::{
-    Keyword, Kind, ReadError, Slice, Token, Tokens, Want, repeated_by, separated_by, stands_before,
-};
+use gp_tokens::{Cutter, Keyword, Kind, ReadError, Slice, Token, Want};
 use sqlite_items::Boxed;
 
 const OPEN: Want = Want::Kind(Kind::OpenParenthesis);
@@ -31,7 +30,7 @@ const LESS: Want = Want::Kind(Kind::Less);
 
 // Atom = ["-"] Number | String
 #[tactic(auto, unfolding(crate::specs::Grammar::atom))]
-fn read_atom(tokens: &mut Tokens<'_, '_>, _nothing: ()) -> Result<AtomTree, ReadError>
+fn read_atom(tokens: &mut Cutter<'_>, _nothing: ()) -> Result<AtomTree, ReadError>
     ensures { Reads (reader_of spec.atom tokens.old) result tokens.new }
 {
     let negative = tokens.eat(MINUS);
@@ -49,7 +48,7 @@ fn read_atom(tokens: &mut Tokens<'_, '_>, _nothing: ()) -> Result<AtomTree, Read
 
 // "empty" | Atom {":" Atom}
 #[tactic(auto, unfolding(crate::specs::Grammar::atom_list))]
-fn read_atoms(tokens: &mut Tokens<'_, '_>) -> Result<AtomTrees, ReadError>
+fn read_atoms(tokens: &mut Cutter<'_>) -> Result<AtomTrees, ReadError>
     ensures { Reads (reader_of spec.atom_list tokens.old) result tokens.new }
 {
     if tokens.eat(Want::Keyword(Keyword::Empty)) {
@@ -61,7 +60,7 @@ fn read_atoms(tokens: &mut Tokens<'_, '_>) -> Result<AtomTrees, ReadError>
 
 // ["#" Word]
 #[tactic(auto, unfolding(crate::specs::Grammar::mark))]
-fn read_mark<'t>(tokens: &mut Tokens<'_, 't>) -> Result<Option<Slice<'t>>, ReadError>
+fn read_mark<'t>(tokens: &mut Cutter<'t>) -> Result<Option<Slice<'t>>, ReadError>
     ensures { Reads (reader_of spec.mark tokens.old) result tokens.new }
 {
     if !tokens.eat(Want::Kind(Kind::Hash)) {
@@ -73,7 +72,7 @@ fn read_mark<'t>(tokens: &mut Tokens<'_, 't>) -> Result<Option<Slice<'t>>, ReadE
 
 // Label = ("empty" | Atom {":" Atom}) ["#" Word]
 #[tactic(auto, unfolding(crate::specs::Grammar::label))]
-fn read_label<'t>(tokens: &mut Tokens<'_, 't>) -> Result<(AtomTrees, Option<Slice<'t>>), ReadError>
+fn read_label<'t>(tokens: &mut Cutter<'t>) -> Result<(AtomTrees, Option<Slice<'t>>), ReadError>
     ensures { Reads (reader_of spec.label tokens.old) result tokens.new }
 {
     let atoms = read_atoms(tokens)?;
@@ -83,7 +82,7 @@ fn read_label<'t>(tokens: &mut Tokens<'_, 't>) -> Result<(AtomTrees, Option<Slic
 
 // Coord = ["-"] Number ["." Number]
 #[tactic(auto, unfolding(crate::specs::Grammar::coord))]
-fn passes_coord(tokens: &mut Tokens<'_, '_>) -> bool
+fn passes_coord(tokens: &mut Cutter<'_>) -> bool
     ensures { Passes (reader_of spec.coord tokens.old) result tokens.new }
 {
     tokens.eat(MINUS);
@@ -92,7 +91,7 @@ fn passes_coord(tokens: &mut Tokens<'_, '_>) -> bool
 
 // Position = "<" Coord "," Coord ">"
 #[tactic(auto, unfolding(crate::specs::Grammar::position))]
-fn passes_position(tokens: &mut Tokens<'_, '_>) -> bool
+fn passes_position(tokens: &mut Cutter<'_>) -> bool
     ensures { Passes (reader_of spec.position tokens.old) result tokens.new }
 {
     tokens.eat(LESS)
@@ -104,7 +103,7 @@ fn passes_position(tokens: &mut Tokens<'_, '_>) -> bool
 
 // [Position]
 #[tactic(auto, unfolding(crate::specs::Grammar::place))]
-fn passes_place(tokens: &mut Tokens<'_, '_>) -> bool
+fn passes_place(tokens: &mut Cutter<'_>) -> bool
     ensures { Passes (reader_of spec.place tokens.old) result tokens.new }
 {
     !tokens.begins(LESS) || passes_position(tokens)
@@ -112,7 +111,7 @@ fn passes_place(tokens: &mut Tokens<'_, '_>) -> bool
 
 // ["(" "R" ")"]
 #[tactic(auto, unfolding(crate::specs::Grammar::root))]
-fn read_root(tokens: &mut Tokens<'_, '_>) -> Result<bool, ReadError>
+fn read_root(tokens: &mut Cutter<'_>) -> Result<bool, ReadError>
     ensures { Reads (reader_of spec.root tokens.old) result tokens.new }
 {
     if !tokens.eat(OPEN) {
@@ -126,8 +125,8 @@ fn read_root(tokens: &mut Tokens<'_, '_>) -> Result<bool, ReadError>
 
 // A name behind a sign.
 #[tactic(auto, unfolding(crate::specs::inside::Edges::item))]
-fn read_item<'s, 't>(tokens: &mut Tokens<'s, 't>, sign: Want) -> Result<&'s Token<'t>, ReadError>
-    ensures { ReadsAs (λ x. x.now) (reader_of (item sign) tokens.old) result tokens.new }
+fn read_item<'t>(tokens: &mut Cutter<'t>, sign: Want) -> Result<Token<'t>, ReadError>
+    ensures { Reads (reader_of (item sign) tokens.old) result tokens.new }
 {
     if !tokens.eat(sign) {
         return Err(tokens.refusal());
@@ -138,7 +137,7 @@ fn read_item<'s, 't>(tokens: &mut Tokens<'s, 't>, sign: Want) -> Result<&'s Toke
 // "," Label [Position] ")"
 #[tactic(auto, unfolding(crate::specs::inside::Edges::placed_label))]
 fn read_placed_label<'t>(
-    tokens: &mut Tokens<'_, 't>,
+    tokens: &mut Cutter<'t>,
 ) -> Result<(AtomTrees, Option<Slice<'t>>), ReadError>
     ensures { Reads (reader_of placed_label tokens.old) result tokens.new }
 {
@@ -152,7 +151,7 @@ fn read_placed_label<'t>(
 
 // Node = "(" Item ["(" "R" ")"] "," Label [Position] ")"
 #[tactic(auto, using(crate::proofs::Edges::node_parts), unfolding(crate::specs::inside::Edges::node_in_parts))]
-fn read_node<'t>(tokens: &mut Tokens<'_, 't>, _nothing: ()) -> Result<NodeTree<'t>, ReadError>
+fn read_node<'t>(tokens: &mut Cutter<'t>, _nothing: ()) -> Result<NodeTree<'t>, ReadError>
     ensures { Reads (reader_of spec.node tokens.old) result tokens.new }
 {
     let name = read_item(tokens, OPEN)?;
@@ -168,9 +167,7 @@ fn read_node<'t>(tokens: &mut Tokens<'_, 't>, _nothing: ()) -> Result<NodeTree<'
 
 // "," Label ")"
 #[tactic(auto, unfolding(crate::specs::inside::Edges::last_label))]
-fn read_last_label<'t>(
-    tokens: &mut Tokens<'_, 't>,
-) -> Result<(AtomTrees, Option<Slice<'t>>), ReadError>
+fn read_last_label<'t>(tokens: &mut Cutter<'t>) -> Result<(AtomTrees, Option<Slice<'t>>), ReadError>
     ensures { Reads (reader_of last_label tokens.old) result tokens.new }
 {
     tokens.expect(COMMA)?;
@@ -183,7 +180,7 @@ fn read_last_label<'t>(
 
 // Edge = "(" Item "," Item "," Item "," Label ")"
 #[tactic(auto, using(crate::proofs::Edges::edge_parts), unfolding(crate::specs::inside::Edges::edge_in_parts))]
-fn read_edge<'t>(tokens: &mut Tokens<'_, 't>, _nothing: ()) -> Result<EdgeTree<'t>, ReadError>
+fn read_edge<'t>(tokens: &mut Cutter<'t>, _nothing: ()) -> Result<EdgeTree<'t>, ReadError>
     ensures { Reads (reader_of spec.edge tokens.old) result tokens.new }
 {
     let name = read_item(tokens, OPEN)?;
@@ -200,14 +197,14 @@ fn read_edge<'t>(tokens: &mut Tokens<'_, 't>, _nothing: ()) -> Result<EdgeTree<'
 }
 
 #[tactic(auto, unfolding(crate::specs::Grammar::nodes))]
-fn read_nodes<'t>(tokens: &mut Tokens<'_, 't>) -> Result<Vec<NodeTree<'t>>, ReadError>
+fn read_nodes<'t>(tokens: &mut Cutter<'t>) -> Result<Vec<NodeTree<'t>>, ReadError>
     ensures { ReadsAs (λ x. x.items) (reader_of spec.nodes tokens.old) result tokens.new }
 {
     repeated_by(tokens, OPEN, (), read_node)
 }
 
 #[tactic(auto, unfolding(crate::specs::Grammar::edges))]
-fn read_edges<'t>(tokens: &mut Tokens<'_, 't>) -> Result<Vec<EdgeTree<'t>>, ReadError>
+fn read_edges<'t>(tokens: &mut Cutter<'t>) -> Result<Vec<EdgeTree<'t>>, ReadError>
     ensures { ReadsAs (λ x. x.items) (reader_of spec.edges tokens.old) result tokens.new }
 {
     repeated_by(tokens, OPEN, (), read_edge)
@@ -215,7 +212,7 @@ fn read_edges<'t>(tokens: &mut Tokens<'_, 't>) -> Result<Vec<EdgeTree<'t>>, Read
 
 // {Node} "|" {Edge} "]"
 #[tactic(auto, unfolding(crate::specs::Grammar::body))]
-fn read_body<'t>(tokens: &mut Tokens<'_, 't>) -> Result<HostTree<'t>, ReadError>
+fn read_body<'t>(tokens: &mut Cutter<'t>) -> Result<HostTree<'t>, ReadError>
     ensures { ReadsAs (λ x. (x.nodes.items, x.edges.items)) (reader_of spec.body tokens.old) result tokens.new }
 {
     let nodes = read_nodes(tokens)?;
@@ -230,21 +227,18 @@ fn read_body<'t>(tokens: &mut Tokens<'_, 't>) -> Result<HostTree<'t>, ReadError>
 }
 
 // Whether a bar comes next, and another one before the next closing bracket.
-fn has_two_bars(tokens: &[Token<'_>]) -> bool
+fn has_two_bars(tokens: &Cutter<'_>) -> bool
     ensures { result ≡ spec.two_bars tokens.now }
 {
-    match tokens {
-        [first, rest @ ..] => BAR.is_met_by(first) && stands_before(rest, BAR, CLOSE_BRACKET),
-        [] => false,
-    }
+    tokens.begins(BAR) && tokens.stands_behind(BAR, CLOSE_BRACKET)
 }
 
 // ["|"] {Node} "|" {Edge} "]"
 #[tactic(auto, unfolding(crate::specs::Grammar::barred))]
-fn read_barred<'t>(tokens: &mut Tokens<'_, 't>) -> Result<HostTree<'t>, ReadError>
+fn read_barred<'t>(tokens: &mut Cutter<'t>) -> Result<HostTree<'t>, ReadError>
     ensures { ReadsAs (λ x. (x.nodes.items, x.edges.items)) (reader_of spec.barred tokens.old) result tokens.new }
 {
-    if has_two_bars(tokens.left()) {
+    if has_two_bars(tokens) {
         tokens.eat(BAR);
         return read_body(tokens);
     }
@@ -253,7 +247,7 @@ fn read_barred<'t>(tokens: &mut Tokens<'_, 't>) -> Result<HostTree<'t>, ReadErro
 
 /// The tree of a host: "[" [Position ["|"]] {Node} "|" {Edge} "]".
 #[tactic(auto, unfolding(crate::specs::Grammar::host))]
-pub(crate) fn read_host_tree<'t>(tokens: &mut Tokens<'_, 't>) -> Result<HostTree<'t>, ReadError>
+pub(crate) fn read_host_tree<'t>(tokens: &mut Cutter<'t>) -> Result<HostTree<'t>, ReadError>
     ensures { ReadsAs (λ x. (x.nodes.items, x.edges.items)) (reader_of spec.host tokens.old) result tokens.new }
 {
     if !tokens.eat(Want::Kind(Kind::OpenBracket)) {

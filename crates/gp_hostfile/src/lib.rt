@@ -14,6 +14,8 @@ mod fault;
 mod grammar;
 pub mod laws;
 mod line;
+mod many;
+mod names;
 mod read;
 mod sheet;
 mod text;

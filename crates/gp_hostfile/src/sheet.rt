@@ -31,6 +31,22 @@ impl Sheet {
         }
     }
 
+    /// An empty sheet with room for so many bytes.
+    pub(crate) fn with_room(alloc: Global, room: u64) -> Self
+        ensures { result.text.items ≡ [] }
+    {
+        match Vec::with_capacity(alloc, room as usize) {
+            Ok(text) => Sheet {
+                text,
+                refused: false,
+            },
+            Err(_) => Sheet {
+                text: Vec::new(alloc),
+                refused: true,
+            },
+        }
+    }
+
     /// Puts a piece.
     pub(crate) fn put(&mut self, piece: &[u8])
         ensures { Puts self.old self.new piece.now }

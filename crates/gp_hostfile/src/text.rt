@@ -21,6 +21,10 @@ pub fn write_graph(alloc: Global, graph: &Graph, text: &mut Vec<u8>) -> Result<(
     ensures unchanged { OnErr result (text.new.items ≡ text.old.items) }
 {
     let whole = graph_text(alloc, graph)?;
+    if text.is_empty() {
+        *text = whole;
+        return Ok(());
+    }
     text.extend_from_slice(&whole)?;
     Ok(())
 }
@@ -37,13 +41,20 @@ fn graph_text(alloc: Global, graph: &Graph) -> Result<Vec<u8>, NoMemory>
 fn sheet_of(alloc: Global, graph: &Graph, edges: &[EdgeLine]) -> Sheet
     ensures { Says result (codes "[\n" ++ flat_map node_line (nodes_from graph.now.graph 0 graph.now.graph.next_node) ++ codes "|\n" ++ key_lines 0 (line_keys edges.now) ++ codes "]\n") }
 {
-    let mut sheet = Sheet::new(alloc);
+    let mut sheet = Sheet::with_room(alloc, room_for(graph.node_count(), edges.len() as u64));
     sheet.put(b"[\n");
     put_nodes(graph, &mut sheet);
     sheet.put(b"|\n");
     put_edges(edges, &mut sheet);
     sheet.put(b"]\n");
     sheet
+}
+
+// Room for the text of so many nodes and edges with short labels. What is not written to takes no memory.
+fn room_for(nodes: u64, edges: u64) -> u64 {
+    nodes
+        .saturating_mul(32)
+        .saturating_add(edges.saturating_mul(48))
 }
 
 fn put_nodes(graph: &Graph, sheet: &mut Sheet)

@@ -58,6 +58,11 @@ not_among (w ∷ words) c d ds digit h = go (is_digit (slice_index (keyword_text
     go true e h below = absurd cc
     go false e h below = rw (here e (bytes_eq (keyword_text w) (c ∷ d ∷ ds)) refl, below h) refl
 
+pub digit_is_free : (text : List ℕ) → 1 < length text → is_digit (slice_index text 1) ≡ true → is_reserved text ≡ false
+digit_is_free [] some h = absurd (omega arith)
+digit_is_free (c ∷ []) some h = absurd (omega arith)
+digit_is_free (c ∷ d ∷ ds) some h = not_among reserved c d ds h refl
+
 free : (letter : ℕ) (ds : List ℕ) → 0 < length ds → list_all is_digit ds ≡ true → is_reserved (letter ∷ ds) ≡ false
 free letter [] some h = absurd (omega arith)
 free letter (d ∷ ds) some h = not_among reserved letter d ds (first_passes is_digit d ds h) refl

@@ -105,16 +105,6 @@ impl<'s, 't> Tokens<'s, 't> {
         }
     }
 
-    /// Takes a number of no more than 2 to the power of 127, as its value.
-    pub fn number(&mut self) -> Result<u128, ReadError>
-        ensures read { Reads (spec.number self.old) result self.new }
-        ensures left { IfErr result (λ e. e ≡ ReadError.Syntax (length self.old)) }
-    {
-        let refusal = self.refusal();
-        let first = self.expect(Want::Kind(Kind::Number))?;
-        first.number_value().ok_or(refusal)
-    }
-
     /// Takes a number of no more than 2 to the power of 127, as its value and its offset in the text.
     pub fn number_at(&mut self) -> Result<(u128, u32), ReadError>
         ensures read { Reads (spec.number_at self.old) result self.new }

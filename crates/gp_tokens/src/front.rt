@@ -25,6 +25,7 @@ pub enum First {
     Fault(LexFault),
 }
 
+#[inline(always)]
 fn is_in(class: Class, byte: u8) -> bool
     ensures { result ≡ spec.is_in class byte }
 {
@@ -37,6 +38,7 @@ fn is_in(class: Class, byte: u8) -> bool
 }
 
 /// How long the longest run of the class is.
+#[inline(always)]
 fn run(class: Class, text: &[u8]) -> usize
     ensures value { result ≡ spec.run class text.now }
     ensures within { result ≤ length text.now }

@@ -101,9 +101,13 @@ fn is_among(text: &[u8], words: &[Keyword]) -> bool
     words.iter().any(|word| word.text().as_bytes() == text)
 }
 
-/// Whether this is the text of a reserved word.
+/// Whether this is the text of a reserved word. None has a digit at its second place, as many names have.
+#[tactic(auto, using(crate::proofs::Numerals::digit_is_free))]
 pub fn is_reserved(text: &[u8]) -> bool
     ensures { result ≡ spec.is_reserved text.now }
 {
+    if text.len() > 1 && text[1].is_ascii_digit() {
+        return false;
+    }
     is_among(text, &RESERVED)
 }

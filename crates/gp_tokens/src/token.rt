@@ -69,6 +69,19 @@ fn first_byte(text: &[u8]) -> u8
     }
 }
 
+impl<'t> Token<'t> {
+    /// The same token once more.
+    pub fn again(&self) -> Token<'t>
+        ensures { result ≡ self.now }
+    {
+        Token {
+            text: self.text.again(),
+            start: self.start,
+            kind: self.kind,
+        }
+    }
+}
+
 impl Token<'_> {
     /// Whether it is this word.
     pub fn is_word(&self, word: Keyword) -> bool

@@ -22,9 +22,9 @@ fn read(tokens: &mut Tokens<'_, '_>, out: &mut Answer) {
     out.show(&tokens.begins(Want::Keyword(Keyword::Root)));
     out.show(&tokens.eat(Want::Keyword(Keyword::Bidirectional)));
     out.show(&tokens.eat(Want::Item));
-    out.debug(&tokens.number());
+    out.debug(&read_number(tokens, ()));
     out.debug(&tokens.number_at());
-    out.debug(&tokens.number());
+    out.debug(&read_number(tokens, ()));
     string(tokens, out);
     string(tokens, out);
     expect(tokens, Want::Variable, out);
@@ -62,7 +62,8 @@ fn expect(tokens: &mut Tokens<'_, '_>, want: Want, out: &mut Answer) {
 }
 
 fn read_number(tokens: &mut Tokens<'_, '_>, _nothing: ()) -> Result<u128, ReadError> {
-    tokens.number()
+    let (value, _) = tokens.number_at()?;
+    Ok(value)
 }
 
 fn numbers(tokens: &mut Tokens<'_, '_>, out: &mut Answer) {
