@@ -1,14 +1,17 @@
 -- What is answered, by the command that the words are.
-use Rattle.std.proofs.Common.{◌≡◌, List, subst}
+use Rattle.std.proofs.Common.{◌≡◌, false, List, sym, subst}
 use Rattle.std.specs.Prelude.{Option, Some, None}
+use Rattle.std.specs.Option.{option_map_or}
 use Rattle.gp_io.specs.Outside.{KnownFiles}
 use Rattle.gp_values.specs.Names.{Name}
 use Rattle.gp_values.specs.Graph.{Graph}
 use Rattle.gp_syntax.specs.Run.{Program}
 use Rattle.gp_words.specs.CommandLine.{Command, run, demo, check, fmt, step, command_of}
+use Rattle.gp_cli.specs.declared.said.Said.{Said as Code}
 use Rattle.gp_cli.specs.Texts.{Said, usage}
-use Rattle.gp_cli.specs.Answer.{Comes, RunAnswers, Checks, CheckAnswers, FmtAnswers, Steps, StepAnswers, DemoAnswers, IsTrue, of_words, of_run, of_demo, of_check, of_fmt, of_step}
+use Rattle.gp_cli.specs.Answer.{Comes, RunAnswers, Checks, CheckAnswers, FmtAnswers, Steps, StepAnswers, DemoAnswers, wants_journal, asks_journal, IsTrue, of_words, of_run, of_demo, of_check, of_fmt, of_step}
 use Rattle.gp_cli.specs.Inputs.{OfBoth}
+use Rattle.gp_cli.specs.Said.{IsTold}
 use Rattle.gp_cli.specs.Completes.{files_of}
 
 abbrev pub Answers : Command → KnownFiles → KnownFiles → Said → Type 0
@@ -51,3 +54,7 @@ both_of_command {program} {host} {old} {new} {said} (check k) e x =
 both_of_command (fmt k) e x = absurd cc
 both_of_command {program} {host} {old} {new} {said} (step k) e x =
     (Steps old new k, subst (λ (n : Name × Name). OfBoth old new n.0 n.1 (Steps old new k) said) (same_files k.program k.host program host e) x)
+
+-- what the command asks for the words do
+pub asked_so : {P : Said → Type 0} {s : Code} (words : List Name) (c : Command) → command_of words ≡ Some c → IsTold (wants_journal c) P s → IsTold (asks_journal words) P s
+asked_so {P} {s} words c w = subst (λ (o : Option Command). IsTold (wants_journal c) P s → IsTold (option_map_or wants_journal o false) P s) (sym w) (λ t. t)

@@ -4,7 +4,6 @@ pub mod Commands
 pub mod Completeness
 pub mod Counting
 pub mod Demos
-pub mod Depths
 pub mod Faults
 pub mod Formats
 pub mod Held

@@ -1,58 +1,50 @@
--- From what a run comes to and a walk over it to what `step` answers.
-use Rattle.std.proofs.Common.{◌≡◌, ℕ, List, sym, subst}
+-- From how a run ended, and a walk over its items, to what `step` answers.
+use Rattle.std.proofs.Common.{◌≡◌, true, false, List, Option, Some, sym, subst, ◌∙◌}
 use Rattle.gp_io.specs.Outside.{KnownFiles}
 use Rattle.gp_values.specs.Names.{Name}
 use Rattle.gp_values.specs.Graph.{Graph}
 use Rattle.gp_syntax.specs.Rule.{Rule}
-use Rattle.gp_syntax.specs.Run.{Program}
-use Rattle.gp_syntax.specs.declared.kinds.NumberKind.{NumberKind}
-use Rattle.gp_journal.specs.Journal.{items_of}
+use Rattle.gp_syntax.specs.Run.{Program, Item, Ending}
+use Rattle.gp_journal.specs.Trail.{Trail, fresh}
+use Rattle.gp_journal.specs.Leads.{Leads}
+use Rattle.gp_journal.specs.Journal.{Kept, items_of}
+use Rattle.rand_pcg.specs.Lcg.{Lcg}
+use Rattle.gp_system.specs.declared.outcome.Ran.{Ran}
+use Rattle.gp_system.specs.declared.outcome.Outcome.{Outcome}
+use Rattle.gp_system.specs.declared.outcome.Outcome.TheVariants as outcome
 use Rattle.gp_derivation.specs.declared.line.Line.{Line}
 use Rattle.gp_derivation.specs.Walk.{Walks}
 use Rattle.gp_words.specs.CommandLine.{StepCommand}
 use Rattle.gp_cli.specs.declared.said.Said.{Said}
-use Rattle.gp_cli.specs.declared.said.Said.TheVariants as code
 use Rattle.gp_cli.specs.Texts as texts
 use Rattle.gp_cli.specs.Inputs.{HasScript}
-use Rattle.gp_cli.specs.Answer.{Comes, gives, fails, is_spent, is_faulty, IsEndless, Steps, walks, is_endless}
-use Rattle.gp_cli.specs.Said.{said_of, HasJournal, BeginsAt, WalksSaid}
+use Rattle.gp_cli.specs.Answer.{HasEnded, Steps, walks, is_endless}
+use Rattle.gp_cli.specs.Said.{IsTold}
+use Rattle.gp_cli.specs.inside.Ends.{EndsSeeded, CanWalk, SaysWalk, SaysWalkOrEnd}
+use Rattle.gp_cli.proofs.Runs.{Seeded, runs_to, told_so, told_spent, told_fault}
 
--- ---- an answer without an end has no journal
+-- ---- the items that are there
 
-no_journal : (rules : List Rule) (s : Said) → IsEndless (said_of s) → HasJournal rules s
-no_journal rules (code.Graph j) e = absurd e
-no_journal rules (code.Fail j) e = absurd e
-no_journal rules other e = tt
+same_items : {X : Type 0} (o : Option X) (a b : X) → o ≡ Some a → o ≡ Some b → a ≡ b
+same_items o a b e f = cc
 
-no_beginning : (g : Graph) (s : Said) → IsEndless (said_of s) → BeginsAt g s
-no_beginning g (code.Graph j) e = absurd e
-no_beginning g (code.Fail j) e = absurd e
-no_beginning g other e = tt
+pub leads_there : (rules : List Rule) (host : Graph) (r : Ran) (k : Kept) → CanWalk rules host r → r.items ≡ Some k → (end : Trail) × Leads rules (items_of k.items) (fresh host) end
+leads_there rules host r k w is = (w.end, subst (λ (x : Kept). Leads rules (items_of x.items) (fresh host) w.end) (same_items r.items w.kept k w.items is) w.leads)
 
-module _ {name : Name} {kind : NumberKind} where
-  pub fault_journal : (rules : List Rule) (s : Said) → said_of s ≡ texts.number_fault name kind → HasJournal rules s
-  fault_journal rules s e = no_journal rules s (subst IsEndless (sym e) tt)
+-- ---- what is walked over
 
-  pub fault_beginning : (g : Graph) (s : Said) → said_of s ≡ texts.number_fault name kind → BeginsAt g s
-  fault_beginning g s e = no_beginning g s (subst IsEndless (sym e) tt)
-
--- ---- what comes of a run without an end, and of one with an end
-
-abbrev HasEnd : texts.Said → Type 0
-HasEnd (texts.graph t h) = Unit {0}
-HasEnd (texts.failed t) = Unit {0}
-HasEnd other = ⊥
-
-endless : {bound seed : ℕ} {p : Program} {names : List Name} {g : Graph} {said : texts.Said} → Comes bound seed p names g said → (HasEnd said → ⊥) → IsEndless said
-endless (gives _) n = absurd (n tt)
-endless (fails _) n = absurd (n tt)
-endless (is_spent _ _ _ _) n = tt
-endless (is_faulty _ _ _) n = tt
+one_trace : (s t : List Item) → Some s ≡ Some t → s ≡ t
+one_trace s t e = cc
 
 module _ {old new : KnownFiles} {k : StepCommand} {p : Program} {names : List Name} {g : Graph} {lines : List Line} (has : HasScript old.content k.script lines) where
-  pub stepped : (s0 s : Said) → Comes k.bound k.seed p names g (said_of s0) → BeginsAt g s0 → WalksSaid p.rules lines s0 s → Steps old new k p names g (said_of s)
-  stepped (code.Graph j) s (gives r) b w =
-      subst (Steps old new k p names g) (sym w.1) (walks has r tt (subst (λ (h : Graph). Walks p.rules h (items_of j.items) 0 lines w.0) b w.2))
-  stepped (code.Fail j) s (fails r) b w =
-      subst (Steps old new k p names g) (sym w.1) (walks has r tt (subst (λ (h : Graph). Walks p.rules h (items_of j.items) 0 lines w.0) b w.2))
-  stepped other s c b w = subst (Steps old new k p names g) (sym w) (is_endless has c (endless c (λ x. x)))
+  walked : {u : Lcg} {r : Ran} {x : Ending} (s : Said) → HasEnded x → Seeded k.seed p g k.bound true u r x → SaysWalk p.rules g lines r s → IsTold false (Steps old new k p names g) s
+  walked s ends h w =
+      let same : w.trace ≡ h.trace = one_trace w.trace h.trace (sym w.left ∙ h.kept) in
+      record { said = texts.walked w.text; tells = w.tells; holds = walks has (runs_to h) ends (subst (λ (t : List Item). Walks p.rules g t 0 lines w.text) same w.walks) }
+
+  pub stepped : (o : Outcome) (s : Said) → EndsSeeded k.seed p g k.bound true o → SaysWalkOrEnd names k.bound p.rules g lines o s → IsTold false (Steps old new k p names g) s
+  stepped (outcome.Graph r) s e w = walked s tt e.ended w
+  stepped (outcome.Fail r) s e w = walked s tt e.ended w
+  stepped (outcome.Bound r) s e w = told_so (told_spent false r s e w) (λ said c. is_endless has c.0 c.1)
+  stepped (outcome.Fault r rule kind) s e w = told_so (told_fault false r rule kind s e w) (λ said c. is_endless has c.0 c.1)
+  stepped outcome.NoMemory s e w = absurd w

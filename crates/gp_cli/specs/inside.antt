@@ -1,4 +1,4 @@
 -- Stepping stones that bodies and proofs alone need.
-pub mod Depth
+pub mod Ends
 pub mod Parts
 pub mod Sides

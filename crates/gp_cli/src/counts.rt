@@ -1,14 +1,11 @@
 //! What is counted.
 
-ghost use Rattle.std.specs.Prelude.{◌≡◌, ◌<◌, ◌^◌, false, is_some, map};
+ghost use Rattle.std.specs.Prelude.{◌≡◌, false, is_some};
 ghost use Rattle.std.specs.Option.{option_map_or};
 ghost use Rattle.gp_values.specs.Graph.{node_at, edge_at};
-ghost use Rattle.gp_syntax.specs.Tree.{item_of};
-ghost use Rattle.gp_cli.specs.Summary.{same_mark, edge_count, marked_count, live_count};
-ghost use Rattle.gp_cli.specs.inside.Depth.{depth_after};
+ghost use Rattle.gp_cli.specs.Summary.{same_mark, edge_count, marked_count};
 
 use gp_graph::Graph;
-use gp_syntax::Item;
 use gp_values::NodeMark;
 
 // Whether a node of this number is there, with the mark.
@@ -54,27 +51,4 @@ pub(crate) fn count_edges(graph: &Graph) -> u64
         }
     }
     count
-}
-
-// How many steps are live after an item.
-fn depth_after(depth: u64, item: &Item) -> u64
-    requires { depth < 2 ^ 63 }
-    ensures { result ≡ depth_after depth item.now }
-{
-    match item {
-        Item::Step(_) => depth + 1,
-        Item::Turn => depth,
-        Item::Back(count) => depth.saturating_sub(*count),
-    }
-}
-
-/// How many steps are live after all items.
-pub(crate) fn count_live(items: &[Item]) -> u64
-    ensures { result ≡ live_count (map item_of items.now) }
-{
-    let mut depth = 0;
-    for item in items {
-        depth = depth_after(depth, item);
-    }
-    depth
 }

@@ -1,4 +1,4 @@
-//! The files of a command, read and understood, or the answer that says why not.
+//! The files of a command, read and understood, or the refusal that says why not.
 
 ghost use Rattle.std.specs.Prelude.{◌≡◌, ◌≤◌};
 ghost use Rattle.gp_cli.specs.Loads.{ReadsFile, LoadsProgram, LoadsTree, LoadsHost, LoadsBoth, LoadsTrace, LoadsScript};
@@ -6,7 +6,7 @@ ghost use Rattle.gp_cli.specs.Texts.{long_result};
 ghost use Rattle.gp_cli.specs.Said.{said_of};
 
 use crate::parsed::{host_of, program_of, script_of, trace_of, tree_of};
-use crate::said::{Said, Stop};
+use crate::said::{Refusal, Stop};
 use gp_derivation::Line;
 use gp_graph::Graph;
 use gp_io::{Files, ReadRefusal};
@@ -17,12 +17,12 @@ use std::alloc::Global;
 /// The greatest number of bytes of a file.
 const LIMIT: u64 = 1 << 28;
 
-// All bytes of a file, or the answer: this one where the file is too long.
+// All bytes of a file, or the refusal: this one where the file is too long.
 fn read_file<'a, F: Files>(
     alloc: Global,
     files: &mut F,
     name: &'a str,
-    long: Said<'a>,
+    long: Refusal<'a>,
 ) -> Result<Vec<u8>, Stop<'a>>
     ensures reads { ReadsFile (F.known files.old) (F.known files.new) name.entry.now (said_of long.entry) result }
     ensures later { (F.known files.old).faults ≤ (F.known files.new).faults }
@@ -31,7 +31,7 @@ fn read_file<'a, F: Files>(
     match files.read(alloc, name, LIMIT) {
         Ok(bytes) => Ok(bytes),
         Err(ReadRefusal::TooLong) => Err(Stop::Said(long)),
-        Err(ReadRefusal::Failed) => Err(Stop::Said(Said::Unread(name))),
+        Err(ReadRefusal::Failed) => Err(Stop::Said(Refusal::Unread(name))),
         Err(ReadRefusal::NoMemory) => Err(Stop::NoMemory),
     }
 }
@@ -46,7 +46,7 @@ fn load_program<'a, F: Files>(
     ensures later { (F.known files.old).faults ≤ (F.known files.new).faults }
     ensures same { (F.known files.new).content ≡ (F.known files.old).content }
 {
-    let text = read_file(alloc, files, name, Said::LongProgram)?;
+    let text = read_file(alloc, files, name, Refusal::LongProgram)?;
     program_of(alloc, &text)
 }
 
@@ -60,7 +60,7 @@ pub(crate) fn load_tree<'a, F: Files>(
     ensures later { (F.known files.old).faults ≤ (F.known files.new).faults }
     ensures same { (F.known files.new).content ≡ (F.known files.old).content }
 {
-    let text = read_file(alloc, files, name, Said::LongProgram)?;
+    let text = read_file(alloc, files, name, Refusal::LongProgram)?;
     tree_of(alloc, &text)
 }
 
@@ -70,7 +70,7 @@ fn load_host<'a, F: Files>(alloc: Global, files: &mut F, name: &'a str) -> Resul
     ensures later { (F.known files.old).faults ≤ (F.known files.new).faults }
     ensures same { (F.known files.new).content ≡ (F.known files.old).content }
 {
-    let text = read_file(alloc, files, name, Said::LongHost)?;
+    let text = read_file(alloc, files, name, Refusal::LongHost)?;
     host_of(alloc, &text)
 }
 
@@ -100,7 +100,7 @@ pub(crate) fn load_trace<'a, F: Files>(
     ensures later { (F.known files.old).faults ≤ (F.known files.new).faults }
     ensures same { (F.known files.new).content ≡ (F.known files.old).content }
 {
-    let text = read_file(alloc, files, name, Said::LongTrace)?;
+    let text = read_file(alloc, files, name, Refusal::LongTrace)?;
     trace_of(alloc, &text)
 }
 
@@ -114,7 +114,7 @@ pub(crate) fn load_result<'a, F: Files>(
     ensures later { (F.known files.old).faults ≤ (F.known files.new).faults }
     ensures same { (F.known files.new).content ≡ (F.known files.old).content }
 {
-    read_file(alloc, files, name, Said::LongResult)
+    read_file(alloc, files, name, Refusal::LongResult)
 }
 
 /// The lines of the script's file.
@@ -127,6 +127,6 @@ pub(crate) fn load_script<'a, F: Files>(
     ensures later { (F.known files.old).faults ≤ (F.known files.new).faults }
     ensures same { (F.known files.new).content ≡ (F.known files.old).content }
 {
-    let text = read_file(alloc, files, name, Said::LongScript)?;
+    let text = read_file(alloc, files, name, Refusal::LongScript)?;
     script_of(alloc, &text)
 }

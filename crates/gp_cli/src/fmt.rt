@@ -1,10 +1,10 @@
 //! What a program is written as.
 
-ghost use Rattle.std.specs.Prelude.{◌≡◌, IfOk};
+ghost use Rattle.std.specs.Prelude.{false, IfOk};
 ghost use Rattle.gp_fmt.specs.Canonical.{canonical_text};
 ghost use Rattle.gp_words.specs.Told.{fmt_now};
 ghost use Rattle.gp_cli.specs.Texts.{formatted};
-ghost use Rattle.gp_cli.specs.Said.{said_of};
+ghost use Rattle.gp_cli.specs.Said.{Tells};
 ghost use Rattle.gp_cli.specs.inside.Parts.{FormatsFile};
 
 use crate::files::load_tree;
@@ -18,7 +18,7 @@ use std::alloc::Global;
 
 // The canonical text of a tree.
 fn canonical<'a>(alloc: Global, tree: &Ast) -> Result<Said<'a>, NoMemory>
-    ensures { IfOk result (λ s. said_of s ≡ formatted (canonical_text tree.now)) }
+    ensures { IfOk result (λ s. Tells false s (formatted (canonical_text tree.now))) }
 {
     let mut text = Vec::new(alloc);
     print_program(alloc, tree, &mut text)?;

@@ -16,12 +16,17 @@
 //! and `load_script` the rest of what commands read; `both_of` of `parsed` understands two texts that are there already. What
 //! a file holds, and what is answered in place of one, is `specs/Inputs`, over the texts of gp_reader, gp_hostfile, gp_trace
 //! and gp_derivation; what each call hands back is `specs/Loads`.
-//! What goes on until an answer is known is a `Result` of a `Said` and a `Stop`: a stop is an answer, or that memory was refused.
-//! `settled` makes one of both, `or_stopped` goes the other way, and `program_refused` and its like make the stop of a
-//! fault. `reply_of` makes of an answer, `Said`, the `Reply`, which is the status of the process, the journal and the result
-//! for standard output, and the text for standard error. `specs/Texts` says which texts and which status each answer has
-//! (`Shows`), and `specs/Said` which answer a value of the code is (`said_of`). A demo answers by its `summary`: what `counts`
-//! counts of the graph that it ends with and of its trace, in the seven lines of `specs/Summary`. It can be called too.
+//! `run` hands back the `Outcome` of gp_system, and each command makes its own answer of it: `ended` tells it as it
+//! is, a demo has its summary in place of a graph, and `step` a walk over the items in place of a graph or fail. A
+//! run's items are kept for `step`, and for `run` where the journal is asked for.
+//! What goes on until an answer is known is a `Result` of a `Said`, an answer, and a `Stop`: a `Refusal`, or that
+//! memory was refused. `settled` makes an answer of both, `or_stopped` goes the other way, and `program_refused`
+//! and its like make the stop of a fault. `reply_of` makes of an answer the `Reply`, which is the status of the
+//! process, the journal and the result for standard output, and the text for standard error; the journal is written
+//! where the items are kept. `specs/Texts` says which texts and which status each answer has (`Shows`), and
+//! `specs/Said` which answer a value of the code tells (`Tells`, and `said_of` of a refusal). A demo answers by its
+//! `summary`: how many steps are live, and what `counts` counts of the graph that it ends with, in the seven lines
+//! of `specs/Summary`. It can be called too.
 #![tactic(auto)]
 
 mod check;

@@ -1,4 +1,4 @@
-//! The program, the host, the trace and the script of texts, or the answer that says why not.
+//! The program, the host, the trace and the script of texts, or the refusal that says why not.
 
 ghost use Rattle.std.specs.Prelude.{◌≡◌};
 ghost use Rattle.gp_cli.specs.Loads.{TellsOrFaults, TreesOrFaults, HostsOrFaults, TracesOrFaults, ScriptsOrFaults, BothOrFaults};

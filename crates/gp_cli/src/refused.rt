@@ -3,7 +3,7 @@
 ghost use Rattle.std.specs.Prelude.{◌≡◌};
 ghost use Rattle.gp_cli.specs.Said.{program_refused, host_refused, trace_refused, script_refused};
 
-use crate::said::{Said, Stop};
+use crate::said::{Refusal, Stop};
 use gp_derivation::ScriptFault;
 use gp_hostfile::HostFault;
 use gp_reader::ProgramFault;
@@ -15,7 +15,7 @@ pub(crate) fn program_refused<'a>(fault: ProgramFault) -> Stop<'a>
 {
     match fault {
         ProgramFault::NoMemory => Stop::NoMemory,
-        other => Stop::Said(Said::BadProgram(other)),
+        other => Stop::Said(Refusal::BadProgram(other)),
     }
 }
 
@@ -25,7 +25,7 @@ pub(crate) fn host_refused<'a>(fault: HostFault) -> Stop<'a>
 {
     match fault {
         HostFault::NoMemory => Stop::NoMemory,
-        other => Stop::Said(Said::BadHost(other)),
+        other => Stop::Said(Refusal::BadHost(other)),
     }
 }
 
@@ -34,7 +34,7 @@ pub(crate) fn trace_refused<'a>(fault: TraceFault) -> Stop<'a>
     ensures { result ≡ trace_refused fault }
 {
     match fault {
-        TraceFault::Line(line) => Stop::Said(Said::BadTrace(line)),
+        TraceFault::Line(line) => Stop::Said(Refusal::BadTrace(line)),
         TraceFault::NoMemory => Stop::NoMemory,
     }
 }
@@ -44,7 +44,7 @@ pub(crate) fn script_refused<'a>(fault: ScriptFault) -> Stop<'a>
     ensures { result ≡ script_refused fault }
 {
     match fault {
-        ScriptFault::Line(line) => Stop::Said(Said::BadScript(line)),
+        ScriptFault::Line(line) => Stop::Said(Refusal::BadScript(line)),
         ScriptFault::NoMemory => Stop::NoMemory,
     }
 }

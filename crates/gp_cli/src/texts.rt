@@ -5,23 +5,27 @@ ghost use Rattle.std.specs.Fmt.{decimal};
 ghost use Rattle.gp_hostfile.specs.GraphText.{IsGraphText};
 ghost use Rattle.gp_hostfile.specs.FaultLines.{line_of as host_line};
 ghost use Rattle.gp_reader.specs.FaultLines.{line_of};
-ghost use Rattle.gp_cli.specs.Texts.{Shows, graph, failed, demo_done, kind_text, number_text, bound_text, read_text, trace_line, script_line, IsJournal};
-ghost use Rattle.gp_cli.specs.inside.Sides.{IsOnErr, IsOnOut};
-ghost use Rattle.gp_cli.specs.Statuses.{status_code};
-ghost use Rattle.gp_cli.specs.Said.{said_of};
+ghost use Rattle.gp_syntax.specs.Run.{Item as AnyItem};
+ghost use Rattle.gp_trace.specs.declared.version.Version.TheVariants.{Two};
+ghost use Rattle.gp_trace.specs.Reading.{IsTraceOf};
 ghost use Rattle.gp_journal.specs.Journal.{items_of};
+ghost use Rattle.gp_system.specs.Ended.{kept_if, items_left};
+ghost use Rattle.gp_cli.specs.Texts.{graph, failed, demo_done, kind_text, number_text, bound_text, read_text, trace_line, script_line, IsJournal};
+ghost use Rattle.gp_cli.specs.Said.{said_of, IsLeftOf};
+ghost use Rattle.gp_cli.specs.inside.Sides.{IsOnErr, IsOnOut, IsReply, IsReplyTo};
 
 use crate::reply::Reply;
-use crate::said::Said;
+use crate::said::{Refusal, Said};
 use crate::status::Status;
 use crate::summary_lines::summary;
 use gp_gen::Kind;
 use gp_graph::Graph;
 use gp_hostfile::{HostFault, write_graph};
-use gp_journal::Journal;
+use gp_journal::Items;
 use gp_memory::NoMemory;
 use gp_reader::ProgramFault;
 use gp_syntax::{Name, NumberKind};
+use gp_system::Ran;
 use gp_trace::write_trace;
 use itoa::Buffer;
 use std::alloc::Global;
@@ -125,15 +129,22 @@ fn graph_text(alloc: Global, graph: &Graph) -> Result<Vec<u8>, NoMemory>
     Ok(text)
 }
 
-// The trace, where the journal is asked for.
-fn journal_text(alloc: Global, asked: bool, journal: &Journal) -> Result<Vec<u8>, NoMemory>
-    ensures { IfOk result (λ v. IsJournal (items_of journal.now.items) asked v.items) }
+fn trace_text(alloc: Global, items: &Items) -> Result<Vec<u8>, NoMemory>
+    ensures { IfOk result (λ v. IsTraceOf v.items Two (items_of items.now.items)) }
 {
     let mut text = Vec::new(alloc);
-    if asked {
-        write_trace(alloc, journal.items(), &mut text)?;
-    }
+    write_trace(alloc, items.as_slice(), &mut text)?;
     Ok(text)
+}
+
+// The trace, where the items are kept.
+fn journal_text(alloc: Global, ran: &Ran) -> Result<Vec<u8>, NoMemory>
+    ensures { IfOk result (λ v. (asked : Bool) (t : List AnyItem) → items_left ran.now ≡ kept_if asked t → IsJournal t asked v.items) }
+{
+    match &ran.items {
+        Some(items) => trace_text(alloc, items),
+        None => Ok(Vec::new(alloc)),
+    }
 }
 
 // An answer on standard error alone.
@@ -160,32 +171,32 @@ fn on_out(alloc: Global, status: Status, journal: Vec<u8>, text: Vec<u8>) -> Rep
     }
 }
 
-// A graph with its trace.
-fn graph_reply(alloc: Global, asked: bool, journal: &Journal) -> Result<Reply, NoMemory>
-    ensures { IfOk result (λ r. Shows asked (graph (items_of journal.now.items) journal.now.trail.graph) (status_code r.status) r.journal.items r.result.items r.err.items) }
+// A graph, with its trace where the items are kept.
+fn graph_reply(alloc: Global, ran: &Ran) -> Result<Reply, NoMemory>
+    ensures { IfOk result (λ r. (asked : Bool) (t : List AnyItem) → IsLeftOf asked t ran.now → IsReply asked (graph t ran.now.graph.graph) r) }
 {
-    let trace = journal_text(alloc, asked, journal)?;
-    let text = graph_text(alloc, journal.graph())?;
+    let trace = journal_text(alloc, ran)?;
+    let text = graph_text(alloc, &ran.graph)?;
     Ok(on_out(alloc, Status::Graph, trace, text))
 }
 
-fn fail_reply(alloc: Global, asked: bool, journal: &Journal) -> Result<Reply, NoMemory>
-    ensures { IfOk result (λ r. Shows asked (failed (items_of journal.now.items)) (status_code r.status) r.journal.items r.result.items r.err.items) }
+fn fail_reply(alloc: Global, ran: &Ran) -> Result<Reply, NoMemory>
+    ensures { IfOk result (λ r. (asked : Bool) (t : List AnyItem) → IsLeftOf asked t ran.now → IsReply asked (failed t) r) }
 {
-    let trace = journal_text(alloc, asked, journal)?;
+    let trace = journal_text(alloc, ran)?;
     let text = Vec::from_slice(alloc, b"fail\n")?;
     Ok(on_out(alloc, Status::Fail, trace, text))
 }
 
 // The summary of a demo.
-fn demo_reply(alloc: Global, kind: Kind, size: u64, journal: &Journal) -> Result<Reply, NoMemory>
-    ensures { IfOk result (λ r. (asked : Bool) → Shows asked (demo_done kind size (items_of journal.now.items) journal.now.trail.graph) (status_code r.status) r.journal.items r.result.items r.err.items) }
+fn demo_reply(alloc: Global, kind: Kind, size: u64, ran: &Ran) -> Result<Reply, NoMemory>
+    ensures { IfOk result (λ r. (asked : Bool) (t : List AnyItem) → IsLeftOf asked t ran.now → IsReply asked (demo_done kind size t ran.now.graph.graph) r) }
 {
-    let text = summary(alloc, kind, size, journal.graph(), journal.items())?;
+    let text = summary(alloc, kind, size, &ran.graph, ran.live)?;
     Ok(on_out(alloc, Status::Graph, Vec::new(alloc), text))
 }
 
-// What a check, a format or a walk says, on standard output.
+// What a check says, on standard output.
 fn verdict(alloc: Global, status: Status, text: &[u8]) -> Result<Reply, NoMemory>
     ensures { IfOk result (IsOnOut status [] text.now) }
 {
@@ -210,30 +221,39 @@ fn told(alloc: Global, status: Status, line: Result<Vec<u8>, NoMemory>) -> Resul
     }
 }
 
-/// The texts of an answer, with the journal where it is asked for.
-pub(crate) fn reply_of(alloc: Global, asked: bool, said: &Said<'_>) -> Result<Reply, NoMemory>
-    ensures { IfOk result (λ r. Shows asked (said_of said.now) (status_code r.status) r.journal.items r.result.items r.err.items) }
+// The texts of a refusal.
+fn refused(alloc: Global, why: &Refusal<'_>) -> Result<Reply, NoMemory>
+    ensures { IfOk result (λ r. (asked : Bool) → IsReply asked (said_of why.now) r) }
+{
+    match why {
+        Refusal::Usage => refusal(alloc, Status::Words, USAGE),
+        Refusal::LongProgram => refusal(alloc, Status::Program, b"program: TooLong\n"),
+        Refusal::BadProgram(fault) => told(alloc, Status::Program, program_line(alloc, fault)),
+        Refusal::LongHost => refusal(alloc, Status::Host, b"host: TooLong\n"),
+        Refusal::BadHost(fault) => told(alloc, Status::Host, host_line(alloc, fault)),
+        Refusal::LongTrace => refusal(alloc, Status::Trace, b"trace: TooLong\n"),
+        Refusal::BadTrace(line) => told(alloc, Status::Trace, trace_line(alloc, *line)),
+        Refusal::LongResult => refusal(alloc, Status::Trace, b"result: TooLong\n"),
+        Refusal::LongScript => refusal(alloc, Status::Script, b"script: TooLong\n"),
+        Refusal::BadScript(line) => told(alloc, Status::Script, script_line(alloc, *line)),
+        Refusal::Unread(name) => told(alloc, Status::Read, read_text(alloc, name)),
+    }
+}
+
+/// The texts of an answer, with the journal where its items are kept. Texts that it holds are not copied.
+pub(crate) fn reply_of(alloc: Global, said: Said<'_>) -> Result<Reply, NoMemory>
+    ensures { IfOk result (IsReplyTo said.entry) }
 {
     match said {
-        Said::Graph(journal) => graph_reply(alloc, asked, journal),
-        Said::Fail(journal) => fail_reply(alloc, asked, journal),
-        Said::Demo(kind, size, journal) => demo_reply(alloc, *kind, *size, journal),
+        Said::Graph(ran) => graph_reply(alloc, &ran),
+        Said::Fail(ran) => fail_reply(alloc, &ran),
+        Said::Demo(kind, size, ran) => demo_reply(alloc, kind, size, &ran),
         Said::Derivation => verdict(alloc, Status::Derivation, b"derivation\n"),
         Said::NoDerivation => verdict(alloc, Status::NoDerivation, b"no derivation\n"),
-        Said::Formatted(text) => verdict(alloc, Status::Formatted, text),
-        Said::Walked(text) => verdict(alloc, Status::Walked, text),
-        Said::Usage => refusal(alloc, Status::Words, USAGE),
-        Said::LongProgram => refusal(alloc, Status::Program, b"program: TooLong\n"),
-        Said::BadProgram(fault) => told(alloc, Status::Program, program_line(alloc, fault)),
-        Said::LongHost => refusal(alloc, Status::Host, b"host: TooLong\n"),
-        Said::BadHost(fault) => told(alloc, Status::Host, host_line(alloc, fault)),
-        Said::LongTrace => refusal(alloc, Status::Trace, b"trace: TooLong\n"),
-        Said::BadTrace(line) => told(alloc, Status::Trace, trace_line(alloc, *line)),
-        Said::LongResult => refusal(alloc, Status::Trace, b"result: TooLong\n"),
-        Said::LongScript => refusal(alloc, Status::Script, b"script: TooLong\n"),
-        Said::BadScript(line) => told(alloc, Status::Script, script_line(alloc, *line)),
-        Said::Bound(bound) => told(alloc, Status::Bound, bound_text(alloc, *bound)),
-        Said::Number(rule, kind) => told(alloc, Status::Number, number_text(alloc, rule, *kind)),
-        Said::Unread(name) => told(alloc, Status::Read, read_text(alloc, name)),
+        Said::Formatted(text) => Ok(on_out(alloc, Status::Formatted, Vec::new(alloc), text)),
+        Said::Walked(text) => Ok(on_out(alloc, Status::Walked, Vec::new(alloc), text)),
+        Said::Bound(bound) => told(alloc, Status::Bound, bound_text(alloc, bound)),
+        Said::Number(rule, kind) => told(alloc, Status::Number, number_text(alloc, &rule, kind)),
+        Said::Refused(why) => refused(alloc, &why),
     }
 }

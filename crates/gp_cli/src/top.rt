@@ -1,16 +1,14 @@
 //! The top call.
 
-ghost use Rattle.std.specs.Prelude.{◌≡◌, List, map, string_bytes, Some, option_map, false, IfOk, IfSome, OnErr};
-ghost use Rattle.std.specs.Option.{option_map_or};
+ghost use Rattle.std.specs.Prelude.{◌≡◌, List, map, string_bytes, Some, option_map, IfOk, IfSome, OnErr};
 ghost use Rattle.gp_values.specs.Names.{Name as AnyName};
 ghost use Rattle.gp_words.specs.CommandLine as spec;
 ghost use Rattle.gp_words.specs.Told.{run_now, command_now, HasSize};
-ghost use Rattle.gp_cli.specs.Answer.{wants_journal, IsTrue, Replies, ReadsNone, Answered, IsSilent};
+ghost use Rattle.gp_cli.specs.Answer.{wants_journal, asks_journal, IsTrue, Replies, ReadsNone, Answered, IsSilent};
 ghost use Rattle.gp_cli.specs.Completes.{Completes};
-ghost use Rattle.gp_cli.specs.Texts.{Shows};
 ghost use Rattle.gp_cli.specs.inside.Parts.{RunsFiles};
 ghost use Rattle.gp_cli.specs.Statuses.{status_code};
-ghost use Rattle.gp_cli.specs.Said.{said_of};
+ghost use Rattle.gp_cli.specs.Said.{IsTold};
 
 use crate::check::check;
 use crate::deliver::deliver;
@@ -19,8 +17,8 @@ use crate::files::load_both;
 use crate::fmt::fmt;
 use crate::reply::Reply;
 use crate::resources::Resources;
-use crate::run::run;
-use crate::said::{Said, Stop, or_stopped, settled};
+use crate::run::{ended, run};
+use crate::said::{Refusal, Said, Stop, or_stopped, settled};
 use crate::status::Status;
 use crate::step::step;
 use crate::texts::reply_of;
@@ -28,14 +26,14 @@ use gp_fmt::laws::{canonical_texts_are_read, canonical_texts_mean_the_same, cano
 use gp_io::{Files, Sink};
 use gp_memory::NoMemory;
 use gp_reader::laws::{texts_have_one_fault, texts_have_one_program, texts_have_one_tree};
-use gp_system::Crew;
+use gp_system::{Crew, Terms};
 use gp_words::{Command, RunCommand, command_of};
 use opt_worker::Pacing;
 use std::alloc::{AllocGlobal, Global};
 use std::sync::Wait;
 use std::thread::Threads;
 
-// What the files of a command come to.
+// What the files of a command come to. The items of its run are kept where the journal is asked for.
 fn said_by_files<'a, F: Files, R: Threads + Wait + Sync>(
     resources: &Resources<'_, R>,
     command: RunCommand<'a>,
@@ -44,13 +42,18 @@ fn said_by_files<'a, F: Files, R: Threads + Wait + Sync>(
     ensures { RunsFiles (F.known files.old) (F.known files.new) (run_now command.entry) result }
 {
     let (program, graph) = load_both(resources.alloc, files, command.program, command.host)?;
-    let crew = Crew {
-        workers: command.crew.workers,
-        fan: command.crew.fan,
-        batch: command.crew.batch,
+    let terms = Terms {
         bound: command.bound,
+        keeps: command.journal,
+        crew: Crew {
+            workers: command.crew.workers,
+            fan: command.crew.fan,
+            batch: command.crew.batch,
+        },
+        pace: resources.pace,
     };
-    or_stopped(run(resources, &program, graph, crew, command.seed))
+    let outcome = run(resources, &program, graph, terms, command.seed);
+    or_stopped(ended(resources.alloc, &program, command.bound, outcome))
 }
 
 // What a command comes to.
@@ -61,7 +64,7 @@ fn said_by_command<'a, F: Files, R: Threads + Wait + Sync>(
 ) -> Result<Said<'a>, NoMemory>
     requires { HasSize command }
     ensures answer { IfOk result (λ s. (words : List AnyName) → spec.command_of words ≡ Some (command_now command.entry) →
-        IsTrue words (F.known files.old) (F.known files.new) (said_of s)) }
+        IsTold (wants_journal (command_now command.entry)) (IsTrue words (F.known files.old) (F.known files.new)) s) }
     ensures unread { ReadsNone (Some (command_now command.entry)) → files.new ≡ files.old }
 {
     match command {
@@ -81,30 +84,13 @@ fn said_by<'a, F: Files, R: Threads + Wait + Sync>(
 ) -> Result<Said<'a>, NoMemory>
     requires { IfSome command HasSize }
     ensures answer { IfOk result (λ s. (words : List AnyName) → option_map command_now command.entry ≡ spec.command_of words →
-        IsTrue words (F.known files.old) (F.known files.new) (said_of s)) }
+        IsTold (asks_journal words) (IsTrue words (F.known files.old) (F.known files.new)) s) }
     ensures unread { ReadsNone (option_map command_now command.entry) → files.new ≡ files.old }
 {
     match command {
-        None => Ok(Said::Usage),
+        None => Ok(Said::Refused(Refusal::Usage)),
         Some(command) => said_by_command(resources, command, files),
     }
-}
-
-// Whether the command asks for the journal.
-fn asks(command: Option<Command<'_>>) -> bool
-    ensures { result ≡ option_map_or wants_journal (option_map command_now command.entry) false }
-{
-    match command {
-        Some(Command::Run(command)) => command.journal,
-        _ => false,
-    }
-}
-
-// The texts of an answer, which is let go.
-fn texts_of(alloc: Global, asked: bool, said: Said<'_>) -> Result<Reply, NoMemory>
-    ensures { IfOk result (λ r. Shows asked (said_of said.entry) (status_code r.status) r.journal.items r.result.items r.err.items) }
-{
-    reply_of(alloc, asked, &said)
 }
 
 fn reply_to<F: Files, R: Threads + Wait + Sync>(
@@ -118,7 +104,7 @@ fn reply_to<F: Files, R: Threads + Wait + Sync>(
 {
     let command = command_of(resources.alloc, words)?;
     let said = said_by(resources, command, files)?;
-    texts_of(resources.alloc, asks(command), said)
+    reply_of(resources.alloc, said)
 }
 
 // Answers these words: all text is made before the first write.

@@ -10,7 +10,7 @@ use Rattle.gp_journal.specs.Trail.{Trail, back_by, root_from, rooted}
 use Rattle.gp_journal.specs.Leads.{Goes, Leads}
 use Rattle.gp_journal.specs.Journal.{Journal, IsJournalOf, items_of}
 use Rattle.gp_journal.proofs.Replays.{leads_more, rooted_back}
-use Rattle.gp_derivation.specs.Stepper.{Stepper, at_start, IsStepperOf, IsMoved}
+use Rattle.gp_derivation.specs.Stepper.{Stepper, at_start, before_first, IsStepperOf, IsMoved}
 use Rattle.gp_derivation.specs.inside.Stands.{GoesOnly}
 
 pub taken_next : {X : Type 0} (xs : List X) (n : ℕ) (x : X) → slice_get xs n ≡ Some x → take (suc n) xs ≡ take n xs ++ x ∷ []
@@ -40,6 +40,10 @@ starts j t u k is same deep back e =
 
 pub of_journal : (rules : List Rule) (j : Journal) → IsJournalOf rules j → IsStepperOf rules (at_start j)
 of_journal rules j w = record { within = omega arith; before = refl; end = j.trail; behind = w }
+
+-- of items that lead from a host
+pub of_items : (rules : List Rule) (t end : Trail) (is : List trees.Item) → Leads rules (items_of is) (rooted t) end → IsStepperOf rules (before_first (rooted t) is)
+of_items rules t end is w = record { within = omega arith; before = refl; end = end; behind = w }
 
 -- ---- at a place
 

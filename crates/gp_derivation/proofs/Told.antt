@@ -8,10 +8,10 @@ use Rattle.gp_syntax.specs.Rule.{Rule}
 use Rattle.gp_syntax.specs.Run as meant
 use Rattle.gp_syntax.specs.Tree.{item_of}
 use Rattle.gp_syntax.specs.declared.found.Item.{Item}
-use Rattle.gp_journal.specs.Trail.{root_of}
-use Rattle.gp_journal.specs.Journal.{Journal, items_of}
+use Rattle.gp_journal.specs.Trail.{root_of, fresh}
+use Rattle.gp_journal.specs.Journal.{items_of}
 use Rattle.gp_hostfile.specs.GraphText.{IsGraphText, WritesGraph}
-use Rattle.gp_derivation.specs.Stepper.{Stepper, IsStepperOf, IsMoved, at_start}
+use Rattle.gp_derivation.specs.Stepper.{Stepper, IsStepperOf, IsMoved, before_first}
 use Rattle.gp_derivation.specs.declared.stepper.Moved.{Moved}
 use Rattle.gp_derivation.specs.declared.stepper.Moved.TheVariants as moves
 use Rattle.gp_derivation.proofs.Unique.{all_replay}
@@ -106,15 +106,15 @@ pub record IsOnItsWay (rules : List Rule) (host : Graph) (t : List meant.Item) (
   pub items : items_of w.stepper.items ≡ t
   pub walks : (rest : List ℕ) → Walks rules host t w.stepper.place (drop n script) rest → Walks rules host t 0 script (w.text.items ++ rest)
 
-pub sets_out : (rules : List Rule) (j : Journal) (script : List Line) (w : Walker) → w.stepper ≡ at_start j → IsStepperOf rules w.stepper → w.text.items ≡ []
-    → IsOnItsWay rules (root_of j.trail) (items_of j.items) script 0 w
-sets_out rules j script w is of_rules empty = record {
+pub sets_out : (rules : List Rule) (host : Graph) (is : List Item) (script : List Line) (w : Walker) → w.stepper ≡ before_first (fresh host) is → IsStepperOf rules w.stepper → w.text.items ≡ []
+    → IsOnItsWay rules host (items_of is) script 0 w
+sets_out rules host is script w started of_rules empty = record {
   of_rules = of_rules;
-  root = ap (λ (s : Stepper). root_of s.trail) is;
-  items = ap (λ (s : Stepper). items_of s.items) is;
+  root = ap (λ (s : Stepper). root_of s.trail) started;
+  items = ap (λ (s : Stepper). items_of s.items) started;
   walks = λ rest h.
-      subst (λ l. Walks rules (root_of j.trail) (items_of j.items) 0 script (l ++ rest)) (sym empty)
-      (subst (λ (s : Stepper). Walks rules (root_of j.trail) (items_of j.items) s.place script rest) is h);
+      subst (λ l. Walks rules host (items_of is) 0 script (l ++ rest)) (sym empty)
+      (subst (λ (s : Stepper). Walks rules host (items_of is) s.place script rest) started h);
 }
 
 pub goes_on : (rules : List Rule) (host : Graph) (t : List meant.Item) (script : List Line) (n : ℕ) (line d : Line) (v w : Walker) → n < length script → line ≡ get_or script n d

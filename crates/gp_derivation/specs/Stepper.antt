@@ -12,9 +12,13 @@ pub record Stepper : Type 0 where
   pub place : ℕ
   pub trail : Trail
 
+-- before the first item, at a trail
+abbrev pub before_first : Trail → List Item → Stepper
+before_first t items = record { items = items; place = 0; trail = t }
+
 -- a journal's stepper, with all live steps taken back
 abbrev pub at_start : Journal → Stepper
-at_start j = record { items = j.items; place = 0; trail = rooted j.trail }
+at_start j = before_first (rooted j.trail) j.items
 
 -- The stepper is of a list of rules: by these the items before its place lead from the root graph to its trail, and those
 -- behind it on from there.

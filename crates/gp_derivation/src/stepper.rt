@@ -4,14 +4,16 @@ ghost use Rattle.std.specs.Prelude.{◌≡◌, ◌↔◌, ◌+◌, List, map, le
 ghost use Rattle.std.specs.Option.{option_copied};
 ghost use Rattle.gp_syntax.specs.Rule.{Rule as AnyRule};
 ghost use Rattle.gp_syntax.specs.Tree.{rule_of_tree};
-ghost use Rattle.gp_journal.specs.Journal.{IsJournalOf};
-ghost use Rattle.gp_derivation.specs.Stepper.{at_start, IsStepperOf, IsMoved};
+ghost use Rattle.gp_journal.specs.Trail.{Trail as AnyTrail, fresh};
+ghost use Rattle.gp_journal.specs.Leads.{Leads};
+ghost use Rattle.gp_journal.specs.Journal.{IsJournalOf, items_of};
+ghost use Rattle.gp_derivation.specs.Stepper.{at_start, before_first, IsStepperOf, IsMoved};
 
 use crate::backward::unmake;
 use crate::forward::make;
 use crate::standing::Standing;
 use gp_graph::Graph;
-use gp_journal::{Items, Journal};
+use gp_journal::{Items, Journal, Trail};
 use gp_syntax::{Item, Rule};
 use std::alloc::Global;
 use std::marker::Model;
@@ -72,15 +74,15 @@ impl Stepper {
         let (mut trail, items) = journal.apart();
         let depth = trail.depth();
         trail.back(depth);
-        Stepper {
-            items,
-            place: 0,
-            standing: Standing {
-                trail,
-                live: Vec::new(alloc),
-                taken: Vec::new(alloc),
-            },
-        }
+        starting(alloc, trail, items)
+    }
+
+    /// The stepper of items that lead from a host, before the first of them. It takes no memory.
+    pub fn at_host(alloc: Global, host: Graph, items: Items) -> Stepper
+        ensures start { result ≡ before_first (fresh host.graph) items.items }
+        ensures of_rules { (rules : List AnyRule) → (end : AnyTrail) × Leads rules (items_of items.items) (fresh host.graph) end → IsStepperOf rules result }
+    {
+        starting(alloc, Trail::new(alloc, host), items)
     }
 
     /// Before which item the stepper stands: the number of the items that are made.
@@ -145,5 +147,20 @@ impl Stepper {
             }
             Err(_) => Moved::NoMemory,
         }
+    }
+}
+
+// The stepper of a trail before the first of some items.
+fn starting(alloc: Global, trail: Trail, items: Items) -> Stepper
+    ensures { result ≡ before_first trail items.items }
+{
+    Stepper {
+        items,
+        place: 0,
+        standing: Standing {
+            trail,
+            live: Vec::new(alloc),
+            taken: Vec::new(alloc),
+        },
     }
 }

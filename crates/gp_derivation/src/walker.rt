@@ -3,16 +3,18 @@
 ghost use Rattle.std.specs.Prelude.{◌≡◌, ◌++◌, List, map, slice_get, OnOk, IfOk};
 ghost use Rattle.gp_syntax.specs.Rule.{Rule as AnyRule};
 ghost use Rattle.gp_syntax.specs.Tree.{rule_of_tree};
-ghost use Rattle.gp_journal.specs.Trail.{root_of};
-ghost use Rattle.gp_journal.specs.Journal.{items_of, IsJournalOf};
+ghost use Rattle.gp_journal.specs.Trail.{Trail, fresh};
+ghost use Rattle.gp_journal.specs.Leads.{Leads};
+ghost use Rattle.gp_journal.specs.Journal.{items_of};
 ghost use Rattle.gp_derivation.specs.Stepper.{IsStepperOf};
 ghost use Rattle.gp_derivation.specs.Walk.{place_text, Walks};
 ghost use Rattle.gp_derivation.specs.inside.Told.{item_text, Follows};
 
 use crate::line::Line;
 use crate::stepper::{Moved, Stepper};
+use gp_graph::Graph;
 use gp_hostfile::write_graph;
-use gp_journal::Journal;
+use gp_journal::Items;
 use gp_memory::NoMemory;
 use gp_syntax::Rule;
 use gp_trace::write_item;
@@ -26,18 +28,19 @@ struct Walker {
     text: Vec<u8>,
 }
 
-/// What the lines of a script come to over the items of a journal, from the first item on.
+/// What the lines of a script come to over the items of a run on the host, from the first item on.
 pub fn walk(
     alloc: Global,
-    journal: Journal,
+    host: Graph,
+    items: Items,
     rules: &[Rule],
     script: &[Line],
 ) -> Result<Vec<u8>, NoMemory>
-    requires { IsJournalOf (map rule_of_tree rules.now) journal }
-    ensures { IfOk result (λ v. Walks (map rule_of_tree rules.now) (root_of journal.trail) (items_of journal.items) 0 script.now v.items) }
+    requires { (end : Trail) × Leads (map rule_of_tree rules.now) (items_of items.items) (fresh host.graph) end }
+    ensures { IfOk result (λ v. Walks (map rule_of_tree rules.now) host.graph (items_of items.items) 0 script.now v.items) }
 {
     let mut walker = Walker {
-        stepper: Stepper::new(alloc, journal),
+        stepper: Stepper::at_host(alloc, host, items),
         text: Vec::new(alloc),
     };
     for line in script {

@@ -7,8 +7,11 @@ use Rattle.std.proofs.lemmas.Option.{none-some, slice_get-map, get_or_from_slice
 use Rattle.gp_memory.proofs.Basics.{some_same}
 use Rattle.gp_values.specs.Graph.{Graph, IsGraph}
 use Rattle.gp_syntax.specs.declared.rule.RuleParts.{RuleParts}
+use Rattle.gp_syntax.specs.Assigned.{PartialAssignment, assigned_of}
 use Rattle.gp_syntax.specs.Rule.{Rule, Found}
 use Rattle.gp_syntax.specs.Step.{Step}
+use Rattle.gp_syntax.specs.Step as steps
+use Rattle.gp_unify.specs.Matched.{IsAssignment}
 use Rattle.gp_syntax.specs.Run.{Stepped}
 use Rattle.gp_syntax.specs.Tree.{rule_of_tree}
 use Rattle.gp_step.specs.declared.inverse.Inverse.{Inverse}
@@ -17,7 +20,7 @@ use Rattle.gp_step.specs.After.{after}
 use Rattle.gp_step.proofs.Afters.{only_steps, numbered}
 use Rattle.gp_step.specs.Undo.{undone_by}
 use Rattle.gp_journal.specs.Trail.{Trail, led, led_by, advanced, undone, undone_of, back_by}
-use Rattle.gp_journal.specs.Leads.{AppliesBy, StepsBy, Goes}
+use Rattle.gp_journal.specs.Leads.{AppliesBy, AppliesWith, StepsBy, Goes}
 use Rattle.gp_journal.specs.inside.Held.{befores}
 
 pub one_before : (us : List (List Inverse)) (u : List Inverse) (g h : Graph) → undone_by u h ≡ g → befores (reverse (us ++ u ∷ [])) h ≡ g ∷ befores (reverse us) g
@@ -60,6 +63,15 @@ rule_at rules n r q is e = by (slice_get rules n) refl
     by (Some p) i =
         let s : r ≡ p = is ∙ get_or_from_slice_get rules n p r i in
         ap rule_of_tree s ∙ some_same (sym (slice_get-map rule_of_tree rules n ∙ ap (option_map rule_of_tree) i) ∙ e)
+
+pub applies_with : (rules : List Rule) (g : Graph) (m : Found) (p : PartialAssignment) → AppliesWith rules g m p → AppliesBy rules g m
+applies_with rules g m p a = record { rule = a.rule; is_rule = a.is_rule; applies = (assigned_of p, a.applies) }
+
+pub applies_here : (rules : List RuleParts) (n : ℕ) (r : RuleParts) (g : Graph) (m : Found) (p : PartialAssignment) → r ≡ slice_index_or rules n r → n ≡ m.rule → AppliesWith (map rule_of_tree rules) g m p
+    → steps.AppliesBy (rule_of_tree r) g m (assigned_of p) × IsAssignment (rule_of_tree r) (assigned_of p) p
+applies_here rules n r g m p is num a =
+    let e = rule_at rules m.rule r a.rule (is ∙ ap (λ k. slice_index_or rules k r) num) a.is_rule in
+    (subst (λ q. steps.AppliesBy q g m (assigned_of p)) (sym e) a.applies, subst (λ q. IsAssignment q (assigned_of p) p) (sym e) a.told)
 
 pub steps_by : (rules : List RuleParts) (n : ℕ) (r : RuleParts) (g h : Graph) (m : Found) → r ≡ slice_index_or rules n r → n ≡ m.rule → AppliesBy (map rule_of_tree rules) g m → Step (rule_of_tree r) g m h → StepsBy (map rule_of_tree rules) g m h
 steps_by rules n r g h m is num a s =

@@ -48,6 +48,10 @@ pub record Kept : Type 0 where
   pub items : List Item
   pub backs : ℕ
 
+-- one item more
+abbrev pub with_item : Kept → Item → Kept
+with_item k i = record k { items = k.items ++ i ∷ [] }
+
 -- the items of matches that were taken for a goal: each step, and where more are sought the turn after it
 abbrev pub noted : Mode → List Found → List Item
 noted mode [] = []

@@ -1,11 +1,11 @@
 -- What holds of trails and journals: their graphs are what their live steps and their items lead to from their root
--- graphs.
-use Rattle.std.specs.Prelude.{◌≡◌, ℕ, List, ◌++◌, map, length, take}
+-- graphs. And what holds of runs: their traces lead as items.
+use Rattle.std.specs.Prelude.{◌≡◌, ℕ, Bool, List, ◌++◌, map, length, take}
 use Rattle.gp_values.specs.Graph.{Graph}
 use Rattle.gp_syntax.specs.Rule.{Rule, Found}
-use Rattle.gp_syntax.specs.Run.{Item, Stepped}
+use Rattle.gp_syntax.specs.Run.{Command, Program, Item, Stepped, Ending, graph_at, Run}
 use Rattle.gp_syntax.specs.Replay.{Replays}
-use Rattle.gp_journal.specs.Trail.{Trail, root_of}
+use Rattle.gp_journal.specs.Trail.{Trail, root_of, fresh}
 use Rattle.gp_journal.specs.Leads.{IsTrailOf, Leads}
 use Rattle.gp_journal.specs.Journal.{Journal, IsJournalOf, items_of}
 
@@ -33,3 +33,13 @@ pub record TrailsAndJournalsReplay : Type 0 where
   pub journals : (rules : List Rule) (j : Journal) → IsJournalOf rules j → JournalReplays rules j
   -- the trail of a journal is of the list of rules of which the journal is
   pub apart : (rules : List Rule) (j : Journal) → IsJournalOf rules j → IsTrailOf rules j.trail
+
+-- from the trail of this graph the items lead to some trail, which stands at that graph
+pub record LeadsTo (rules : List Rule) (g : Graph) (t : List Item) (h : Graph) : Type 0 where
+  pub end : Trail
+  pub leads : Leads rules t (fresh g) end
+  pub graph : end.graph ≡ h
+
+-- the trace of each run leads from the graph where it begins to the one where it ends, each Back to where its steps began
+abbrev pub RunsLead : Type 0
+RunsLead = (program : Program) (p : Command) (g : Graph) (picks : List Bool) (t : List Item) (x : Ending) → Run program p g picks t x → LeadsTo program.rules g t (graph_at x)

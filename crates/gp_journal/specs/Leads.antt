@@ -1,9 +1,12 @@
 -- What items make of a trail, by the rules of a list.
 use Rattle.std.specs.Prelude.{◌≡◌, ◌≤◌, List, [], ◌∷◌, Some, slice_get, length, take}
 use Rattle.gp_values.specs.Graph.{Graph}
+use Rattle.gp_syntax.specs.Assigned.{PartialAssignment, assigned_of}
 use Rattle.gp_syntax.specs.Rule.{Rule, Found}
 use Rattle.gp_syntax.specs.Step.{Applies, Step}
+use Rattle.gp_syntax.specs.Step as steps
 use Rattle.gp_syntax.specs.Run.{Item, Stepped, Turned, Back}
+use Rattle.gp_unify.specs.Matched.{IsAssignment}
 use Rattle.gp_journal.specs.Trail.{Trail, led, back_by}
 
 -- the match applies by the rule of its number
@@ -12,7 +15,14 @@ pub record AppliesBy (rules : List Rule) (g : Graph) (m : Found) : Type 0 where
   pub is_rule : slice_get rules m.rule ≡ Some rule
   pub applies : Applies rule g m
 
--- and leads to this graph
+-- and these values are its assignment
+pub record AppliesWith (rules : List Rule) (g : Graph) (m : Found) (p : PartialAssignment) : Type 0 where
+  pub rule : Rule
+  pub is_rule : slice_get rules m.rule ≡ Some rule
+  pub applies : steps.AppliesBy rule g m (assigned_of p)
+  pub told : IsAssignment rule (assigned_of p) p
+
+-- it leads to this graph
 pub record StepsBy (rules : List Rule) (g : Graph) (m : Found) (h : Graph) : Type 0 where
   pub rule : Rule
   pub is_rule : slice_get rules m.rule ≡ Some rule

@@ -38,6 +38,10 @@ abbrev pub back_by : ℕ → Trail → Trail
 back_by zero t = t
 back_by (suc k) t = back_by k (undone t)
 
+-- what takes the live steps back is forgotten
+abbrev pub forgotten : Trail → Trail
+forgotten t = record t { before = [] }
+
 -- the graph with all live steps taken back
 abbrev pub root_from : Graph → List Graph → Graph
 root_from g [] = g

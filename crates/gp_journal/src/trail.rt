@@ -7,14 +7,14 @@ ghost use Rattle.gp_syntax.specs.Step.{Applies, Step};
 ghost use Rattle.gp_syntax.specs.Tree.{rule_of_tree, item_of};
 ghost use Rattle.gp_step.specs.After.{after};
 ghost use Rattle.gp_step.specs.Undo.{Undoes};
-ghost use Rattle.gp_journal.specs.Trail.{Trail as Shown, fresh, advanced, undone, back_by};
-ghost use Rattle.gp_journal.specs.Leads.{AppliesBy, StepsBy, IsTrailOf, Goes, Leads, CaughtUp};
+ghost use Rattle.gp_journal.specs.Trail.{Trail as Shown, fresh, advanced, undone, back_by, forgotten};
+ghost use Rattle.gp_journal.specs.Leads.{AppliesBy, AppliesWith, StepsBy, IsTrailOf, Goes, Leads, CaughtUp};
 ghost use Rattle.gp_journal.specs.Journal.{items_of};
 
 use gp_graph::Graph;
 use gp_memory::NoMemory;
-use gp_step::{Undo, apply, undo};
-use gp_syntax::{Found, Item, Rule};
+use gp_step::{Undo, apply, apply_told, undo};
+use gp_syntax::{Assignment, Found, Item, Rule};
 use std::alloc::Global;
 use std::marker::Model;
 
@@ -125,6 +125,27 @@ impl Trail {
         Ok(())
     }
 
+    /// The same, where the assignment is known by which the match applies.
+    pub fn advance_told(
+        &mut self,
+        rules: &[Rule],
+        found: &Found,
+        assignment: &Assignment,
+    ) -> Result<(), NoMemory>
+        requires { AppliesWith (map rule_of_tree rules.now) self.old.graph found.now assignment.now }
+        ensures ok { OnOk result (self.new ≡ advanced (map rule_of_tree rules.now) self.old found.now) }
+        ensures step { OnOk result (StepsBy (map rule_of_tree rules.now) self.old.graph found.now self.new.graph) }
+        ensures err { OnErr result (self.new ≡ self.old) }
+        ensures of_rules { IsTrailOf (map rule_of_tree rules.now) self.old → IsTrailOf (map rule_of_tree rules.now) self.new }
+    {
+        let _room = self.undos.capacity();
+        self.undos.reserve(1)?;
+        let rule = &rules[found.rule() as usize];
+        let undo = apply_told(self.alloc, rule, &mut self.graph, found, assignment)?;
+        push_spare(&mut self.undos, undo);
+        Ok(())
+    }
+
     // Takes the last step back.
     fn back_one(&mut self)
         requires { 0 < length self.old.before }
@@ -145,6 +166,28 @@ impl Trail {
         for _ in 0..k {
             self.back_one();
         }
+    }
+
+    /// Forgets what takes the live steps back: there is none to be taken back any more.
+    pub fn forget(&mut self)
+        ensures forgotten { self.new ≡ forgotten self.old }
+        ensures of_rules { (rules : List AnyRule) → IsTrailOf rules self.new }
+    {
+        self.undos.clear();
+    }
+
+    /// The graph by itself.
+    pub fn into_graph(self) -> Graph
+        ensures { result.graph ≡ self.graph }
+    {
+        let Trail {
+            graph,
+            undos,
+            caught: _,
+            alloc: _,
+        } = self;
+        drop(undos);
+        graph
     }
 
     // Makes what one item says.

@@ -41,12 +41,11 @@ kept_with-append None t u = refl
 kept_with-append (Some l) t u = ap Some (sym (append_assoc l t u))
 
 pub adds-nothing : (v : View) → Adds v v []
-adds-nothing v = record { program = refl; first = refl; left = omega arith; live = refl; kept = sym (kept_with-nothing v.kept) }
+adds-nothing v = record { program = refl; left = omega arith; live = refl; kept = sym (kept_with-nothing v.kept) }
 
 pub adds-append : (v w z : View) (t u : List Item) → Adds v w t → Adds w z u → Adds v z (t ++ u)
 adds-append v w z t u a b = record {
   program = b.program ∙ a.program;
-  first = b.first ∙ a.first;
   left = omega (arith, a.left, b.left, counted-append t u);
   live = b.live ∙ ap (λ (n : ℕ). live_with n u) a.live ∙ sym (live_with-append t u v.live);
   kept = b.kept ∙ ap (λ (o : Option (List Item)). kept_with o u) a.kept ∙ sym (kept_with-append v.kept t u);
@@ -102,12 +101,11 @@ keeps_keeps v w z a b = record {
 
 -- what is made before and after a mark is opened or closed
 adds_stay : (v w z : View) (t : List Item) → Adds v w t → Stays w z → Adds v z t
-adds_stay v w z t a b = record { program = b.program ∙ a.program; first = b.first ∙ a.first; left = ap (λ (n : ℕ). n + counted t) b.left ∙ a.left; live = b.live ∙ a.live; kept = b.kept ∙ a.kept }
+adds_stay v w z t a b = record { program = b.program ∙ a.program; left = ap (λ (n : ℕ). n + counted t) b.left ∙ a.left; live = b.live ∙ a.live; kept = b.kept ∙ a.kept }
 
 stay_adds : (v w z : View) (t : List Item) → Stays v w → Adds w z t → Adds v z t
 stay_adds v w z t a b = record {
   program = b.program ∙ a.program;
-  first = b.first ∙ a.first;
   left = b.left ∙ a.left;
   live = b.live ∙ ap (λ (n : ℕ). live_with n t) a.live;
   kept = b.kept ∙ ap (λ (o : Option (List Item)). kept_with o t) a.kept;

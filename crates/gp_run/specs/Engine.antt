@@ -11,12 +11,11 @@ use Rattle.gp_run.specs.declared.engine.Repeated.TheVariants as repeated
 use Rattle.gp_run.specs.declared.engine.Turned.TheVariants as turned
 use Rattle.gp_run.specs.declared.engine.Turned as turn_answer
 
--- The program and the graph with which the engine began; the graph that it has now; the graphs before the steps that it can
--- take back, the last first; how many steps are live; how many counted items are left; how many marks are open; and the
--- items made since the beginning, where they are kept.
+-- The program; the graph that the engine has now; the graphs before the steps that it can take back, the last first; how
+-- many steps are live; how many counted items are left; how many marks are open; and the items made since the beginning,
+-- where they are kept.
 pub record View : Type 0 where
   pub program : Program
-  pub first : Graph
   pub graph : Graph
   pub before : List Graph
   pub live : ℕ
@@ -46,10 +45,9 @@ kept_with None t = None
 kept_with (Some items) t = Some (items ++ t)
 
 -- The items of a trace are made: the steps and turns among them are no longer left, its steps are live but for those that
--- it takes back, and where items are kept, it is behind them. Program and first graph stay.
+-- it takes back, and where items are kept, it is behind them. The program stays.
 pub record Adds (v w : View) (t : List Item) : Type 0 where
   pub program : w.program ≡ v.program
-  pub first : w.first ≡ v.first
   pub left : w.left + counted t ≡ v.left
   pub live : w.live ≡ live_with v.live t
   pub kept : w.kept ≡ kept_with v.kept t
@@ -118,7 +116,6 @@ HasTurned turned.NoMemory v w = Free
 -- nothing is made, and the graphs before the steps stay where a mark is open before and after
 pub record Stays (v w : View) : Type 0 where
   pub program : w.program ≡ v.program
-  pub first : w.first ≡ v.first
   pub graph : w.graph ≡ v.graph
   pub live : w.live ≡ v.live
   pub left : w.left ≡ v.left

@@ -244,6 +244,10 @@ module _ (r : Rule) (g : Graph) (m : Found) (a : Assignment) (b : IsNumbered g) 
 pub assignment_is : (r : Rule) (g : Graph) (m : Found) (o : Option PartialAssignment) (b : PartialAssignment) (k : Applies r g m) → IsThatOfMatch o r g m → o ≡ Some b → IsAssignment r k.0 b
 assignment_is r g m o b k h e = subst (λ z. IsSomeAnd z (IsAssignment r k.0)) e (h k.0 k.1.is_match)
 
+-- it is its own
+pub itself : (r : Rule) (a : Assignment) (b : PartialAssignment) → IsAssignment r a b → IsAssignment r (assigned_of b) b
+itself r a b i = record { types = i.types; whole = i.whole; values = refl }
+
 pub is_ready : (p : RuleParts) (g : Graph) (m : Found) (b : PartialAssignment) → IsWellFormed (rule_of_tree p) → (k : Applies (rule_of_tree p) g m) → IsAssignment (rule_of_tree p) k.0 b → IsReady (scene p g m b)
 is_ready p g m b c k i = record { well_formed = c; applies = subst (AppliesBy (rule_of_tree p) g m) (sym i.values) k.1; types = i.types; whole = i.whole }
 

@@ -1,5 +1,3 @@
-pub mod Searches
-pub mod Nodes
 pub mod Marks
 pub mod Sessions
 pub mod Goes
@@ -11,4 +9,3 @@ pub mod Endings
 pub mod Crews
 mod Pursues
 pub mod Crossing
-pub mod Costs

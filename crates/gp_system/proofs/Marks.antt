@@ -1,10 +1,9 @@
 -- The graphs before the steps of a trail, as steps are made and taken back.
-use Rattle.std.proofs.Common.{◌≡◌, ℕ, zero, suc, ◌+◌, ◌-◌, List, [], ◌∷◌, ◌++◌, length, drop, refl, sym, ap, ◌∙◌, arith, append_assoc, length-append}
+use Rattle.std.proofs.Common.{◌≡◌, ℕ, zero, suc, ◌+◌, ◌-◌, List, [], ◌∷◌, ◌++◌, length, drop, refl, sym, ap, ◌∙◌, arith, append_assoc}
 use Rattle.std.proofs.lemmas.List.{length_push, drop_at}
 use Rattle.std.proofs.Math.Seq.{drop-nil}
 use Rattle.gp_values.specs.Graph.{Graph}
-use Rattle.gp_syntax.specs.declared.found.Item.{Item}
-use Rattle.gp_syntax.specs.Rule.{Rule, Found}
+use Rattle.gp_syntax.specs.Rule.{Found}
 use Rattle.gp_run.specs.Engine.{live_with}
 use Rattle.opt_core.specs.Core.{reached}
 use Rattle.gp_journal.specs.Trail.{Trail, led_by, advanced, back_by}
@@ -18,14 +17,6 @@ abbrev pub stack : Trail → List Graph
 stack t = t.graph ∷ t.before
 
 -- ---- taken back
-
-back_length : (k : ℕ) (g : Graph) (bs : List Graph) (c : ℕ) → length (back_by k (record { graph = g; before = bs; caught = c })).before ≡ length bs - k
-back_length zero g bs c = omega arith
-back_length (suc k) g [] c = let e = back_length k g [] c in omega arith
-back_length (suc k) g (b ∷ bs) c = let e = back_length k b bs c in omega arith
-
-pub depth_back : (k : ℕ) (t : Trail) → length (back_by k t).before ≡ length t.before - k
-depth_back k t = back_length k t.graph t.before t.caught
 
 back_down : (k : ℕ) (g : Graph) (bs : List Graph) (c : ℕ) (h : Graph) (hs : List Graph) → drop k (g ∷ bs) ≡ h ∷ hs → ((back_by k (record { graph = g; before = bs; caught = c })).graph ≡ h) × ((back_by k (record { graph = g; before = bs; caught = c })).before ≡ hs)
 back_down zero g bs c h hs e = (cc, cc)
@@ -46,18 +37,11 @@ module _ (s : RuleSystem) where
       let r = stacked (advanced (rules_of s) t m) ms in
       (r.0 ++ h ∷ [], r.1 ∙ sym (append_assoc r.0 (h ∷ []) (stack t)), omega (arith, r.2, length_push r.0 h))
 
-  pub depth_on : (t u : Trail) (es : List Found) → u ≡ reached (gp_means s) t es → length u.before ≡ length t.before + length es
-  depth_on t u es e =
-      let r = stacked t es in
-      let long : length (stack u) ≡ length (r.0 ++ stack t) = ap (λ (x : Trail). length (stack x)) e ∙ ap (λ (l : List Graph). length l) r.1 in
-      omega (arith, long, r.2, length-append r.0 (stack t))
-
   -- what stood before a goal stands behind the graphs of its entries
-  pub stands_behind : (t u : Trail) (es : List Found) → u ≡ reached (gp_means s) t es → drop (length u.before - length t.before) (stack u) ≡ stack t
+  pub stands_behind : (t u : Trail) (es : List Found) → u ≡ reached (gp_means s) t es → drop (length es) (stack u) ≡ stack t
   stands_behind t u es e =
       let r = stacked t es in
-      let many : length r.0 ≡ length u.before - length t.before = let d = depth_on t u es e in omega (arith, r.2) in
-      ap (λ (l : List Graph). drop (length u.before - length t.before) l) (ap stack e ∙ r.1) ∙ drop_at r.0 (stack t) (length u.before - length t.before) many
+      ap (λ (l : List Graph). drop (length es) l) (ap stack e ∙ r.1) ∙ drop_at r.0 (stack t) (length es) r.2
 
 -- each entry of a goal is one live step more
 pub live_turns : (n : ℕ) (es : List Found) → live_with n (items_of (turns_first es)) ≡ n + length es

@@ -8,7 +8,7 @@ use Rattle.gp_syntax.specs.declared.found.Item.TheVariants as items
 use Rattle.gp_syntax.specs.Rule.{Rule, Found}
 use Rattle.gp_syntax.specs.Step.{Step, CallsTo, HasApplying}
 use Rattle.gp_syntax.specs.Run as meant
-use Rattle.gp_syntax.specs.Run.{Program, Call, Stepped, Turned, counted}
+use Rattle.gp_syntax.specs.Run.{Program, Call, Stepped, Turned}
 use Rattle.gp_syntax.specs.WellFormed.{IsWellFormed}
 use Rattle.gp_syntax.proofs.Loops.{SoFar, one_step}
 use Rattle.gp_match.proofs.Judges.{judged_match}
@@ -19,8 +19,8 @@ use Rattle.opt_system.specs.Meaning.{applies}
 use Rattle.opt_system.specs.declared.answers.Mode.{Mode}
 use Rattle.opt_system.specs.declared.answers.Mode.TheVariants.{Once, Saturate}
 use Rattle.opt_core.specs.Core.{reached, AllApply}
-use Rattle.gp_journal.specs.Trail.{Trail, root_of, led_by, advanced}
-use Rattle.gp_journal.specs.Leads.{AppliesBy, Goes, Leads}
+use Rattle.gp_journal.specs.Trail.{Trail, led_by, advanced}
+use Rattle.gp_journal.specs.Leads.{AppliesBy}
 use Rattle.gp_journal.specs.Journal.{items_of}
 use Rattle.gp_system.specs.inside.Noted.{noted}
 use Rattle.gp_system.specs.declared.goal.CallGoal.{CallGoal}
@@ -50,9 +50,6 @@ stepped_by rules g m a w n = subst (λ (o : Option Rule). Step a.rule g m (led_b
 
 pub numbered_by : (rules : List Rule) (g : Graph) (m : Found) (a : AppliesBy rules g m) → All IsWellFormed rules → IsNumbered g → IsNumbered (led_by (slice_get rules m.rule) g m)
 numbered_by rules g m a w n = subst (λ (o : Option Rule). IsNumbered (led_by o g m)) (sym a.is_rule) (numbered_after a.rule g m (well_formed_at rules m.rule a.rule w a.is_rule) n a.applies)
-
-goes_by : (rules : List Rule) (t : Trail) (m : Found) (a : AppliesBy rules t.graph m) → All IsWellFormed rules → IsNumbered t.graph → Goes rules (Stepped m) t (advanced rules t m)
-goes_by rules t m a w n = (led_by (slice_get rules m.rule) t.graph m, record { rule = a.rule; is_rule = a.is_rule; step = stepped_by rules t.graph m a w n }, refl)
 
 -- ---- the items of entries
 
@@ -150,40 +147,9 @@ module _ (s : RuleSystem) (goal : CallGoal) (w : All IsWellFormed (rules_of s)) 
   next_numbered : (t : Trail) (m : Found) → (gp_means s).judged goal t m ≡ applies → IsNumbered t.graph → IsNumbered (advanced (rules_of s) t m).graph
   next_numbered t m e n = numbered_by (rules_of s) t.graph m (step_at t m e).step w n
 
-  goes_at : (t : Trail) (m : Found) → (gp_means s).judged goal t m ≡ applies → IsNumbered t.graph → Goes (rules_of s) (Stepped m) t (advanced (rules_of s) t m)
-  goes_at t m e n = goes_by (rules_of s) t m (step_at t m e).step w n
-
   pub reached_numbered : (t : Trail) (es : List Found) → AllApply (gp_means s) goal t es → IsNumbered t.graph → IsNumbered (reached (gp_means s) t es).graph
   reached_numbered t [] a n = n
   reached_numbered t (m ∷ ms) a n = reached_numbered (advanced (rules_of s) t m) ms a.1 (next_numbered t m a.0 n)
-
-  leads_once : (t : Trail) (es : List Found) → AllApply (gp_means s) goal t es → IsNumbered t.graph → Leads (rules_of s) (items_of (noted Once es)) t (reached (gp_means s) t es)
-  leads_once t [] a n = refl
-  leads_once t (m ∷ ms) a n = let u = advanced (rules_of s) t m in (u, goes_at t m a.0 n, leads_once u ms a.1 (next_numbered t m a.0 n))
-
-  leads_saturate : (t : Trail) (es : List Found) → AllApply (gp_means s) goal t es → IsNumbered t.graph → Leads (rules_of s) (items_of (noted Saturate es)) t (reached (gp_means s) t es)
-  leads_saturate t [] a n = refl
-  leads_saturate t (m ∷ ms) a n = let u = advanced (rules_of s) t m in (u, goes_at t m a.0 n, (u, refl, leads_saturate u ms a.1 (next_numbered t m a.0 n)))
-
-  leads_turned : (t : Trail) (es : List Found) → AllApply (gp_means s) goal t es → IsNumbered t.graph → Leads (rules_of s) (items_of (turns_first es)) t (reached (gp_means s) t es)
-  leads_turned t [] a n = refl
-  leads_turned t (m ∷ ms) a n = let u = advanced (rules_of s) t m in (t, refl, (u, goes_at t m a.0 n, leads_turned u ms a.1 (next_numbered t m a.0 n)))
-
-  pub leads_taken : (mode : Mode) (used : ℕ) (t : Trail) (es : List Found) → HasUsed mode es used → AllApply (gp_means s) goal t es → IsNumbered t.graph → Leads (rules_of s) (items_of (take used (noted mode es))) t (reached (gp_means s) t es)
-  leads_taken Once used t es h a n = subst (λ (l : List Item). Leads (rules_of s) (items_of l) t (reached (gp_means s) t es)) (sym (once_taken es used h)) (leads_once t es a n)
-  leads_taken Saturate used t es (inl h) a n = subst (λ (l : List Item). Leads (rules_of s) (items_of l) t (reached (gp_means s) t es)) (sym (all_taken es used h)) (leads_saturate t es a n)
-  leads_taken Saturate used t [] (inr h) a n = absurd (omega arith)
-  leads_taken Saturate used t (m ∷ ms) (inr h) a n =
-      let u = advanced (rules_of s) t m in
-      subst (λ (l : List Item). Leads (rules_of s) (items_of l) t (reached (gp_means s) t (m ∷ ms))) (sym (but_taken m ms used h)) (u, goes_at t m a.0 n, leads_turned u ms a.1 (next_numbered t m a.0 n))
-
-  pub reached_root : (t : Trail) (es : List Found) → root_of (reached (gp_means s) t es) ≡ root_of t
-  reached_root t [] = refl
-  reached_root t (m ∷ ms) = reached_root (advanced (rules_of s) t m) ms
-
-  pub reached_caught : (t : Trail) (es : List Found) → (reached (gp_means s) t es).caught ≡ t.caught
-  reached_caught t [] = refl
-  reached_caught t (m ∷ ms) = reached_caught (advanced (rules_of s) t m) ms
 
   -- ---- as a run
 

@@ -1,7 +1,6 @@
 -- What a session tells after each call.
-use Rattle.std.proofs.Common.{◌≡◌, ℕ, suc, ◌+◌, ◌-◌, ◌<◌, ◌≤◌, ◌%◌, List, [], ◌∷◌, ◌++◌, map, length, take, drop, slice_get, slice_index, slice_index_or, Contains, All, Option, Some, None, refl, sym, ap, subst, ◌∙◌, arith, add-one, append_assoc, append-nil}
-use Rattle.std.specs.Prelude.{Result, Ok, Err, OnOk, IfOk}
-use Rattle.std.specs.Option.{option_map_or}
+use Rattle.std.proofs.Common.{◌≡◌, ℕ, zero, suc, ◌+◌, ◌-◌, ◌<◌, ◌≤◌, ◌%◌, List, [], ◌∷◌, ◌++◌, map, length, take, drop, slice_get, slice_index, slice_index_or, Contains, All, Option, Some, None, refl, sym, ap, subst, ◌∙◌, arith, add-one}
+use Rattle.std.specs.Option.{option_map, option_map_or}
 use Rattle.std.proofs.Math.Nat.{mod-one}
 use Rattle.std.proofs.Math.Seq.{take-suc}
 use Rattle.std.proofs.lemmas.Option.{get_or_from_slice_get, slice_get_within, slice_get-get_or}
@@ -14,18 +13,19 @@ use Rattle.gp_syntax.specs.Scoped.{IsScoped}
 use Rattle.gp_syntax.specs.declared.found.Item.{Item}
 use Rattle.gp_syntax.specs.declared.found.Item.TheVariants as items
 use Rattle.gp_syntax.specs.declared.kinds.NumberKind.{NumberKind}
+use Rattle.gp_syntax.specs.Assigned.{PartialAssignment, assigned_of}
 use Rattle.gp_syntax.specs.Rule.{Rule, Found}
 use Rattle.gp_syntax.specs.Share.{first_node, Barren}
 use Rattle.gp_syntax.specs.Step.{Applies, Step, CallsTo, Blocked}
 use Rattle.gp_syntax.specs.Run as meant
-use Rattle.gp_syntax.specs.Run.{Program, Call, Stepped, Back, Fails, At, counted, Run, call_steps, call_fails, call_stands}
+use Rattle.gp_syntax.specs.Run.{Program, Call, Stepped, Back, Fails, At, Run, call_steps, call_fails, call_stands}
 use Rattle.gp_syntax.specs.Tree.{rule_of_tree, program_of_tree, item_of}
 use Rattle.gp_syntax.specs.WellFormed.{IsWellFormed}
 use Rattle.gp_step.proofs.Afters.{applying_steps}
-use Rattle.gp_journal.specs.Trail.{Trail, root_of, led_by, back_by}
-use Rattle.gp_journal.specs.Journal.{Journal, items_of, with_step, with_turn, with_mark, without_mark, with_back}
-use Rattle.gp_journal.proofs.Replays.{rooted_back, caught_back}
-use Rattle.gp_run.specs.Engine.{View, graphs, live_past, Adds, Keeps, MakesCall, IsSpent, HasFaulty, HasCalled, TurnMade, HasTurned, HasMarked, HasClosed, CanTakeBack, TakesBack}
+use Rattle.gp_journal.specs.Trail.{Trail, led_by, advanced, back_by}
+use Rattle.gp_journal.specs.Leads.{AppliesWith}
+use Rattle.gp_journal.specs.Journal.{Kept, items_of}
+use Rattle.gp_run.specs.Engine.{View, graphs, kept_with, Adds, Keeps, MakesCall, IsSpent, HasFaulty, HasCalled, TurnMade, HasTurned, HasMarked, HasClosed, CanTakeBack, TakesBack}
 use Rattle.gp_run.specs.Ended.{HasEnded}
 use Rattle.gp_run.specs.declared.engine.Called.TheVariants as called
 use Rattle.gp_run.specs.declared.engine.Turned.TheVariants as turned
@@ -33,19 +33,54 @@ use Rattle.gp_run.specs.declared.engine.Repeated.TheVariants as repeated
 use Rattle.gp_run.proofs.Leads.{adds-nothing, keeps_still, keeps_nothing}
 use Rattle.gp_search.specs.declared.sought.Sought.{Sought}
 use Rattle.gp_search.specs.declared.sought.Sought.TheVariants as answers
-use Rattle.gp_system.specs.Sought.{HasSought, IsOfSet}
-use Rattle.gp_system.specs.inside.Viewed.{Shown, view_of, Grows, HasSoughtCall, AppliesForCall}
-use Rattle.gp_system.proofs.Marks.{stack, depth_back, goes_back}
+use Rattle.gp_sets.specs.Sought.{HasSought, IsOfSet}
+use Rattle.gp_system.specs.inside.Viewed.{Shown, view_of, seen, settled, stepped, kept_and, items_in, HasSoughtCall, AppliesForCall}
+use Rattle.gp_system.proofs.Marks.{goes_back}
 
-abbrev pub shown : ProgramParts → Journal → ℕ → Shown
-shown p j l = record { program = p; journal = j; left = l }
+abbrev pub shown : ProgramParts → Trail → ℕ → ℕ → ℕ → Option (List Item) → Shown
+shown p t live left marks kept = record { program = p; trail = t; live = live; left = left; marks = marks; kept = kept }
+
+-- ---- what is forgotten is not seen
+
+pub settled_graph : (n : ℕ) (t : Trail) → (settled n t).graph ≡ t.graph
+settled_graph zero t = refl
+settled_graph (suc n) t = refl
+
+pub settled_seen : (n : ℕ) (t : Trail) → seen n (settled n t).before ≡ seen n t.before
+settled_seen zero t = refl
+settled_seen (suc n) t = refl
+
+pub seen_open : (n : ℕ) (bs : List Graph) → 0 < n → seen n bs ≡ bs
+seen_open zero bs h = absurd (omega arith)
+seen_open (suc n) bs h = refl
+
+-- the view of a run is the same where what no mark needs is forgotten
+pub same_view : (s : Shown) (t : Trail) → view_of (record s { trail = settled s.marks t }) ≡ view_of (record s { trail = t })
+same_view s t =
+    ap (λ (g : Graph). record (view_of (record s { trail = settled s.marks t })) { graph = g }) (settled_graph s.marks t)
+    ∙ ap (λ (bs : List Graph). record (view_of (record s { trail = t })) { before = bs }) (settled_seen s.marks t)
+
+-- ---- items, where they are kept
+
+-- items behind those that are kept, as an engine tells them
+pub kept_more : (kept : Option (List Item)) (more : List Item) → option_map items_of (kept_and more kept) ≡ kept_with (option_map items_of kept) (items_of more)
+kept_more None more = refl
+kept_more (Some is) more = ap (λ (l : List meant.Item). Some l) (map-append item_of is more)
+
+pub one_kept : (o : Option Kept) (f : Kept → Kept) (more : List Item) → ((k : Kept) → (f k).items ≡ k.items ++ more) → items_in (option_map f o) ≡ kept_and more (items_in o)
+one_kept None f more h = refl
+one_kept (Some k) f more h = ap (λ (l : List Item). Some l) (h k)
+
+pub same_kept : (o : Option Kept) (f : Kept → Kept) → ((k : Kept) → (f k).items ≡ k.items) → items_in (option_map f o) ≡ items_in o
+same_kept None f h = refl
+same_kept (Some k) f h = ap (λ (l : List Item). Some l) (h k)
 
 -- ---- calls
 
-pub stands_here : (c : ℕ) (s : Shown) → MakesCall (Call c) (view_of s) (view_of s) (At c s.journal.trail.graph)
+pub stands_here : (c : ℕ) (s : Shown) → MakesCall (Call c) (view_of s) (view_of s) (At c s.trail.graph)
 stands_here c s = record { trace = []; makes = record { run = call_stands; adds = adds-nothing (view_of s) } }
 
-pub spent_here : (c : ℕ) (s : Shown) (m : Found) → AppliesForCall (program_of_tree s.program) c s.journal.trail.graph m → s.left ≡ 0 → IsSpent c (view_of s)
+pub spent_here : (c : ℕ) (s : Shown) (m : Found) → AppliesForCall (program_of_tree s.program) c s.trail.graph m → s.left ≡ 0 → IsSpent c (view_of s)
 spent_here c s m a e = (
   record {
     set = a.set;
@@ -66,38 +101,49 @@ steps_on rules set g m w whole a = record {
   step = subst (λ (o : Option Rule). Step a.rule g m (led_by o g m)) (sym a.is_rule) (applying_steps a.rule g m (well_formed_at rules m.rule a.rule w a.is_rule) whole a.holds);
 }
 
-adds_item : (p : ProgramParts) (j k : Journal) (i : Item) (l n : ℕ) → root_of k.trail ≡ root_of j.trail → k.items ≡ j.items ++ i ∷ [] → length k.trail.before ≡ live_past (length j.trail.before) (item_of i) → n + counted (item_of i ∷ []) ≡ l → Adds (view_of (shown p j l)) (view_of (shown p k n)) (item_of i ∷ [])
-adds_item p j k i l n e f d h = record { program = refl; first = e; left = h; live = d; kept = ap (λ (is : List meant.Item). Some is) (ap (λ (is : List Item). map item_of is) f ∙ map-append item_of j.items (i ∷ [])) }
+-- where the step that a run has made is behind it
+abbrev after_step : Shown → Found → Shown
+after_step s m = record s { trail = advanced (map rule_of_tree s.program.rules) s.trail m; live = s.live + 1; left = s.left - 1; kept = kept_and (items.Step m ∷ []) s.kept }
+
+step_adds : (s : Shown) (m : Found) → 0 < s.left → Adds (view_of s) (view_of (after_step s m)) (Stepped m ∷ [])
+step_adds s m pos = record { program = refl; left = omega arith; live = refl; kept = kept_more s.kept (items.Step m ∷ []) }
 
 -- one step more stands on what was there
-keeps_step : (p : ProgramParts) (j : Journal) (l n : ℕ) (m : Found) → Keeps (view_of (shown p j l)) (view_of (shown p (with_step (map rule_of_tree p.rules) j m) n))
-keeps_step p j l n m =
-    let w = view_of (shown p (with_step (map rule_of_tree p.rules) j m) n) in
-    let one : suc (length j.trail.before) - length j.trail.before ≡ 1 = omega arith in
-    record { marks = refl; live = omega arith; graphs = λ h. ap (λ (k : ℕ). drop k (graphs w)) one }
+step_keeps : (s : Shown) (m : Found) → Keeps (view_of s) (view_of (after_step s m))
+step_keeps s m =
+    let w = view_of (after_step s m) in
+    let one : (s.live + 1) - s.live ≡ 1 = omega arith in
+    record {
+      marks = refl;
+      live = omega arith;
+      graphs = λ h.
+          ap (λ (k : ℕ). drop k (graphs w)) one ∙ seen_open s.marks (s.trail.graph ∷ s.trail.before) h
+          ∙ ap (λ (bs : List Graph). s.trail.graph ∷ bs) (sym (seen_open s.marks s.trail.before h));
+    }
 
-call_stepped : (p : ProgramParts) (c : ℕ) (j : Journal) (l n : ℕ) (m : Found) → All IsWellFormed (map rule_of_tree p.rules) → IsGraph j.trail.graph → AppliesForCall (program_of_tree p) c j.trail.graph m → n + 1 ≡ l
-    → HasCalled c called.Stepped (view_of (shown p j l)) (view_of (shown p (with_step (map rule_of_tree p.rules) j m) n))
-call_stepped p c j l n m w whole a e = (
-  record {
-    trace = Stepped m ∷ [];
-    makes = record {
-      run = call_steps a.is_set (steps_on (map rule_of_tree p.rules) a.set j.trail.graph m w whole a.found);
-      adds = adds_item p j (with_step (map rule_of_tree p.rules) j m) (items.Step m) l n refl refl (omega arith) e;
-    };
-  },
-  keeps_step p j l n m,
-)
+pub stepped_here : (c : ℕ) (s : Shown) (m : Found) → All IsWellFormed (map rule_of_tree s.program.rules) → IsGraph s.trail.graph → AppliesForCall (program_of_tree s.program) c s.trail.graph m → 0 < s.left → HasCalled c called.Stepped (view_of s) (view_of (stepped s m))
+stepped_here c s m w whole a pos =
+    subst (HasCalled c called.Stepped (view_of s)) (sym (same_view (after_step s m) (advanced (map rule_of_tree s.program.rules) s.trail m))) (
+      record {
+        trace = Stepped m ∷ [];
+        makes = record { run = call_steps a.is_set (steps_on (map rule_of_tree s.program.rules) a.set s.trail.graph m w whole a.found); adds = step_adds s m pos };
+      },
+      step_keeps s m,
+    )
 
-pub stepped_here : (s : Shown) (p : ProgramParts) (j k : Journal) (c l : ℕ) (m : Found) → shown p j l ≡ s → All IsWellFormed (map rule_of_tree p.rules) → IsGraph j.trail.graph → AppliesForCall (program_of_tree s.program) c s.journal.trail.graph m → 0 < l
-    → k ≡ with_step (map rule_of_tree p.rules) j m → HasCalled c called.Stepped (view_of s) (view_of (shown p k (l - 1)))
-stepped_here s p j k c l m e w whole a pos f =
-    subst (λ (x : Journal). HasCalled c called.Stepped (view_of s) (view_of (shown p x (l - 1)))) (sym f)
-    (subst (λ (x : Shown). HasCalled c called.Stepped (view_of x) (view_of (shown p (with_step (map rule_of_tree p.rules) j m) (l - 1)))) e
-    (call_stepped p c j l (l - 1) m w whole (subst (λ (x : Shown). AppliesForCall (program_of_tree x.program) c x.journal.trail.graph m) (sym e) a) (omega arith)))
+-- the same of what a session shows then
+pub step_here : (c : ℕ) (s w : Shown) (m : Found) → All IsWellFormed (map rule_of_tree s.program.rules) → IsGraph s.trail.graph → AppliesForCall (program_of_tree s.program) c s.trail.graph m → 0 < s.left → w ≡ stepped s m → HasCalled c called.Stepped (view_of s) (view_of w)
+step_here c s w m well whole a pos e = subst (λ (x : Shown). HasCalled c called.Stepped (view_of s) (view_of x)) (sym e) (stepped_here c s m well whole a pos)
 
-pub applies_for : (program : Program) (c : ℕ) (g : Graph) (m : Found) → HasSoughtCall program c g (answers.Applies m) → AppliesForCall program c g m
-applies_for program c g m a = record { set = a.set; is_set = a.is_set; found = a.sought }
+pub applies_for : (program : Program) (c : ℕ) (g : Graph) (m : Found) (p : PartialAssignment) → HasSoughtCall program c g (answers.Applies m p) → AppliesForCall program c g m
+applies_for program c g m p a = record {
+  set = a.set;
+  is_set = a.is_set;
+  found = record { in_set = a.sought.in_set; rule = a.sought.rule; is_rule = a.sought.is_rule; in_share = a.sought.in_share; holds = (assigned_of p, a.sought.holds.0) };
+}
+
+pub applies_told : (program : Program) (c : ℕ) (g : Graph) (m : Found) (p : PartialAssignment) → HasSoughtCall program c g (answers.Applies m p) → AppliesWith program.rules g m p
+applies_told program c g m p a = record { rule = a.sought.rule; is_rule = a.sought.is_rule; applies = a.sought.holds.0; told = a.sought.holds.1 }
 
 -- ---- one share is all
 
@@ -114,10 +160,10 @@ blocked rules set g b = record {
   none_faulty = λ i r m kind c e a. b.none_faulty i r m kind c e (share_one (first_node r) m.nodes) a;
 }
 
-pub blocked_here : (c : ℕ) (s : Shown) → HasSoughtCall (program_of_tree s.program) c s.journal.trail.graph answers.Barren → HasCalled c called.Blocked (view_of s) (view_of s)
-blocked_here c s a = (record { trace = []; makes = record { run = call_fails a.is_set (blocked (program_of_tree s.program).rules a.set s.journal.trail.graph a.sought); adds = adds-nothing (view_of s) } }, keeps_nothing (view_of s))
+pub blocked_here : (c : ℕ) (s : Shown) → HasSoughtCall (program_of_tree s.program) c s.trail.graph answers.Barren → HasCalled c called.Blocked (view_of s) (view_of s)
+blocked_here c s a = (record { trace = []; makes = record { run = call_fails a.is_set (blocked (program_of_tree s.program).rules a.set s.trail.graph a.sought); adds = adds-nothing (view_of s) } }, keeps_nothing (view_of s))
 
-pub faulty_here : (c k : ℕ) (s : Shown) (m : Found) (kind : NumberKind) → k ≡ m.rule → HasSoughtCall (program_of_tree s.program) c s.journal.trail.graph (answers.Faulty m kind) → MakesCall (Call c) (view_of s) (view_of s) (At c s.journal.trail.graph) × HasFaulty c k kind (view_of s)
+pub faulty_here : (c k : ℕ) (s : Shown) (m : Found) (kind : NumberKind) → k ≡ m.rule → HasSoughtCall (program_of_tree s.program) c s.trail.graph (answers.Faulty m kind) → MakesCall (Call c) (view_of s) (view_of s) (At c s.trail.graph) × HasFaulty c k kind (view_of s)
 faulty_here c k s m kind e a = (
   stands_here c s,
   subst (λ (i : ℕ). HasFaulty c i kind (view_of s)) (sym e)
@@ -126,64 +172,84 @@ faulty_here c k s m kind e a = (
 
 -- ---- turns
 
-turn_made : (p : ProgramParts) (j : Journal) (l : ℕ) → 0 < l → TurnMade (view_of (shown p j l)) (view_of (shown p (with_turn j) (l - 1)))
-turn_made p j l pos = record {
-  adds = adds_item p j (with_turn j) items.Turn l (l - 1) refl refl refl (omega arith);
-  graph = refl;
-  keeps = keeps_still (view_of (shown p j l)) (view_of (shown p (with_turn j) (l - 1))) refl refl refl (λ h. refl);
-}
+turn_made : (s : Shown) (kept : Option (List Item)) → 0 < s.left → kept ≡ kept_and (items.Turn ∷ []) s.kept → TurnMade (view_of s) (view_of (record s { left = s.left - 1; kept = kept }))
+turn_made s kept pos e =
+    let w = view_of (record s { left = s.left - 1; kept = kept }) in
+    record {
+      adds = record { program = refl; left = omega arith; live = refl; kept = ap (option_map items_of) e ∙ kept_more s.kept (items.Turn ∷ []) };
+      graph = refl;
+      keeps = keeps_still (view_of s) w refl refl refl (λ h. refl);
+    }
 
-pub turned_here : (s : Shown) (p : ProgramParts) (j k : Journal) (l : ℕ) → shown p j l ≡ s → 0 < l → k ≡ with_turn j → HasTurned turned.Made (view_of s) (view_of (shown p k (l - 1)))
-turned_here s p j k l e pos f = subst (λ (x : Journal). HasTurned turned.Made (view_of s) (view_of (shown p x (l - 1)))) (sym f) (subst (λ (x : Shown). HasTurned turned.Made (view_of x) (view_of (shown p (with_turn j) (l - 1)))) e (turn_made p j l pos))
+pub turned_here : (s : Shown) (p : ProgramParts) (t : Trail) (live left marks : ℕ) (kept now : Option (List Item)) → shown p t live left marks kept ≡ s → 0 < left → now ≡ kept_and (items.Turn ∷ []) kept → HasTurned turned.Made (view_of s) (view_of (shown p t live (left - 1) marks now))
+turned_here s p t live left marks kept now e pos f = subst (λ (x : Shown). HasTurned turned.Made (view_of x) (view_of (shown p t live (left - 1) marks now))) e (turn_made (shown p t live left marks kept) now pos f)
 
-turn_ended : (p : ProgramParts) (j : Journal) (l : ℕ) → HasEnded repeated.Ended (view_of (shown p j l)) (view_of (shown p (with_back 0 (with_mark j)) l))
-turn_ended p j l =
-    let marks : j.backs + 1 - 1 ≡ j.backs = omega arith in (
-      adds_item p j (with_back 0 (with_mark j)) (items.Back 0) l l refl refl (omega arith) (omega arith),
+turn_ended : (s : Shown) (kept : Option (List Item)) → kept ≡ kept_and (items.Back 0 ∷ []) s.kept → HasEnded repeated.Ended (view_of s) (view_of (record s { kept = kept }))
+turn_ended s kept e =
+    let w = view_of (record s { kept = kept }) in (
+      record { program = refl; left = omega arith; live = omega arith; kept = ap (option_map items_of) e ∙ kept_more s.kept (items.Back 0 ∷ []) },
       refl,
-      keeps_still (view_of (shown p j l)) (view_of (shown p (with_back 0 (with_mark j)) l)) marks refl refl (λ h. refl),
+      keeps_still (view_of s) w refl refl refl (λ h. refl),
     )
 
-pub ended_here : (s : Shown) (p : ProgramParts) (j m k : Journal) (l : ℕ) → shown p j l ≡ s → m ≡ with_mark j → k ≡ with_back 0 m → HasEnded repeated.Ended (view_of s) (view_of (shown p k l))
-ended_here s p j m k l e f g = subst (λ (x : Journal). HasEnded repeated.Ended (view_of s) (view_of (shown p x l))) (sym (g ∙ ap (with_back 0) f)) (subst (λ (x : Shown). HasEnded repeated.Ended (view_of x) (view_of (shown p (with_back 0 (with_mark j)) l))) e (turn_ended p j l))
+pub ended_here : (s : Shown) (p : ProgramParts) (t : Trail) (live left marks : ℕ) (kept now : Option (List Item)) → shown p t live left marks kept ≡ s → now ≡ kept_and (items.Back 0 ∷ []) kept → HasEnded repeated.Ended (view_of s) (view_of (shown p t live left marks now))
+ended_here s p t live left marks kept now e f = subst (λ (x : Shown). HasEnded repeated.Ended (view_of x) (view_of (shown p t live left marks now))) e (turn_ended (shown p t live left marks kept) now f)
 
 -- ---- marks, and taking back
 
-marked_here : (p : ProgramParts) (j : Journal) (l n : ℕ) → n ≡ length j.trail.before → HasMarked n (view_of (shown p j l)) (view_of (shown p (with_mark j) l))
-marked_here p j l n e = record { live_steps = e; marks = refl; stays = record { program = refl; first = refl; graph = refl; live = refl; left = refl; kept = refl; before = λ h k. refl } }
+more_seen : (m n : ℕ) (bs : List Graph) → 0 < m → 0 < n → seen n bs ≡ seen m bs
+more_seen m n bs h k = seen_open n bs k ∙ sym (seen_open m bs h)
 
-pub marks : {E : Type 0} (r : Result ℕ E) (s : Shown) (p : ProgramParts) (j k : Journal) (l : ℕ) → shown p j l ≡ s → OnOk r (k ≡ with_mark j) → IfOk r (λ n. n ≡ length j.trail.before) → IfOk r (λ n. HasMarked n (view_of s) (view_of (shown p k l)))
-marks (Ok n) s p j k l e a b = subst (λ (x : Shown). HasMarked n (view_of x) (view_of (shown p k l))) e (subst (λ (x : Journal). HasMarked n (view_of (shown p j l)) (view_of (shown p x l))) (sym a) (marked_here p j l n b))
-marks (Err x) s p j k l e a b = tt
+marked : (s : Shown) (n : ℕ) (kept : Option (List Item)) → n ≡ s.live → kept ≡ s.kept → HasMarked n (view_of s) (view_of (record s { marks = s.marks + 1; kept = kept }))
+marked s n kept e f = record {
+  live_steps = e;
+  marks = refl;
+  stays = record { program = refl; graph = refl; live = refl; left = refl; kept = ap (option_map items_of) f; before = λ h k. more_seen s.marks (s.marks + 1) s.trail.before h k };
+}
 
-closed_here : (p : ProgramParts) (j : Journal) (l : ℕ) → 0 < j.backs → HasClosed (view_of (shown p j l)) (view_of (shown p (without_mark j) l))
-closed_here p j l some = record { marks = omega arith; stays = record { program = refl; first = refl; graph = refl; live = refl; left = refl; kept = refl; before = λ h k. refl } }
+pub marked_here : (s : Shown) (p : ProgramParts) (t : Trail) (live left marks n : ℕ) (kept now : Option (List Item)) → shown p t live left marks kept ≡ s → n ≡ marks + 1 → now ≡ kept → HasMarked live (view_of s) (view_of (shown p t live left n now))
+marked_here s p t live left marks n kept now e f g =
+    subst (λ (x : Shown). HasMarked live (view_of x) (view_of (shown p t live left n now))) e
+    (subst (λ (k : ℕ). HasMarked live (view_of (shown p t live left marks kept)) (view_of (shown p t live left k now))) (sym f) (marked (shown p t live left marks kept) live now refl g))
 
-pub closes : (s : Shown) (p : ProgramParts) (j k : Journal) (l : ℕ) → shown p j l ≡ s → 0 < s.journal.backs → k ≡ without_mark j → HasClosed (view_of s) (view_of (shown p k l))
-closes s p j k l e some f =
-    subst (λ (x : Journal). HasClosed (view_of s) (view_of (shown p x l))) (sym f)
-    (subst (λ (x : Shown). HasClosed (view_of x) (view_of (shown p (without_mark j) l))) e (closed_here p j l (subst (λ (x : Shown). 0 < x.journal.backs) (sym e) some)))
+-- one mark less, and what is forgotten with it
+one_less : (s : Shown) (kept : Option (List Item)) → 0 < s.marks → kept ≡ s.kept → HasClosed (view_of s) (view_of (record s { marks = s.marks - 1; kept = kept }))
+one_less s kept some e = record {
+  marks = omega arith;
+  stays = record { program = refl; graph = refl; live = refl; left = refl; kept = ap (option_map items_of) e; before = λ h k. more_seen s.marks (s.marks - 1) s.trail.before h k };
+}
 
-pub low_enough : (s : Shown) (p : ProgramParts) (j : Journal) (l mark : ℕ) → shown p j l ≡ s → CanTakeBack mark (view_of s) → mark ≤ length j.trail.before
-low_enough s p j l mark e h = subst (λ (x : Shown). mark ≤ length x.journal.trail.before) (sym e) h.live
+pub closes : (s : Shown) (p : ProgramParts) (t u : Trail) (live left marks : ℕ) (kept now : Option (List Item)) → shown p t live left marks kept ≡ s → 0 < marks → u ≡ settled (marks - 1) t → now ≡ kept → HasClosed (view_of s) (view_of (shown p u live left (marks - 1) now))
+closes s p t u live left marks kept now e some f g =
+    subst (λ (x : Trail). HasClosed (view_of s) (view_of (shown p x live left (marks - 1) now))) (sym f)
+    (subst (HasClosed (view_of s)) (sym (same_view (shown p t live left (marks - 1) now) t))
+    (subst (λ (x : Shown). HasClosed (view_of x) (view_of (shown p t live left (marks - 1) now))) e (one_less (shown p t live left marks kept) now some g)))
 
-back_here : (p : ProgramParts) (j : Journal) (l mark d : ℕ) → d ≡ length j.trail.before → CanTakeBack mark (view_of (shown p j l)) → TakesBack mark (view_of (shown p j l)) (view_of (shown p (with_back (d - mark) j) l))
-back_here p j l mark d e can =
-    let same : root_of (back_by (d - mark) j.trail) ≡ root_of j.trail = ap (λ (t : Trail). t.graph) (rooted_back (d - mark) j.trail) in
-    let some : 0 < j.backs = can.open_mark in
-    let many : length j.trail.before - mark ≡ d - mark = omega (arith, e) in
+-- the steps that are to be taken back are there
+pub deep_enough : (s : Shown) (mark : ℕ) → CanTakeBack mark (view_of s) → s.live - mark ≤ length s.trail.before
+deep_enough s mark can = let e = ap length (seen_open s.marks s.trail.before can.open_mark) in let b = can.before in omega arith
+
+back_here : (s : Shown) (mark : ℕ) (kept : Option (List Item)) → CanTakeBack mark (view_of s) → kept ≡ kept_and (items.Back (s.live - mark) ∷ []) s.kept
+    → TakesBack mark (view_of s) (view_of (record s { trail = back_by (s.live - mark) s.trail; live = mark; marks = s.marks - 1; kept = kept }))
+back_here s mark kept can e =
+    let u = back_by (s.live - mark) s.trail in
+    let low = can.live in
     record {
-      adds = subst (λ (i : ℕ). Adds (view_of (shown p j l)) (view_of (shown p (with_back (d - mark) j) l)) (Back i ∷ [])) (sym many) (adds_item p j (with_back (d - mark) j) (items.Back (d - mark)) l l same refl (depth_back (d - mark) j.trail) (omega arith));
-      marks = omega (arith, some);
+      adds = record { program = refl; left = omega arith; live = omega arith; kept = ap (option_map items_of) e ∙ kept_more s.kept (items.Back (s.live - mark) ∷ []) };
+      marks = omega (arith, can.open_mark);
       graph = λ h hs there.
-          let down = goes_back (d - mark) j.trail h hs (subst (λ (i : ℕ). drop i (stack j.trail) ≡ h ∷ hs) many there) in
-          (down.0, λ k. down.1);
+          let down = goes_back (s.live - mark) s.trail h hs (ap (λ (bs : List Graph). drop (s.live - mark) (s.trail.graph ∷ bs)) (sym (seen_open s.marks s.trail.before can.open_mark)) ∙ there) in
+          (down.0, λ k. seen_open (s.marks - 1) u.before k ∙ down.1);
     }
 
-pub backs : (s : Shown) (p : ProgramParts) (j k : Journal) (l mark d : ℕ) → shown p j l ≡ s → d ≡ length j.trail.before → CanTakeBack mark (view_of s) → k ≡ with_back (d - mark) j → TakesBack mark (view_of s) (view_of (shown p k l))
-backs s p j k l mark d e f can h =
-    subst (λ (x : Shown). TakesBack mark (view_of x) (view_of (shown p k l))) e
-    (subst (λ (x : Journal). TakesBack mark (view_of (shown p j l)) (view_of (shown p x l))) (sym h) (back_here p j l mark d f (subst (λ (x : Shown). CanTakeBack mark (view_of x)) (sym e) can)))
+pub backs : (s : Shown) (p : ProgramParts) (t u w : Trail) (live left marks mark : ℕ) (kept now : Option (List Item)) → shown p t live left marks kept ≡ s → CanTakeBack mark (view_of s) → u ≡ back_by (live - mark) t → w ≡ settled (marks - 1) u → now ≡ kept_and (items.Back (live - mark) ∷ []) kept
+    → TakesBack mark (view_of s) (view_of (shown p w mark left (marks - 1) now))
+backs s p t u w live left marks mark kept now e can f g h =
+    let to : w ≡ settled (marks - 1) (back_by (live - mark) t) = g ∙ ap (settled (marks - 1)) f in
+    subst (λ (x : Trail). TakesBack mark (view_of s) (view_of (shown p x mark left (marks - 1) now))) (sym to)
+    (subst (TakesBack mark (view_of s)) (sym (same_view (shown p t mark left (marks - 1) now) (back_by (live - mark) t)))
+    (subst (λ (x : Shown). TakesBack mark (view_of x) (view_of (shown p (back_by (live - mark) t) mark left (marks - 1) now))) e
+    (back_here (shown p t live left marks kept) mark now (subst (λ (x : Shown). CanTakeBack mark (view_of x)) (sym e) can) h)))
 
 -- ---- the set of a call
 
@@ -204,15 +270,16 @@ set_within p q set rules c e f w h k d l =
     let same : length rules ≡ length q.rules = ap (λ (rs : List RuleParts). length rs) f in
     omega arith
 
-pub sought_here : (p q : ProgramParts) (s : Shown) (j : Journal) (l : ℕ) (set : List ℕ) (rules : List RuleParts) (c : ℕ) (g : Graph) (x : Sought) → shown p j l ≡ s → q ≡ p → rules ≡ q.rules → slice_get p.sets c ≡ Some set → g ≡ j.trail.graph
-    → HasSought (map rule_of_tree rules) set 1 0 g x → HasSoughtCall (program_of_tree s.program) c s.journal.trail.graph x
-sought_here p q s j l set rules c g x e f h i k w =
-    subst (λ (y : Shown). HasSoughtCall (program_of_tree y.program) c y.journal.trail.graph x) e
+pub sought_here : (p q : ProgramParts) (s : Shown) (t : Trail) (set : List ℕ) (rules : List RuleParts) (c : ℕ) (g : Graph) (x : Sought) → p ≡ s.program → t ≡ s.trail → q ≡ p → rules ≡ q.rules → slice_get p.sets c ≡ Some set → g ≡ t.graph
+    → HasSought (map rule_of_tree rules) set 1 0 g x → HasSoughtCall (program_of_tree s.program) c s.trail.graph x
+sought_here p q s t set rules c g x e d f h i k w =
+    subst (λ (y : ProgramParts). HasSoughtCall (program_of_tree y) c s.trail.graph x) e
+    (subst (λ (y : Trail). HasSoughtCall (program_of_tree p) c y.graph x) d
     (record {
       set = set;
       is_set = i;
       sought = subst (λ (z : Graph). HasSought (map rule_of_tree p.rules) set 1 0 z x) k (subst (λ (rs : List RuleParts). HasSought (map rule_of_tree rs) set 1 0 g x) (h ∙ ap (λ (z : ProgramParts). z.rules) f) w);
-    })
+    }))
 
 -- ---- rules
 
@@ -231,42 +298,3 @@ failed_graph (call_fails s b) = refl
 
 pub same_graph : (c : ℕ) (w x y : View) → HasTurned turned.Made w x → HasCalled c called.Blocked x y → y.graph ≡ w.graph
 same_graph c w x y a m = failed_graph m.0.makes.run ∙ a.graph
-
--- ---- items that are added
-
-pub grows_not : (s : Shown) → Grows s s
-grows_not s = record { program = refl; first = refl; caught = refl; more = []; items = sym (append-nil (items_of s.journal.items)) }
-
-pub grows_by : (p : ProgramParts) (j k : Journal) (l n : ℕ) (i : Item) → root_of k.trail ≡ root_of j.trail → k.trail.caught ≡ j.trail.caught → k.items ≡ j.items ++ i ∷ [] → Grows (shown p j l) (shown p k n)
-grows_by p j k l n i e f h = record {
-  program = refl;
-  first = e;
-  caught = f;
-  more = item_of i ∷ [];
-  items = ap (λ (is : List Item). map item_of is) h ∙ map-append item_of j.items (i ∷ []);
-}
-
-pub grows_on : (v w x : Shown) → Grows v w → Grows w x → Grows v x
-grows_on v w x a b = record {
-  program = b.program ∙ a.program;
-  first = b.first ∙ a.first;
-  caught = b.caught ∙ a.caught;
-  more = a.more ++ b.more;
-  items = b.items ∙ ap (λ (is : List meant.Item). is ++ b.more) a.items ∙ append_assoc (items_of v.journal.items) a.more b.more;
-}
-
--- the same of the run that a session shows
-pub grows_here : (s : Shown) (p : ProgramParts) (j k : Journal) (l n : ℕ) (i : Item) → shown p j l ≡ s → root_of k.trail ≡ root_of j.trail → k.trail.caught ≡ j.trail.caught → k.items ≡ j.items ++ i ∷ [] → Grows s (shown p k n)
-grows_here s p j k l n i same e f h = subst (λ (x : Shown). Grows x (shown p k n)) same (grows_by p j k l n i e f h)
-
-pub grows_turn : (s : Shown) (p : ProgramParts) (j k : Journal) (l n : ℕ) → shown p j l ≡ s → k ≡ with_turn j → Grows s (shown p k n)
-grows_turn s p j k l n e f = subst (λ (x : Journal). Grows s (shown p x n)) (sym f) (grows_here s p j (with_turn j) l n items.Turn e refl refl refl)
-
-pub grows_closed : (s : Shown) (p : ProgramParts) (j k : Journal) (l n : ℕ) → shown p j l ≡ s → k ≡ without_mark j → Grows s (shown p k n)
-grows_closed s p j k l n e f = subst (λ (x : Journal). Grows s (shown p x n)) (sym f) (subst (λ (x : Shown). Grows x (shown p (without_mark j) n)) e (record { program = refl; first = refl; caught = refl; more = []; items = sym (append-nil (items_of j.items)) }))
-
-pub grows_back : (s : Shown) (p : ProgramParts) (j k : Journal) (l n i : ℕ) → shown p j l ≡ s → k ≡ with_back i j → Grows s (shown p k n)
-grows_back s p j k l n i e f = subst (λ (x : Journal). Grows s (shown p x n)) (sym f) (grows_here s p j (with_back i j) l n (items.Back i) e (ap (λ (t : Trail). t.graph) (rooted_back i j.trail)) (caught_back i j.trail) refl)
-
-pub grows_end : (s : Shown) (p : ProgramParts) (j m k : Journal) (l n : ℕ) → shown p j l ≡ s → m ≡ with_mark j → k ≡ with_back 0 m → Grows s (shown p k n)
-grows_end s p j m k l n e f g = subst (λ (x : Journal). Grows s (shown p x n)) (sym (g ∙ ap (with_back 0) f)) (grows_here s p j (with_back 0 (with_mark j)) l n (items.Back 0) e refl refl refl)

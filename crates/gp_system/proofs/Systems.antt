@@ -30,7 +30,7 @@ use Rattle.gp_journal.specs.Leads.{AppliesBy}
 use Rattle.gp_system.specs.declared.goal.CallGoal.{CallGoal}
 use Rattle.gp_system.specs.declared.goal.Fault.{Fault}
 use Rattle.gp_system.specs.Gp.{RuleSystem, rules_of, has, with_rule, judged_by, judged_in, share_in, gp_means}
-use Rattle.gp_system.specs.Sought.{HasSought}
+use Rattle.gp_sets.specs.Sought.{HasSought}
 use Rattle.gp_system.specs.inside.Planned.{verdict_of, sought_of}
 use Rattle.gp_plan.proofs.Pairs.{rule_here}
 use Rattle.gp_system.proofs.Sessions.{set_within}
@@ -124,8 +124,8 @@ module _ (law : (r : Rule) (g : Graph) (m : Found) → IsWellFormed r → IsJudg
   shared m r share f e = ap (λ (o : Option Rule). option_map_or (λ r. share_of r m (s.further + 1)) o 0) f ∙ e
 
   pub sought_there : (goal : CallGoal) (set : List ℕ) (share : ℕ) (at : Trail) (x : found.Sought) → slice_get s.sets goal.call ≡ Some set → HasSought (rules_of s) set (s.further + 1) share at.graph x → IsSoughtIn (gp_means s) goal share at (sought_of x)
-  sought_there goal set share at (answers.Applies m) e a =
-      (shared m a.rule share a.is_rule a.in_share, there goal set at.graph m a.rule e a.in_set a.is_rule ∙ judged_applies a.rule at.graph m (law a.rule at.graph m (well_formed_at (rules_of s) m.rule a.rule w a.is_rule)) a.holds)
+  sought_there goal set share at (answers.Applies m p) e a =
+      (shared m a.rule share a.is_rule a.in_share, there goal set at.graph m a.rule e a.in_set a.is_rule ∙ judged_applies a.rule at.graph m (law a.rule at.graph m (well_formed_at (rules_of s) m.rule a.rule w a.is_rule)) (_, a.holds.0))
   sought_there goal set share at (answers.Faulty m k) e a =
       (shared m a.0.rule share a.0.is_rule a.0.in_share, there goal set at.graph m a.0.rule e a.0.in_set a.0.is_rule ∙ judged_faulty a.0.rule at.graph m (law a.0.rule at.graph m (well_formed_at (rules_of s) m.rule a.0.rule w a.0.is_rule)) k a.0.holds)
   sought_there goal set share at answers.Barren e a = λ m h. ap (λ (o : Option (List ℕ)). judged_in o (rules_of s) at.graph m) e ∙ inside m h (has m.rule set) refl

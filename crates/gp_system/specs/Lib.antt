@@ -1,5 +1,3 @@
-pub mod Sought
-pub mod Cost
 pub mod Ended
 pub mod Gp
 pub mod Laws

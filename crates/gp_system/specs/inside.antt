@@ -1,5 +1,4 @@
 -- What only bodies and proofs need.
-pub mod Among
 pub mod Viewed
 pub mod Planned
 pub mod Laws
@@ -7,4 +6,3 @@ pub mod Noted
 pub mod Pursued
 pub mod Finishing
 pub mod AfterTurn
-pub mod Given

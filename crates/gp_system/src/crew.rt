@@ -2,7 +2,7 @@
 
 use opt_worker::Pacing;
 
-/// The workers of a run, and its bound. Workers, fan and batch are hints: no result depends on them.
+/// The workers of a run. Workers, fan and batch are hints: no result depends on them.
 #[derive(Clone, Copy)]
 pub struct Crew {
     /// How many workers there are. With none or one, each call is searched where the run stands, and nothing waits.
@@ -13,13 +13,16 @@ pub struct Crew {
     pub fan: u32,
     /// How many independent matches a worker may offer in one turn, for a loop over a call. With none it is one.
     pub batch: u32,
-    /// How many steps and turns may be made.
-    pub bound: u64,
 }
 
-/// A crew, and the pace that may hold its workers.
+/// How a run is to be made.
 #[derive(Clone, Copy)]
-pub struct PacedCrew<'a> {
+pub struct Terms<'a> {
+    /// How many steps and turns may be made.
+    pub bound: u64,
+    /// Whether the items that are made are kept, and left with the graph: each takes a hundred bytes and more.
+    pub keeps: bool,
     pub crew: Crew,
+    /// What may hold the workers.
     pub pace: &'a Pacing,
 }

@@ -3,20 +3,19 @@
 ghost use Rattle.std.specs.Prelude.{◌≡◌, ◌<◌, ◌≤◌, ◌%◌, IfOk, length, map};
 ghost use Rattle.gp_syntax.specs.Tree.{rule_of_tree};
 ghost use Rattle.gp_plan.specs.Plan.{plan_of};
-ghost use Rattle.gp_journal.specs.Journal.{IsJournalOf};
 ghost use Rattle.gp_run.specs.Engine.{View, HasCalled, HasRepeated, HasTurned};
 ghost use Rattle.gp_run.specs.declared.engine.Turned.TheVariants as turned;
-ghost use Rattle.gp_system.specs.inside.Viewed.{view_of, begun};
+ghost use Rattle.gp_system.specs.inside.Viewed.{view_of, begun, items_in, none_if};
 ghost use Rattle.gp_system.specs.inside.Pursued.{HasPursued};
 ghost use Rattle.gp_system.specs.inside.AfterTurn.{HasGone, still};
 
-use crate::crew::Crew;
+use crate::crew::{Crew, Terms};
 use crate::goal::{CallGoal, Fault};
 use crate::gp::Gp;
-use crate::pursuit::{Apart, Asked, pursue_apart};
+use crate::outcome::Ran;
+use crate::pursuit::{Asked, pursue_goal};
 use crate::session::{AfterTurn, Session};
 use gp_graph::Graph;
-use gp_journal::{Journal, Trail};
 use gp_memory::NoMemory;
 use gp_plan::Plan;
 use gp_run::{Called, Engine, Repeated, Turned};
@@ -26,7 +25,6 @@ use opt_system::Mode;
 use opt_worker::{Pacing, SHARES_OF_A_WORKER};
 use std::alloc::Global;
 use std::marker::Model;
-use std::mem;
 use std::sync::Wait;
 use std::thread::Threads;
 
@@ -36,16 +34,17 @@ const CANDIDATES: u64 = 20_000;
 // With how many counted items the crew has a loop first, from within a turn: eight steps, and the turns between them.
 const FIRST_LEASE: u64 = 15;
 
+// With how many at most: the workers keep the steps of a lease, and what takes them back.
+const LAST_LEASE: u64 = 8191;
+
 /// A run with a crew. Contracts see what they see of a `Session`. The workers' trails are made at the first call that goes
-/// to the crew and kept, with how many items of the journal they have had.
+/// to the crew, and kept while few steps are made without them.
 #[derive(Drop)]
 pub struct CrewSession<'a> {
     session: Session<'a>,
     system: Gp<'a>,
     crew: Crew,
     pace: &'a Pacing,
-    replicas: Vec<Trail>,
-    had: usize,
 }
 
 impl<'a> Model for CrewSession<'a> {
@@ -58,7 +57,7 @@ impl<'a> Model for CrewSession<'a> {
 
     ghost view = { λ a. a.session };
 
-    ghost invariant = { λ a. IsCrewed a.session a.system a.crew.workers a.replicas.items a.had };
+    ghost invariant = { λ a. IsCrewed a.session a.system a.crew.workers };
 }
 
 // How many shares a goal has: several for each worker, so that whoever is done early does little of another's work again;
@@ -74,38 +73,49 @@ fn shares_for(crew: Crew, nodes: u64) -> u32
     several
 }
 
+// The lease after this one.
+fn longer(lease: u64) -> u64
+    requires { lease % 2 ≡ 1 }
+    ensures { result % 2 ≡ 1 }
+{
+    if lease < LAST_LEASE {
+        lease * 2 + 1
+    } else {
+        lease
+    }
+}
+
 impl<'a> CrewSession<'a> {
-    /// At the beginning of a run of the program on the host by this crew, with the plans of its rules.
+    /// At the beginning of a run of the program on the host on these terms, with the plans of its rules.
     pub fn new(
         alloc: Global,
         program: &'a Program,
         plans: &'a [Plan],
         host: Graph,
-        crew: Crew,
-        pace: &'a Pacing,
+        terms: Terms<'a>,
     ) -> CrewSession<'a>
         requires plans { plans.now ≡ map plan_of (map rule_of_tree program.now.rules) }
-        requires workers { 0 < crew.workers }
-        ensures { result ≡ begun program.now host.graph crew.bound }
+        requires workers { 0 < terms.crew.workers }
+        ensures { result ≡ begun program.now host.graph terms.entry.bound (none_if terms.entry.keeps) }
     {
         let _sound = host.next_numbers();
+        let crew = terms.crew;
         let shares = shares_for(crew, host.node_count());
         CrewSession {
-            session: Session::new(alloc, program, plans, host, crew.bound),
+            session: Session::new(alloc, program, plans, host, terms.bound, terms.keeps),
             system: Gp::new(alloc, program, plans, shares),
             crew,
-            pace,
-            replicas: Vec::new(alloc),
-            had: 0,
+            pace: terms.pace,
         }
     }
 
-    /// The journal of what was made.
-    pub fn into_journal(self) -> Journal
-        ensures journal { result ≡ self.entry.journal }
-        ensures of_rules { IsJournalOf (map rule_of_tree self.entry.program.rules) result }
+    /// What the run leaves.
+    pub fn into_ran(self) -> Ran
+        ensures graph { result.graph.graph ≡ self.entry.trail.graph }
+        ensures live_steps { result.live ≡ self.entry.live }
+        ensures items { items_in result.items ≡ self.entry.kept }
     {
-        self.session.into_journal()
+        self.session.into_ran()
     }
 
     // Whether the call goes to the crew at once.
@@ -131,28 +141,17 @@ impl<'a> CrewSession<'a> {
         requires given { given ≤ self.old.left }
         ensures { IfOk result (λ x. HasPursued goal given x self.old self.new) }
     {
-        let left = self.session.left();
-        let (trail, items) = self.session.take_apart();
-        let replicas = mem::replace(&mut self.replicas, Vec::new(self.system.allocator()));
-        let had = mem::replace(&mut self.had, 0);
-        let apart = Apart {
-            trail,
-            items,
-            replicas,
-            had,
-        };
+        let trail = self.session.take_trail();
         let asked = Asked {
             goal,
             left: given,
             workers: self.crew.workers,
             batch: self.crew.batch,
         };
-        let pursued = pursue_apart(rt, &self.system, apart, asked, self.pace)?;
+        let pursued = pursue_goal(rt, &self.system, trail, asked, self.pace)?;
         let used = given - pursued.left;
-        self.had = pursued.items.as_slice().len();
-        self.replicas = pursued.replicas;
         self.session
-            .put_together(pursued.trail, pursued.items, left - used);
+            .take_in(pursued.trail, pursued.entries, goal.mode, used)?;
         Ok(pursued.ending)
     }
 
@@ -205,7 +204,8 @@ impl<'a> CrewSession<'a> {
         }
     }
 
-    // The whole loop over a call. Each time that the crew has it, it has it for twice as many steps.
+    // The whole loop over a call. Each time that the crew has it, it has it for twice as many steps, up to those of the last
+    // lease.
     fn take_loop<R: Threads + Wait + Sync>(&mut self, rt: &R, call: u32) -> Repeated
         requires { call < length self.old.program.sets }
         ensures { HasRepeated call result (view_of self.old) (view_of self.new) }
@@ -218,7 +218,7 @@ impl<'a> CrewSession<'a> {
                 AfterTurn::On => stands = self.session.take_turns(call, patience),
                 AfterTurn::Dear => {
                     stands = self.pursue_turns(rt, call, lease);
-                    lease = lease.saturating_mul(2).saturating_add(1);
+                    lease = longer(lease);
                 }
                 AfterTurn::Came(repeated) => return repeated,
             }

@@ -6,13 +6,12 @@ ghost use Rattle.gp_plan.specs.Plan.{plan_of};
 ghost use Rattle.gp_system.specs.Ended.{HasEnded};
 ghost use Rattle.gp_system.specs.inside.Finishing.{outcome_of};
 
-use crate::crew::PacedCrew;
+use crate::crew::Terms;
 use crate::crew_session::CrewSession;
-use crate::outcome::Outcome;
+use crate::outcome::{Outcome, Ran};
 use crate::session::Session;
 use gp_graph::Graph;
 use gp_independence::conditions_ask_between;
-use gp_journal::Journal;
 use gp_plan::{Plan, plans_ask_between, plans_of};
 use gp_run::{Chooser, Finish, run};
 use gp_syntax::Program;
@@ -20,15 +19,15 @@ use std::alloc::Global;
 use std::sync::Wait;
 use std::thread::Threads;
 
-// How a run ended, with the journal of what was made.
-fn outcome(finish: Finish, journal: Journal) -> Outcome
-    ensures { result ≡ outcome_of finish journal }
+// How a run ended, with what it leaves.
+fn outcome(finish: Finish, ran: Ran) -> Outcome
+    ensures { result ≡ outcome_of finish ran }
 {
     match finish {
-        Finish::Graph => Outcome::Graph(journal),
-        Finish::Fail => Outcome::Fail(journal),
-        Finish::Bound => Outcome::Bound(journal),
-        Finish::Fault(rule, kind) => Outcome::Fault(journal, rule, kind),
+        Finish::Graph => Outcome::Graph(ran),
+        Finish::Fail => Outcome::Fail(ran),
+        Finish::Bound => Outcome::Bound(ran),
+        Finish::Fault(rule, kind) => Outcome::Fault(ran, rule, kind),
         Finish::NoMemory => Outcome::NoMemory,
     }
 }
@@ -49,38 +48,37 @@ fn execute_alone<C: Chooser>(
     program: &Program,
     plans: &[Plan],
     host: Graph,
-    bound: u64,
+    terms: Terms<'_>,
     chooser: &mut C,
 ) -> Outcome
     requires { plans.now ≡ map plan_of (map rule_of_tree program.now.rules) }
-    ensures { HasEnded C.answer C.next (program_of_tree program.now) host.graph bound (C.state chooser.old) (C.state chooser.new) result }
+    ensures { HasEnded C.answer C.next (program_of_tree program.now) host.graph terms.entry.bound terms.entry.keeps (C.state chooser.old) (C.state chooser.new) result }
 {
-    let mut session = Session::new(alloc, program, plans, host, bound);
+    let mut session = Session::new(alloc, program, plans, host, terms.bound, terms.keeps);
     let finish = run(&(), program, &mut session, chooser);
-    outcome(finish, session.into_journal())
+    outcome(finish, session.into_ran())
 }
 
-/// Runs the program on the host graph, with at most so many steps and turns as the crew's bound. The answers of `or` are
-/// the chooser's. With two workers or more, calls with many candidates are searched by all of them, which the pace may hold.
+/// Runs the program on the host graph, with at most so many steps and turns as the terms say. The answers of `or` are the
+/// chooser's. With two workers or more, calls with many candidates are searched by all of them, which the pace may hold.
 pub fn execute<C: Chooser, R: Threads + Wait + Sync>(
     rt: &R,
     alloc: Global,
     program: &Program,
     host: Graph,
-    paced: PacedCrew<'_>,
+    terms: Terms<'_>,
     chooser: &mut C,
 ) -> Outcome
-    ensures { HasEnded C.answer C.next (program_of_tree program.now) host.graph paced.entry.crew.bound (C.state chooser.old) (C.state chooser.new) result }
+    ensures { HasEnded C.answer C.next (program_of_tree program.now) host.graph terms.entry.bound terms.entry.keeps (C.state chooser.old) (C.state chooser.new) result }
 {
     let Ok(plans) = plans_of(alloc, program.parts().rules.as_slice()) else {
         return Outcome::NoMemory;
     };
     let host = indexed(program, &plans, host);
-    let crew = paced.crew;
-    if crew.workers < 2 {
-        return execute_alone(alloc, program, &plans, host, crew.bound, chooser);
+    if terms.crew.workers < 2 {
+        return execute_alone(alloc, program, &plans, host, terms, chooser);
     }
-    let mut crewed = CrewSession::new(alloc, program, &plans, host, crew, paced.pace);
+    let mut crewed = CrewSession::new(alloc, program, &plans, host, terms);
     let finish = run(rt, program, &mut crewed, chooser);
-    outcome(finish, crewed.into_journal())
+    outcome(finish, crewed.into_ran())
 }

@@ -1,5 +1,5 @@
 -- What the parts of the top call do.
-use Rattle.std.specs.Prelude.{◌≡◌, ℕ, Bool, true, false, List, [], Result, Ok, Err}
+use Rattle.std.specs.Prelude.{ℕ, Bool, true, false, List, [], Result, Ok, Err}
 use Rattle.gp_io.specs.Outside.{KnownFiles, KnownSink}
 use Rattle.gp_io.specs.declared.outside.Failed.{Failed as Fault}
 use Rattle.gp_memory.specs.Free.{Free}
@@ -16,7 +16,7 @@ use Rattle.gp_cli.specs.declared.said.Stop.TheVariants as stops
 use Rattle.gp_cli.specs.declared.said.Said.{Said}
 use Rattle.gp_cli.specs.declared.said.Said.TheVariants as code
 use Rattle.gp_cli.specs.Texts as texts
-use Rattle.gp_cli.specs.Said.{said_of}
+use Rattle.gp_cli.specs.Said.{said_of, IsTold}
 use Rattle.gp_cli.specs.Inputs.{TellsProgram}
 use Rattle.gp_cli.specs.Answer.{RunAnswers, demo_program, demo_host, DemoAnswers, Checks, CheckAnswers, FmtAnswers, StepAnswers}
 use Rattle.gp_cli.specs.Written.{TakesAll, IsCutShort}
@@ -24,27 +24,23 @@ use Rattle.gp_cli.specs.Loads.{names_of}
 
 -- ---- what commands come to
 
+-- what holds of an answer, where memory is not refused; the journal is asked for, or not
+abbrev pub IfSettled : Bool → (texts.Said → Type 0) → Result Said Stop → Type 0
+IfSettled asked P (Ok s) = IsTold asked P s
+IfSettled asked P (Err (stops.Said e)) = P (said_of e)
+IfSettled asked P (Err stops.NoMemory) = Free
+
 -- those of the texts of a demo, or what is answered in their place
 abbrev pub MakesBoth : DemoCommand → Result (ProgramParts × Graph) Stop → Type 0
 MakesBoth k (Ok t) = TellsProgram (demo_program k) (program_of_tree t.0) (names_of t.0) × IsHostText (demo_host k) t.1.graph
-MakesBoth k (Err (stops.Said s)) = DemoAnswers k (said_of s)
+MakesBoth k (Err (stops.Said e)) = DemoAnswers k (said_of e)
 MakesBoth k (Err stops.NoMemory) = Free
 
 abbrev pub RunsFiles : KnownFiles → KnownFiles → RunCommand → Result Said Stop → Type 0
-RunsFiles old new k (Ok s) = RunAnswers old new k (said_of s)
-RunsFiles old new k (Err (stops.Said s)) = RunAnswers old new k (said_of s)
-RunsFiles old new k (Err stops.NoMemory) = Free
-
--- a demo says this of what its run comes to
-abbrev pub SaysOfRun : DemoCommand → Result Said NoMemory → Result Said Stop → Type 0
-SaysOfRun k (Ok s) (Ok t) = said_of t ≡ texts.of_demo_run k (said_of s)
-SaysOfRun k (Ok s) (Err e) = ⊥
-SaysOfRun k (Err _) r = r ≡ Err stops.NoMemory
+RunsFiles old new k = IfSettled k.journal (RunAnswers old new k)
 
 abbrev pub RunsDemo : DemoCommand → Result Said Stop → Type 0
-RunsDemo k (Ok s) = DemoAnswers k (said_of s)
-RunsDemo k (Err (stops.Said s)) = DemoAnswers k (said_of s)
-RunsDemo k (Err stops.NoMemory) = Free
+RunsDemo k = IfSettled false (DemoAnswers k)
 
 -- what is said of it, whether it is a derivation
 abbrev pub verdict : Result Bool NoMemory → Result Said Stop
@@ -53,24 +49,16 @@ verdict (Ok false) = Ok code.NoDerivation
 verdict (Err _) = Err stops.NoMemory
 
 abbrev pub ChecksBoth : KnownFiles → KnownFiles → CheckCommand → Program → AnyGraph → Result Said Stop → Type 0
-ChecksBoth old new k p g (Ok s) = Checks old new k p g (said_of s)
-ChecksBoth old new k p g (Err (stops.Said s)) = Checks old new k p g (said_of s)
-ChecksBoth old new k p g (Err stops.NoMemory) = Free
+ChecksBoth old new k p g = IfSettled false (Checks old new k p g)
 
 abbrev pub ChecksFiles : KnownFiles → KnownFiles → CheckCommand → Result Said Stop → Type 0
-ChecksFiles old new k (Ok s) = CheckAnswers old new k (said_of s)
-ChecksFiles old new k (Err (stops.Said s)) = CheckAnswers old new k (said_of s)
-ChecksFiles old new k (Err stops.NoMemory) = Free
+ChecksFiles old new k = IfSettled false (CheckAnswers old new k)
 
 abbrev pub FormatsFile : KnownFiles → KnownFiles → FmtCommand → Result Said Stop → Type 0
-FormatsFile old new k (Ok s) = FmtAnswers old new k (said_of s)
-FormatsFile old new k (Err (stops.Said s)) = FmtAnswers old new k (said_of s)
-FormatsFile old new k (Err stops.NoMemory) = Free
+FormatsFile old new k = IfSettled false (FmtAnswers old new k)
 
 abbrev pub StepsFiles : KnownFiles → KnownFiles → StepCommand → Result Said Stop → Type 0
-StepsFiles old new k (Ok s) = StepAnswers old new k (said_of s)
-StepsFiles old new k (Err (stops.Said s)) = StepAnswers old new k (said_of s)
-StepsFiles old new k (Err stops.NoMemory) = Free
+StepsFiles old new k = IfSettled false (StepAnswers old new k)
 
 -- ---- what is written
 

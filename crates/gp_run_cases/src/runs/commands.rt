@@ -2,11 +2,10 @@
 
 use crate::runs::bits::Bits;
 use gp_hostfile::read_host;
-use gp_journal::Journal;
 use gp_reader::read_program;
 use gp_rows::{Answer, Wrong, field, number};
 use gp_syntax::{Item, Program};
-use gp_system::{Crew, Outcome, PacedCrew, execute};
+use gp_system::{Crew, Outcome, Ran, Terms, execute};
 use opt_worker::Pacing;
 use std::alloc::Global;
 use std::sync::Wait;
@@ -43,31 +42,37 @@ fn run<R: Threads + Wait + Sync>(
     bound: u64,
 ) -> Result<Outcome, Wrong> {
     let host = read_host(alloc, field(fields, 1))?;
-    let crew = Crew {
-        workers: 1,
-        fan: 1,
-        batch: 1,
+    let terms = Terms {
         bound,
+        keeps: true,
+        crew: Crew {
+            workers: 1,
+            fan: 1,
+            batch: 1,
+        },
+        pace: &Pacing::Free,
     };
-    let pace = Pacing::Free;
-    let paced = PacedCrew { crew, pace: &pace };
     let mut bits = Bits(number(fields, 2));
-    Ok(execute(rt, alloc, program, host, paced, &mut bits))
+    Ok(execute(rt, alloc, program, host, terms, &mut bits))
 }
 
 fn put_outcome(outcome: Outcome, out: &mut Answer) {
     match outcome {
-        Outcome::Graph(journal) => put_end(&journal, b"graph", out),
-        Outcome::Fail(journal) => put_end(&journal, b"fail", out),
-        Outcome::Bound(journal) => put_end(&journal, b"bound", out),
-        Outcome::Fault(journal, _, _) => put_end(&journal, b"fault", out),
+        Outcome::Graph(ran) => put_end(&ran, b"graph", out),
+        Outcome::Fail(ran) => put_end(&ran, b"fail", out),
+        Outcome::Bound(ran) => put_end(&ran, b"bound", out),
+        Outcome::Fault(ran, _, _) => put_end(&ran, b"fault", out),
         Outcome::NoMemory => out.wrong(Wrong::new("no memory")),
     }
 }
 
 // Writes steps, turns and Backs, and the end.
-fn put_end(journal: &Journal, end: &[u8], out: &mut Answer) {
-    for item in journal.items() {
+fn put_end(ran: &Ran, end: &[u8], out: &mut Answer) {
+    let Some(items) = &ran.items else {
+        return out.put(b"no items");
+    };
+    let items = items.as_slice();
+    for item in items {
         match item {
             Item::Step(found) if found.rule() == 3 => out.put(b"d"),
             Item::Step(_) => out.put(b"s"),
@@ -78,10 +83,6 @@ fn put_end(journal: &Journal, end: &[u8], out: &mut Answer) {
             }
         }
     }
-    out.put(if journal.items().is_empty() {
-        b""
-    } else {
-        b" "
-    });
+    out.put(if items.is_empty() { b"" } else { b" " });
     out.put(end);
 }

@@ -5,11 +5,11 @@ use crate::runs::replay::{are_alike, catch_up, text_of};
 use gp_derivation::is_derivation;
 use gp_graph::Graph;
 use gp_hostfile::read_host;
-use gp_journal::{Journal, Trail};
+use gp_journal::Trail;
 use gp_reader::read_program;
 use gp_rows::{Answer, Wrong, field, number};
-use gp_syntax::{Program, Rule};
-use gp_system::{Crew, Outcome, PacedCrew, execute};
+use gp_syntax::{Item, Program, Rule};
+use gp_system::{Crew, Outcome, Ran, Terms, execute};
 use gp_trace::{Version, read_trace, write_trace};
 use opt_worker::Pacing;
 use std::alloc::Global;
@@ -45,63 +45,64 @@ fn replayed<R: Threads + Wait + Sync>(
         workers: u32::try_from(number(fields, 2))?,
         fan: 1,
         batch: u32::try_from(number(fields, 3))?,
-        bound: 1000,
     };
     let runs = number(fields, 4);
     for run in 0..runs {
-        let Some(journal) = journal_of(rt, alloc, &program, &host, crew)? else {
+        let Some(ran) = ran_of(rt, alloc, &program, &host, crew)? else {
             return Ok(run);
         };
-        if !is_replayed(alloc, program.parts().rules.as_slice(), &host, &journal)? {
+        if !is_replayed(alloc, program.parts().rules.as_slice(), &host, &ran)? {
             return Ok(run);
         }
-        if run % 10 == 0 && !is_derived(alloc, &program, &host, &journal)? {
+        if run % 10 == 0 && !is_derived(alloc, &program, &host, &ran)? {
             return Ok(run);
         }
     }
     Ok(runs)
 }
 
-// The journal of a run that leaves a graph.
-fn journal_of<R: Threads + Wait + Sync>(
+// What a run leaves that leaves a graph.
+fn ran_of<R: Threads + Wait + Sync>(
     rt: &R,
     alloc: Global,
     program: &Program,
     host: &Graph,
     crew: Crew,
-) -> Result<Option<Journal>, Wrong> {
+) -> Result<Option<Ran>, Wrong> {
     let copy = host.copy(alloc)?;
-    let pace = Pacing::Free;
-    let paced = PacedCrew { crew, pace: &pace };
-    match execute(rt, alloc, program, copy, paced, &mut Bits(0)) {
-        Outcome::Graph(journal) => Ok(Some(journal)),
+    let terms = Terms {
+        bound: 1000,
+        keeps: true,
+        crew,
+        pace: &Pacing::Free,
+    };
+    match execute(rt, alloc, program, copy, terms, &mut Bits(0)) {
+        Outcome::Graph(ran) => Ok(Some(ran)),
         _ => Ok(None),
     }
 }
 
-// Whether the journal and the text of its graph are a derivation of the program on the host.
-fn is_derived(
-    alloc: Global,
-    program: &Program,
-    host: &Graph,
-    journal: &Journal,
-) -> Result<bool, Wrong> {
-    let text = text_of(alloc, journal.graph())?;
-    let items = journal.items();
+// The items that are kept.
+fn items_of(ran: &Ran) -> Result<&[Item], Wrong> {
+    match &ran.items {
+        Some(items) => Ok(items.as_slice()),
+        None => Err(Wrong::new("no items")),
+    }
+}
+
+// Whether the items and the text of the graph are a derivation of the program on the host.
+fn is_derived(alloc: Global, program: &Program, host: &Graph, ran: &Ran) -> Result<bool, Wrong> {
+    let text = text_of(alloc, &ran.graph)?;
+    let items = items_of(ran)?;
     Ok(is_derivation(alloc, program, host, Version::Two, items, &text)?)
 }
 
-// Whether the journal's printed text is read and leads from the host to the journal's graph.
-fn is_replayed(
-    alloc: Global,
-    rules: &[Rule],
-    host: &Graph,
-    journal: &Journal,
-) -> Result<bool, Wrong> {
+// Whether the items' printed text is read and leads from the host to the graph.
+fn is_replayed(alloc: Global, rules: &[Rule], host: &Graph, ran: &Ran) -> Result<bool, Wrong> {
     let mut text = Vec::new(alloc);
-    write_trace(alloc, journal.items(), &mut text)?;
+    write_trace(alloc, items_of(ran)?, &mut text)?;
     let (_, items) = read_trace(alloc, &text)?;
     let mut trail = Trail::new(alloc, host.copy(alloc)?);
     let is_made = catch_up(alloc, rules, &items, &mut trail)?;
-    Ok(is_made && are_alike(alloc, trail.graph(), journal.graph())?)
+    Ok(is_made && are_alike(alloc, trail.graph(), &ran.graph)?)
 }

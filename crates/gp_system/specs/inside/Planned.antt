@@ -26,7 +26,7 @@ verdict_of k matched.No = verdict.No
 verdict_of k matched.NoMemory = verdict.NoMemory
 
 abbrev pub sought_of : found.Sought → Sought Found Fault
-sought_of (answers.Applies m) = sought.Applies m
+sought_of (answers.Applies m p) = sought.Applies m
 sought_of (answers.Faulty m kind) = sought.Faulty m (record { rule = m.rule; kind = kind })
 sought_of answers.Barren = sought.Barren
 sought_of answers.NoMemory = sought.NoMemory

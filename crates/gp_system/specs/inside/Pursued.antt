@@ -1,5 +1,5 @@
 -- What a goal that a crew pursued came to, and what a run with a crew keeps.
-use Rattle.std.specs.Prelude.{◌≡◌, ◌⊎◌, ℕ, ◌+◌, ◌-◌, ◌*◌, ◌^◌, ◌<◌, ◌≤◌, Bool, List, [], ◌∷◌, ◌++◌, All, map, length, take, drop, Some}
+use Rattle.std.specs.Prelude.{◌≡◌, ◌⊎◌, ℕ, ◌+◌, ◌-◌, ◌*◌, ◌<◌, ◌≤◌, Bool, List, [], ◌∷◌, All, map, length, drop, Some}
 use Rattle.gp_syntax.specs.declared.found.Item.{Item}
 use Rattle.gp_syntax.specs.declared.found.Item.TheVariants as items
 use Rattle.gp_syntax.specs.declared.command.ProgramParts.{ProgramParts}
@@ -7,10 +7,7 @@ use Rattle.gp_syntax.specs.Rule.{Found}
 use Rattle.gp_syntax.specs.Tree.{rule_of_tree}
 use Rattle.gp_syntax.specs.WellFormed.{IsWellFormed}
 use Rattle.gp_step.specs.Laws.{IsNumbered}
-use Rattle.gp_journal.specs.Trail.{Trail, root_of, fresh}
-use Rattle.gp_journal.specs.Leads.{Leads}
-use Rattle.gp_journal.specs.Journal.{items_of, Kept}
-use Rattle.gp_system.specs.inside.Noted.{noted}
+use Rattle.gp_journal.specs.Trail.{Trail}
 use Rattle.gp_run.specs.declared.engine.Called.{Called}
 use Rattle.gp_run.specs.declared.engine.Called.TheVariants as called
 use Rattle.opt_system.specs.declared.answers.Mode.{Mode}
@@ -21,7 +18,7 @@ use Rattle.opt_core.specs.Core.{IsLegal, AllApply, reached}
 use Rattle.gp_system.specs.declared.goal.CallGoal.{CallGoal}
 use Rattle.gp_system.specs.declared.goal.Fault.{Fault}
 use Rattle.gp_system.specs.Gp.{RuleSystem, gp_means}
-use Rattle.gp_system.specs.inside.Viewed.{Shown}
+use Rattle.gp_system.specs.inside.Viewed.{Shown, taken_in}
 
 -- The entries led from the base to the trail, each a step of the goal; so many of the items given are left, and the ending
 -- is true there: a legal core has them.
@@ -52,13 +49,6 @@ abbrev pub noted_but_last_turn : List Found → List Item
 noted_but_last_turn [] = []
 noted_but_last_turn (m ∷ ms) = items.Step m ∷ turns_first ms
 
--- A goal that came to these entries, the items of which, as many as were used, stand behind those before.
-pub record HasMade (system : RuleSystem) (goal : CallGoal) (base : Trail) (given : ℕ) (at : Trail) (left : ℕ) (x : Ending Fault) (before after : Kept) : Type 0 where
-  pub entries : List Found
-  pub pursued : IsPursued system goal base given at entries left x
-  pub items : after.items ≡ before.items ++ take (given - left) (noted goal.mode entries)
-  pub backs : after.backs ≡ before.backs
-
 -- the rules and sets of a program, with so many shares besides one
 abbrev pub system_of : ProgramParts → ℕ → RuleSystem
 system_of p further = record { rules = p.rules; sets = p.sets; further = further }
@@ -67,17 +57,16 @@ system_of p further = record { rules = p.rules; sets = p.sets; further = further
 pub record HasPursued (goal : CallGoal) (given : ℕ) (x : Ending Fault) (v w : Shown) : Type 0 where
   pub further : ℕ
   pub well_formed : All IsWellFormed (map rule_of_tree v.program.rules)
-  pub numbered : IsNumbered v.journal.trail.graph
+  pub numbered : IsNumbered v.trail.graph
   pub entries : List Found
+  pub at : Trail
   -- of the items given, what is left; and what was not given
   pub rest : ℕ
   pub spared : ℕ
   pub left_before : v.left ≡ given + spared
   pub left_behind : w.left ≡ rest + spared
-  pub pursued : IsPursued (system_of v.program further) goal v.journal.trail given w.journal.trail entries rest x
-  pub program : w.program ≡ v.program
-  pub items : w.journal.items ≡ v.journal.items ++ take (v.left - w.left) (noted goal.mode entries)
-  pub room : w.journal.backs ≡ v.journal.backs
+  pub pursued : IsPursued (system_of v.program further) goal v.trail given at entries rest x
+  pub now : w ≡ taken_in v at goal.mode entries (v.left - w.left)
 
 -- what a call came to, by how its goal ended
 abbrev pub called_of : Ending Fault → Called
@@ -87,11 +76,7 @@ called_of ending.Bound = called.Bound
 called_of (ending.Fault f) = called.Fault f.rule f.kind
 called_of ending.Stopped = called.NoMemory
 
--- The workers' trails are where the first items of the run lead from the host, as many as they have had.
-pub record IsCrewed (s : Shown) (gp : RuleSystem) (workers : ℕ) (replicas : List Trail) (had : ℕ) : Type 0 where
+-- the crew's system is that of the program
+pub record IsCrewed (s : Shown) (gp : RuleSystem) (workers : ℕ) : Type 0 where
   pub system : gp ≡ system_of s.program gp.further
   pub some : 0 < workers
-  pub within : had ≤ length s.journal.items
-  pub follow : All (λ t. Leads (map rule_of_tree s.program.rules) (take had (items_of s.journal.items)) (fresh (root_of s.journal.trail)) t) replicas
-  pub few : length replicas < 2 ^ 32
-  pub settled : s.journal.trail.caught ≡ 0

@@ -1,3 +1,4 @@
+use Rattle.std.proofs.Common.{false}
 use Rattle.std.proofs.lemmas.Result.{err_from_is_err_and}
 use Rattle.gp_words.specs.Told.{check_now}
 use Rattle.gp_cli.specs.Answer.{Checks, CheckAnswers}
@@ -15,4 +16,4 @@ returns-in_err-both g c =
 pub returns : goal.returns
 returns g c =
     let both = c.in_ok-both.ensures in
-    settled_so (Checks _ _ _ _ _) (CheckAnswers _ _ (check_now c.args.command)) (λ said x. behind_both both.loads.0 both.loads.1 (checks_since both.same both.later said x)) _ c.check_both.ensures
+    settled_so false (Checks _ _ _ _ _) (CheckAnswers _ _ (check_now c.args.command)) (λ said x. behind_both both.loads.0 both.loads.1 (checks_since both.same both.later said x)) _ c.check_both.ensures

@@ -1,4 +1,4 @@
-use Rattle.std.proofs.Common.{sym, subst}
+use Rattle.std.proofs.Common.{false}
 use Rattle.std.proofs.lemmas.Result.{err_from_is_err_and}
 use Rattle.gp_words.specs.Told.{fmt_now}
 use Rattle.gp_cli.specs.Inputs.{StopsAtTree}
@@ -16,4 +16,4 @@ pub returns : goal.returns
 returns g c =
     let k = fmt_now c.args.command in
     let has = c.in_ok-tree.ensures.loads in
-    rw c.or_stopped.ensures (outcome_so (FmtAnswers _ _ k) (λ s e. subst (FmtAnswers _ _ k) (sym e) (formats has)) _ c.canonical.ensures)
+    rw c.or_stopped.ensures (outcome_so false (FmtAnswers _ _ k) (λ s t. record { said = _; tells = t; holds = formats has }) _ c.canonical.ensures)

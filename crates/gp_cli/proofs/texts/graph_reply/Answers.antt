@@ -3,4 +3,4 @@ use Rattle.gp_cli.proofs.Shown.{on_out_shown}
 use Rattle.gp_cli.proofs.texts.graph_reply.Goals as goal
 
 pub returns : goal.returns
-returns c = on_out_shown (graph_shown c.in_ok-trace.ensures (rw c.graph.ensures at c.in_ok-text.ensures)) c.on_out.ensures
+returns c = λ asked t left. on_out_shown (graph_shown (c.in_ok-trace.ensures asked t left.items) c.in_ok-text.ensures) c.on_out.ensures

@@ -1,55 +1,34 @@
 use Rattle.std.proofs.lemmas.Result.{IfOk-weaker}
-use Rattle.gp_cli.specs.Texts.{derivation_shown, no_derivation_shown, formatted_shown, walked_shown, usage_shown, long_program_shown, long_host_shown, long_trace_shown, long_result_shown, long_script_shown, bad_program_shown, bad_host_shown, bad_trace_shown, bad_script_shown, bound_shown, number_shown, unread_shown}
+use Rattle.gp_cli.specs.Texts.{derivation_shown, no_derivation_shown, formatted_shown, walked_shown, bound_shown, number_shown}
 use Rattle.gp_cli.proofs.Shown.{on_err_shown, on_out_shown}
 use Rattle.gp_cli.proofs.texts.reply_of.Goals as goal
 
+pub returns-in-Graph : goal.returns-in-Graph
+returns-in-Graph c = rw c.in-Graph.is (IfOk-weaker c.graph_reply.result _ _ (λ r h asked said is. rw is.2 (h asked is.0 is.1)) c.graph_reply.ensures)
+
+pub returns-in-Fail : goal.returns-in-Fail
+returns-in-Fail c = rw c.in-Fail.is (IfOk-weaker c.fail_reply.result _ _ (λ r h asked said is. rw is.2 (h asked is.0 is.1)) c.fail_reply.ensures)
+
+pub returns-in-Demo : goal.returns-in-Demo
+returns-in-Demo c = rw c.in-Demo.is (IfOk-weaker c.demo_reply.result _ _ (λ r h asked said is. rw is.2 (h asked is.0 is.1)) c.demo_reply.ensures)
+
 pub returns-in-Derivation : goal.returns-in-Derivation
-returns-in-Derivation c = rw c.in-Derivation.is (IfOk-weaker c.verdict.result _ _ (λ r h. on_out_shown derivation_shown h) c.verdict.ensures)
+returns-in-Derivation c = rw c.in-Derivation.is (IfOk-weaker c.verdict.result _ _ (λ r h asked said is. rw is (on_out_shown derivation_shown h)) c.verdict.ensures)
 
 pub returns-in-NoDerivation : goal.returns-in-NoDerivation
-returns-in-NoDerivation c = rw c.in-NoDerivation.is (IfOk-weaker c.verdict-in-NoDerivation.result _ _ (λ r h. on_out_shown no_derivation_shown h) c.verdict-in-NoDerivation.ensures)
+returns-in-NoDerivation c = rw c.in-NoDerivation.is (IfOk-weaker c.verdict-in-NoDerivation.result _ _ (λ r h asked said is. rw is (on_out_shown no_derivation_shown h)) c.verdict-in-NoDerivation.ensures)
 
 pub returns-in-Formatted : goal.returns-in-Formatted
-returns-in-Formatted c = rw c.in-Formatted.is (IfOk-weaker c.verdict-in-Formatted.result _ _ (λ r h. on_out_shown formatted_shown h) (rw c.deref.ensures.value at c.verdict-in-Formatted.ensures))
+returns-in-Formatted c = rw c.in-Formatted.is (λ asked said is. rw is (on_out_shown formatted_shown (rw c.new.ensures.items at c.on_out.ensures)))
 
 pub returns-in-Walked : goal.returns-in-Walked
-returns-in-Walked c = rw c.in-Walked.is (IfOk-weaker c.verdict-in-Walked.result _ _ (λ r h. on_out_shown walked_shown h) (rw c.deref-in-Walked.ensures.value at c.verdict-in-Walked.ensures))
-
-pub returns-in-Usage : goal.returns-in-Usage
-returns-in-Usage c = rw c.in-Usage.is (IfOk-weaker c.refusal.result _ _ (λ r h. on_err_shown usage_shown h) c.refusal.ensures)
-
-pub returns-in-LongProgram : goal.returns-in-LongProgram
-returns-in-LongProgram c = rw c.in-LongProgram.is (IfOk-weaker c.refusal-in-LongProgram.result _ _ (λ r h. on_err_shown long_program_shown h) c.refusal-in-LongProgram.ensures)
-
-pub returns-in-LongHost : goal.returns-in-LongHost
-returns-in-LongHost c = rw c.in-LongHost.is (IfOk-weaker c.refusal-in-LongHost.result _ _ (λ r h. on_err_shown long_host_shown h) c.refusal-in-LongHost.ensures)
-
-pub returns-in-LongTrace : goal.returns-in-LongTrace
-returns-in-LongTrace c = rw c.in-LongTrace.is (IfOk-weaker c.refusal-in-LongTrace.result _ _ (λ r h. on_err_shown long_trace_shown h) c.refusal-in-LongTrace.ensures)
-
-pub returns-in-LongResult : goal.returns-in-LongResult
-returns-in-LongResult c = rw c.in-LongResult.is (IfOk-weaker c.refusal-in-LongResult.result _ _ (λ r h. on_err_shown long_result_shown h) c.refusal-in-LongResult.ensures)
-
-pub returns-in-LongScript : goal.returns-in-LongScript
-returns-in-LongScript c = rw c.in-LongScript.is (IfOk-weaker c.refusal-in-LongScript.result _ _ (λ r h. on_err_shown long_script_shown h) c.refusal-in-LongScript.ensures)
-
-pub returns-in-BadProgram : goal.returns-in-BadProgram
-returns-in-BadProgram c = rw c.in-BadProgram.is (IfOk-weaker c.told.result _ _ (λ r h. on_err_shown bad_program_shown h) (c.told.ensures _ c.program_line.ensures))
-
-pub returns-in-BadHost : goal.returns-in-BadHost
-returns-in-BadHost c = rw c.in-BadHost.is (IfOk-weaker c.told-in-BadHost.result _ _ (λ r h. on_err_shown bad_host_shown h) (c.told-in-BadHost.ensures _ c.host_line.ensures))
-
-pub returns-in-BadTrace : goal.returns-in-BadTrace
-returns-in-BadTrace c = rw c.in-BadTrace.is (IfOk-weaker c.told-in-BadTrace.result _ _ (λ r h. on_err_shown bad_trace_shown h) (c.told-in-BadTrace.ensures _ c.trace_line.ensures))
-
-pub returns-in-BadScript : goal.returns-in-BadScript
-returns-in-BadScript c = rw c.in-BadScript.is (IfOk-weaker c.told-in-BadScript.result _ _ (λ r h. on_err_shown bad_script_shown h) (c.told-in-BadScript.ensures _ c.script_line.ensures))
+returns-in-Walked c = rw c.in-Walked.is (λ asked said is. rw is (on_out_shown walked_shown (rw c.new-in-Walked.ensures.items at c.on_out-in-Walked.ensures)))
 
 pub returns-in-Bound : goal.returns-in-Bound
-returns-in-Bound c = rw c.in-Bound.is (IfOk-weaker c.told-in-Bound.result _ _ (λ r h. on_err_shown bound_shown h) (c.told-in-Bound.ensures _ c.bound_text.ensures))
+returns-in-Bound c = rw c.in-Bound.is (IfOk-weaker c.told.result _ _ (λ r h asked said is. rw is (on_err_shown bound_shown h)) (c.told.ensures _ c.bound_text.ensures))
 
 pub returns-in-Number : goal.returns-in-Number
-returns-in-Number c = rw c.in-Number.is (IfOk-weaker c.told-in-Number.result _ _ (λ r h. on_err_shown number_shown h) (c.told-in-Number.ensures _ c.number_text.ensures))
+returns-in-Number c = rw c.in-Number.is (IfOk-weaker c.told-in-Number.result _ _ (λ r h asked said is. rw is (on_err_shown number_shown h)) (c.told-in-Number.ensures _ c.number_text.ensures))
 
-pub returns-in-Unread : goal.returns-in-Unread
-returns-in-Unread c = rw c.in-Unread.is (IfOk-weaker c.told-in-Unread.result _ _ (λ r h. on_err_shown unread_shown h) (c.told-in-Unread.ensures _ c.read_text.ensures))
+pub returns-in-Refused : goal.returns-in-Refused
+returns-in-Refused c = rw c.in-Refused.is (IfOk-weaker c.refused.result _ _ (λ r h asked said is. rw is (h asked)) c.refused.ensures)

@@ -1,22 +1,16 @@
-use Rattle.gp_syntax.specs.Step.{Step}
+use Rattle.std.proofs.Common.{subst, sym}
+use Rattle.gp_syntax.specs.Step.{AppliesBy}
 use Rattle.gp_syntax.specs.Tree.{rule_of_tree}
-use Rattle.gp_step.proofs.Afters.{applying_steps}
-use Rattle.gp_step.proofs.Makes.{assignment_is, is_ready, after_is, on_same}
+use Rattle.gp_step.proofs.Makes.{assignment_is, itself}
 use Rattle.gp_step.proofs.applying.apply.Goals as goal
 
-pub apply_by-requires : goal.apply_by-requires
-apply_by-requires c =
+pub apply_told-requires-clause-applies : goal.apply_told-requires-clause-applies
+apply_told-requires-clause-applies c =
     let r = rule_of_tree c.args.rule.now in
     let i = assignment_is r c.args.graph.now.graph c.args.found.now c.in_ok-assignment.field-0 c.in-Some.assignment c.requires c.in_ok-assignment.ensures.of_match c.in-Some.is in
-    rw c.parts-parts.ensures.value (is_ready c.args.rule.now c.args.graph.now.graph c.args.found.now c.in-Some.assignment c.parts-parts.ensures.well_formed c.requires i)
+    subst (AppliesBy r c.args.graph.now.graph c.args.found.now) (sym i.values) c.requires.1
 
-pub returns-clause-after : goal.returns-clause-after
-returns-clause-after c =
+pub apply_told-requires-clause-told : goal.apply_told-requires-clause-told
+apply_told-requires-clause-told c =
     let r = rule_of_tree c.args.rule.now in
-    let i = assignment_is r c.args.graph.now.graph c.args.found.now c.in_ok-assignment.field-0 c.in-Some.assignment c.requires c.in_ok-assignment.ensures.of_match c.in-Some.is in
-    rw (after_is r c.args.graph.now.graph c.args.found.now c.in-Some.assignment c.parts-parts.ensures.well_formed c.requires i, ← c.parts-parts.ensures.value) c.apply_by.ensures.ok
-
-pub returns-clause-step : goal.returns-clause-step
-returns-clause-step c =
-    let r = rule_of_tree c.args.rule.now in
-    on_same c.apply_by.result (Step r c.args.graph.now.graph c.args.found.now) _ _ (returns-clause-after c) (applying_steps r c.args.graph.now.graph c.args.found.now c.parts-parts.ensures.well_formed c.next_numbers-sound.ensures.sound c.requires)
+    itself r _ _ (assignment_is r c.args.graph.now.graph c.args.found.now c.in_ok-assignment.field-0 c.in-Some.assignment c.requires c.in_ok-assignment.ensures.of_match c.in-Some.is)

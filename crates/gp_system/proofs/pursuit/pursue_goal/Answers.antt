@@ -14,6 +14,6 @@ level-requires g c =
     subst (λ (l : List Trail). All (IsBehind c.args.system.now c.deref.result.now c.into_parts-trail.result.0) l) (sym c.deref_mut.ensures.value)
     (behind_all c.args.system.now c.pursue-core.result.0 c.in-Ok.core.base c.into_parts-trail.result.0 c.deref.result.now c.pursue-core.result.1.items c.pursue-core.ensures.legal c.pursue-core.ensures.start.base c.into_parts-trail.ensures.state (c.deref.ensures.value ∙ c.into_parts-trail.ensures.entries) c.pursue-core.ensures.follow)
 
-pub returns-clause-there : goal.returns-clause-there
-returns-clause-there g c =
+pub whole-requires-clause-there : goal.whole-requires-clause-there
+whole-requires-clause-there g c =
     all_written (λ (t : Trail). t ≡ c.into_parts-trail.result.0) c.pursue-core.result.1.len c.level.new.replicas _ (omega (arith, c.in_ok-level.ensures.len, c.deref_mut.ensures.len)) c.in_ok-level.ensures.all

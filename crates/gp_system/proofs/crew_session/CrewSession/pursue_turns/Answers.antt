@@ -18,7 +18,7 @@ pub returns-in-Ok-Bound-2-clause-going : goal.returns-in-Ok-Bound-2-clause-going
 returns-in-Ok-Bound-2-clause-going g c = λ u made.
     (let k = ap (λ (s : Shown). s.left) c.self-2.view_is in
     let p = subst (λ (x : Ending Fault). HasPursued (record { call = c.args.call; mode = Saturate }) c.min-given.result x c.args.self.now c.pursue_call.new.self) c.in-Ok-Bound-2.field-0-is c.in-Ok-Bound.ensures in
-    bound_so c.args.call c.min-given.result u c.args.self.now c.pursue_call.new.self c.requires.set made p (omega arith))
+    bound_so c.args.call c.min-given.result u c.args.self.now c.pursue_call.new.self made p (omega arith))
 
 pub returns-in-Ok-Blocked-clause-going : goal.returns-in-Ok-Blocked-clause-going
 returns-in-Ok-Blocked-clause-going g c = λ u made.

@@ -1,4 +1,4 @@
-use Rattle.std.proofs.Common.{refl, subst, arith}
+use Rattle.std.proofs.Common.{refl, subst}
 use Rattle.gp_system.specs.inside.Viewed.{Shown, view_of}
 use Rattle.gp_system.specs.inside.AfterTurn.{HasGone}
 use Rattle.gp_system.proofs.Goes.{alone_on, crew_on, still_less}
@@ -17,7 +17,7 @@ turns-preserved-in-On g c = record {
 pub turns-preserved : goal.turns-preserved
 turns-preserved g c = record {
   going = crew_on c.args.call c.turns.stands c.pursue_turns-stands.result (view_of c.args.self.now) (view_of c.turns.self) (view_of c.pursue_turns-stands.new.self) c.in-Dear.is c.turns.invariant.going c.pursue_turns-stands.ensures.going;
-  odd = omega (arith, c.saturating_add-lease.ensures, c.saturating_mul.ensures, c.turns.invariant.odd);
+  odd = c.longer-lease.ensures;
 }
 
 pub turns-smaller : goal.turns-smaller

@@ -1,0 +1,10 @@
+use Rattle.std.proofs.Common.{◌≡◌, ◌<◌, ◌≤◌, ℕ, length, get_or, map}
+use Rattle.gp_syntax.specs.Tree.{rule_of_tree}
+use Rattle.gp_journal.specs.Trail.{Trail, advanced}
+use Rattle.gp_journal.proofs.replicated.advance_all.Given as goal
+
+abbrev pub invariant-loop-replica : goal.invariant-loop-replica
+invariant-loop-replica l = record {
+  there : (k : ℕ) (d : Trail) → l.replica-index ≤ k → k < length l.replicas → get_or l.replicas k d ≡ l.trail;
+  all : (k : ℕ) (d : Trail) → k < l.replica-index → get_or l.replicas k d ≡ advanced (map rule_of_tree l.rules) l.trail l.found;
+}
