@@ -19,16 +19,18 @@ function list_of_row(cells, places, count, how,   i, list) {
 
 function cell_at(cells, place) { return place ? cells[place] : "" }
 
-function read_nodes(file,   cells, id, list_places, list_count, how, mark, root, i) {
+function read_nodes(file,   cells, id, list_places, list_count, how, mark, root, i, list, its_mark, is_rooted) {
   begin_table(file, "")
   id = wanted_column(ENVIRON["NODE"])
   list_count = choose_columns(ENVIRON["NODE_LABEL"], ENVIRON["HAS_NODE_LABEL"], list_places); how = kind
   mark = taken_column("mark"); root = taken_column("root")
   while (next_row(file, cells) > 0) {
     i = new_node(cells[id], where_row)
-    set_node(i, list_of_row(cells, list_places, list_count, how), check_mark("node", cell_at(cells, mark), where_row), \
-      is_root(cell_at(cells, root), where_row))
-    if (how == "none") has_list[i] = 0
+    list = list_of_row(cells, list_places, list_count, how)
+    its_mark = check_mark("node", cell_at(cells, mark), where_row)
+    is_rooted = is_root(cell_at(cells, root), where_row)
+    if (how == "none") set_node_without_list(i, its_mark, is_rooted)
+    else set_node(i, list, its_mark, is_rooted)
   }
 }
 

@@ -104,7 +104,7 @@ function try_row(answer) {
   if (kind == "formats") return format(field[1], answer);
   if (kind == "derivations") return derivation(answer);
   if (kind == "scripts") return script(answer);
-  if (kind == "runs" || kind == "refusals") return run("ph", "", answer);
+  if (kind == "runs" || kind == "refusals" || kind == "why") return run("ph", "", answer);
   if (kind == "checks") return run("phtr", "", answer);
   if (kind == "steps") return run("phs", "", answer);
   if (kind == "texts") return run("p", "", answer);

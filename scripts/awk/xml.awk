@@ -14,13 +14,32 @@ function read_xml(file) {
   xml_next = 1 + lines_in(piece)
 }
 
-function lines_in(text) { return gsub(/\n/, "\n", text) }
+function lines_in(text) { return text ~ /\n/ ? gsub(/\n/, "\n", text) : 0 }
 function xml_place() { return xml_name ", line " xml_line }
 
 # The next raw piece, from behind `<` to before the next `<`.
 function raw_piece() {
+  if (is_put_back) { is_put_back = 0; piece = put_back; xml_line = xml_next }
+  else if ((getline piece <xml_file) <= 0) return 0
+  else xml_line = xml_next
+  xml_next += lines_in(piece)
+  return 1
+}
+
+# The most frequent element, `<data key="..">text</data>` without references: its key is in `data_key`, its text in `behind`,
+# and the next tag is read ahead. If another one comes, 0 is returned, and nothing was read.
+function next_simple_data(   rest, kept) {
+  if (!xml_waiting || !match(piece, /^data key="[^"&]*">/) || index(piece, "&")) return 0
+  kept = piece; rest = RLENGTH
   if ((getline piece <xml_file) <= 0) return 0
-  xml_line = xml_next; xml_next += lines_in(piece)
+  if (piece !~ /^\/data>[ \t\r\n]*$/) {
+    put_back = piece; is_put_back = 1; piece = kept
+    return 0
+  }
+  data_key = substr(kept, 11, rest - 12); behind = substr(kept, rest + 1)
+  tag = "data"; tag_line = xml_line
+  xml_next += lines_in(piece)
+  piece = ""; text_behind()
   return 1
 }
 
@@ -38,6 +57,7 @@ function passed_over(opening, closing,   text, at) {
 
 # Text as it stands in XML, with what its references stand for.
 function decoded(text,   made, at, name) {
+  if (!index(text, "&")) return text
   while (at = index(text, "&")) {
     made = made substr(text, 1, at - 1); text = substr(text, at + 1)
     at = index(text, ";")
@@ -67,22 +87,29 @@ function referred(name,   code, i, digit) {
 }
 
 # The attributes at the head of `piece`, which then begins with the tag's `>` or `/>`.
-function read_attributes(   name, value) {
+function read_attributes(   name, value, at) {
   split("", attribute)
+  while (match(piece, /^ [A-Za-z.]+="[^"&]*"/)) { # the most frequent form
+    at = index(piece, "="); name = substr(piece, 2, at - 2)
+    if (name in attribute) refuse(xml_place(), "not XML: two attributes " told(name))
+    attribute[name] = substr(piece, at + 2, RLENGTH - at - 2); piece = substr(piece, RLENGTH + 1)
+  }
   while (match(piece, /^[ \t\r\n]+[A-Za-z_:][-A-Za-z0-9_.:]*[ \t\r\n]*=[ \t\r\n]*("[^"]*"|'[^']*')/)) {
     value = substr(piece, 1, RLENGTH); piece = substr(piece, RLENGTH + 1)
-    name = value; sub(/[ \t\r\n]*=.*/, "", name); sub(/^[ \t\r\n]+/, "", name)
-    sub(/^[^=]*=[ \t\r\n]*/, "", value)
+    at = index(value, "=")
+    name = substr(value, 1, at - 1); gsub(/[ \t\r\n]+/, "", name)
+    value = substr(value, at + 1); sub(/^[ \t\r\n]+/, "", value)
     if (name in attribute) refuse(xml_place(), "not XML: two attributes " told(name))
     attribute[name] = decoded(substr(value, 2, length(value) - 2))
   }
-  sub(/^[ \t\r\n]+/, "", piece)
+  if (piece ~ /^[ \t\r\n]/) sub(/^[ \t\r\n]+/, "", piece)
 }
 
 # The text at the head, and what follows it as long as that is CDATA or a comment: all up to the next tag.
 function text_behind(   made) {
   made = decoded(piece)
   while (xml_waiting = raw_piece()) {
+    if (piece !~ /^[!?]/) break
     if (piece ~ /^!--/) { passed_over("!--", "-->"); made = made decoded(piece) }
     else if (piece ~ /^!\[CDATA\[/) { made = made passed_over("![CDATA[", "]]>"); made = made decoded(piece) }
     else if (piece ~ /^\?/) { passed_over("?", "?>"); made = made decoded(piece) }
@@ -98,17 +125,22 @@ function next_tag(   name) {
     if (depth > 0) refuse(xml_place(), "not XML: the file ends inside " told("<" opened[depth] ">"))
     return 0
   }
-  if (!match(piece, /^\/?[A-Za-z_:][-A-Za-z0-9_.:]*/)) refuse(xml_place(), "not XML: " told("<" substr(piece, 1, 20)) " is not a tag")
-  name = substr(piece, 1, RLENGTH); piece = substr(piece, RLENGTH + 1)
-  read_attributes()
-  is_closed = piece ~ /^\//
-  if (piece !~ /^\/?>/ || (is_closed && name ~ /^\//)) refuse(xml_place(), "not XML: the tag " told("<" name) " does not end like a tag")
-  piece = substr(piece, is_closed ? 3 : 2)
+  if (match(piece, /^\/[A-Za-z]+>/)) { # the most frequent form
+    name = substr(piece, 1, RLENGTH - 1); piece = substr(piece, RLENGTH + 1); is_closed = 0
+  } else {
+    if (!match(piece, /^\/?[A-Za-z_:][-A-Za-z0-9_.:]*/)) refuse(xml_place(), "not XML: " told("<" substr(piece, 1, 20)) " is not a tag")
+    name = substr(piece, 1, RLENGTH); piece = substr(piece, RLENGTH + 1)
+    read_attributes()
+    is_closed = piece ~ /^\//
+    if (piece !~ /^\/?>/ || (is_closed && name ~ /^\//)) refuse(xml_place(), "not XML: the tag " told("<" name) " does not end like a tag")
+    piece = substr(piece, is_closed ? 3 : 2)
+  }
   if (name ~ /^\//) {
     if (depth == 0 || opened[depth] != substr(name, 2)) refuse(xml_place(), "not XML: " told("<" name ">") " closes no open tag")
     depth--
   } else if (!is_closed) opened[++depth] = name
-  tag = name; sub(/^\/[^:]*:/, "/", tag); sub(/^[^\/:]*:/, "", tag)
+  tag = name
+  if (tag ~ /:/) { sub(/^\/[^:]*:/, "/", tag); sub(/^[^\/:]*:/, "", tag) }
   tag_line = xml_line
   behind = text_behind()
   return 1
