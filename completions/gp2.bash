@@ -1,49 +1,53 @@
 # Completion of gp2 for bash. In a clone `. completions/gp2.bash` gives it to ./gp2 too.
+# Made by `scripts/words bash` from scripts/lib/words.table.
 _gp2() {
-  local word=${COMP_WORDS[COMP_CWORD]} before=${COMP_WORDS[COMP_CWORD - 1]} files=0 i pattern
+  local word=${COMP_WORDS[COMP_CWORD]} command=${COMP_WORDS[1]} arguments=() options=() given=' ' count=0 at it
   COMPREPLY=()
-  case $before in
-    --bound | --seed | --workers | --fan | --batch) return ;;
-  esac
   if [ "$COMP_CWORD" -eq 1 ]; then
     mapfile -t COMPREPLY < <(compgen -W "run demo check fmt step" -- "$word")
     return
   fi
-  if [ "${COMP_WORDS[1]}" = demo ]; then
-    if [ "$COMP_CWORD" -eq 2 ]; then mapfile -t COMPREPLY < <(compgen -W "closure colour tree" -- "$word")
-    elif [[ $word == -* ]]; then mapfile -t COMPREPLY < <(compgen -W "--workers --fan --batch" -- "$word"); fi
-    return
-  fi
-  if [ "${COMP_WORDS[1]}" = check ] && [ "$COMP_CWORD" -gt 3 ]; then # the trace and the result: any file
-    compopt -o filenames 2>/dev/null
-    mapfile -t COMPREPLY < <([ "$COMP_CWORD" -gt 5 ] || compgen -f -- "$word")
-    return
-  fi
-  if [ "${COMP_WORDS[1]}" = fmt ] && { [ "$COMP_CWORD" -gt 2 ] || [[ $word == -* ]]; }; then return; fi
-  if [[ $word == -* ]] && [ "${COMP_WORDS[1]}" = step ]; then
-    mapfile -t COMPREPLY < <(compgen -W "--bound --seed" -- "$word")
-    return
-  fi
-  if [[ $word == -* ]]; then
-    [ "${COMP_WORDS[1]}" = check ] || mapfile -t COMPREPLY < <(compgen -W "--bound --seed --journal --workers --fan --batch" -- "$word")
-    return
-  fi
-  # How many files stand before this word: the first is the program, the second the host.
-  for ((i = 2; i < COMP_CWORD; i++)); do
-    case ${COMP_WORDS[i]} in
-      --bound | --seed | --workers | --fan | --batch) i=$((i + 1)) ;;
-      -*) ;;
-      *) files=$((files + 1)) ;;
+  case $command in
+    run) arguments=(PROGRAM HOST) options=(--workers --bound --fan --seed --journal --batch) ;;
+    demo) arguments=(KIND SIZE SEED) options=(--workers --fan --batch) ;;
+    check) arguments=(PROGRAM HOST TRACE RESULT) ;;
+    fmt) arguments=(PROGRAM) ;;
+    step) arguments=(PROGRAM HOST SCRIPT) options=(--bound --seed) ;;
+    *) return ;;
+  esac
+  # The words before this one: a value follows its option, as a word of its own or behind `=`.
+  for ((at = 2; at < COMP_CWORD; at++)); do
+    it=${COMP_WORDS[at]}
+    case $it in
+      --) options=() count=$((count + COMP_CWORD - at - 1)); break ;;
+      --workers | --bound | --fan | --seed | --batch)
+        given+="$it "
+        at=$((at + 1))
+        [ "${COMP_WORDS[at]-}" != = ] || at=$((at + 1))
+        [ "$at" -lt "$COMP_CWORD" ] || return ;; # a number
+      -?*) given+="${it%%=*} " ;;
+      *) count=$((count + 1)) ;;
     esac
   done
-  case $files in
-    0) pattern='*.gp2' ;;
-    1) pattern='*.host' ;;
-    2) [ "${COMP_WORDS[1]}" = step ] && { compopt -o filenames 2>/dev/null; mapfile -t COMPREPLY < <(compgen -f -- "$word"); return; }
-      mapfile -t COMPREPLY < <(compgen -W "--bound --seed --journal --workers --fan --batch" -- "$word"); return ;;
-    *) mapfile -t COMPREPLY < <(compgen -W "--bound --seed --journal --workers --fan --batch" -- "$word"); return ;;
+  if [[ $word == -* || $count -ge ${#arguments[@]} ]]; then
+    for it in ${options[@]+"${options[@]}"}; do
+      [[ $given == *" $it "* || $it != "$word"* ]] || COMPREPLY+=("$it")
+    done
+    return
+  fi
+  case ${arguments[count]} in
+    PROGRAM) _gp2_files '*.gp2' "$word" ;;
+    HOST) _gp2_files '*.host' "$word" ;;
+    TRACE) _gp2_files '*' "$word" ;;
+    RESULT) _gp2_files '*' "$word" ;;
+    SCRIPT) _gp2_files '*' "$word" ;;
+    KIND) mapfile -t COMPREPLY < <(compgen -W "closure colour tree" -- "$word") ;;
+    SIZE) ;;
+    SEED) ;;
   esac
+}
+_gp2_files() { # the pattern, and the word
   compopt -o filenames 2>/dev/null
-  mapfile -t COMPREPLY < <(compgen -f -X "!$pattern" -- "$word"; compgen -d -- "$word")
+  mapfile -t COMPREPLY < <(compgen -f -X "!$1" -- "$2"; [ "$1" = '*' ] || compgen -d -- "$2")
 }
 complete -F _gp2 gp2

@@ -1,20 +1,10 @@
-" After `:compiler gp2`, `:make` goes to the line of the fault of the program in the buffer, where it has one: that of
-" `gp2 fmt`, or of `gp2 run` where g:gp2_host names a host. A fault without a line is shown, and so is one of the host. In a
-" host, where g:gp2_program names a program, it is the host's fault whose line is gone to. g:gp2_command is the program.
+" After `:compiler gp2`, `:make` goes to the fault of the program in the buffer, with its column and what is wrong there: that of
+" the program alone, or of its run where g:gp2_host names a host. In a host, where g:gp2_program names a program, it is the
+" host's fault that is gone to. g:gp2_why is the command that tells it, and g:gp2_command the program gp2.
 if exists('current_compiler')
   finish
 endif
 let current_compiler = 'gp2'
-let s:words = [get(g:, 'gp2_command', 'gp2')]
-let s:kind = 'program'
-if &filetype ==# 'gp2host'
-  let s:words += ['run', shellescape(expand(get(g:, 'gp2_program', ''))), '%:S']
-  let s:kind = 'host'
-elseif exists('g:gp2_host')
-  let s:words += ['run', '%:S', shellescape(expand(g:gp2_host))]
-else
-  let s:words += ['fmt', '%:S']
-endif
-" What is printed goes nowhere, and :make reads what is on standard error. In parentheses, for its own redirection.
-execute 'CompilerSet makeprg=' . escape('(' . join(s:words) . ' >/dev/null)', ' \|"')
-execute 'CompilerSet errorformat=' . s:kind . ':\ %m\ line\ %l,' . s:kind . ':\ %m'
+let s:words = [gp2#why_command()] + gp2#why_files('%:S')
+execute 'CompilerSet makeprg=' . escape(join(s:words), ' \|"')
+CompilerSet errorformat=%f:%l:%c:\ %m
