@@ -1,49 +1,13 @@
--- Assignments without values, and those with one value more or less.
-use Rattle.std.proofs.Common.{subst, take, drop, ◌≡◌, ℕ, zero, suc, true, ◌+◌, length, List, [], ◌∷◌, ◌++◌, refl, ap, sym, ◌∙◌, replicate, arith}
-use Rattle.std.specs.Prelude.{Option, Some, None, slice_get, slice_set}
+-- Assignments with one value more or less.
+use Rattle.std.proofs.Common.{subst, take, drop, ◌≡◌, ℕ, zero, suc, true, ◌+◌, length, List, [], ◌∷◌, ◌++◌, sym, ◌∙◌}
+use Rattle.std.specs.Prelude.{Option, Some, slice_get, slice_set}
 use Rattle.std.specs.List.{refill}
-use Rattle.std.proofs.lemmas.List.{length-replicate, length-set, get_or-replicate}
-use Rattle.std.proofs.lemmas.Option.{none-some, same_Some, slice_get_within, slice_get-get_or}
+use Rattle.std.proofs.lemmas.List.{length-set}
 use Rattle.gp_memory.proofs.Basics.{take_front}
 use Rattle.gp_values.specs.declared.atom.Atom.{Atom}
 use Rattle.gp_syntax.specs.declared.kinds.VariableType.{VariableType}
-use Rattle.gp_syntax.specs.Assigned.{PartialAssignment, IsInTypes, declared_type}
+use Rattle.gp_syntax.specs.Assigned.{IsInTypes, declared_type}
 use Rattle.gp_syntax.specs.Value.{is_of}
-
-none : Option (List Atom)
-none = None
-
-none_has : (n x : ℕ) (v : List Atom) → slice_get (replicate n none) x ≡ Some (Some v) → ⊥
-unfolding none
-none_has n x v e =
-    let within = slice_get_within (replicate n none) x (Some v) e in
-    let below = rw (length-replicate n none) at within in
-    let found = slice_get-get_or (replicate n none) x none within in
-    let is_none = get_or-replicate n x none none below in
-    none-some v (sym (same_Some (Some v) none (sym e ∙ found ∙ ap Some is_none)))
-
-abbrev assigned : List VariableType → List (Option (List Atom)) → PartialAssignment
-assigned types values = record { types = types; values = values }
-
-replicate_on : {X : Type 0} (n : ℕ) (x : X) → replicate n x ++ x ∷ [] ≡ replicate (n + 1) x
-replicate_on zero x = refl
-replicate_on (suc n) x = let e : suc n + 1 ≡ suc (n + 1) = omega arith in rw e (ap (λ z. x ∷ z) (replicate_on n x))
-
--- one place more
-pub one_more : (values now : List (Option (List Atom))) (n : ℕ) → now ≡ values ++ None ∷ [] → values ≡ replicate n None → now ≡ replicate (n + 1) None
-one_more values now n e h = e ∙ ap (λ z. z ++ None ∷ []) h ∙ replicate_on n None
-
-pub made : (given types : List VariableType) (values : List (Option (List Atom))) (n : ℕ) →
-    types ≡ given → values ≡ replicate n None → n ≡ length given → assigned types values ≡ assigned given (replicate (length given) None)
-made given types values n same e count = rw (same, e, count) refl
-
-pub made_in_types : (given types : List VariableType) (values : List (Option (List Atom))) (n : ℕ) →
-    types ≡ given → values ≡ replicate n None → n ≡ length given → IsInTypes (record { types = types; values = values })
-unfolding none
-made_in_types given types values n same e count = rw (same, e) (record {
-  count = length-replicate n none ∙ count;
-  in_types = λ x v h. absurd (none_has n x v h);
-})
 
 -- what the places hold, once one is written
 written : (P : ℕ → List Atom → Type 0) (vs : List (Option (List Atom))) (i : ℕ) (o : Option (List Atom)) → ((x : ℕ) (v : List Atom) → slice_get vs x ≡ Some (Some v) → P x v) → ((v : List Atom) → o ≡ Some v → P i v)

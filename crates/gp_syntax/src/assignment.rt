@@ -1,6 +1,6 @@
 //! Assignments of the variables of a rule.
 
-ghost use Rattle.std.specs.Prelude.{◌≡◌, ◌<◌, true, length, slice_get, slice_set, replicate, Some, None, IfOk};
+ghost use Rattle.std.specs.Prelude.{◌≡◌, ◌<◌, ◌++◌, [], true, length, slice_get, slice_set, replicate, Some, None, IfOk, OnOk, OnErr};
 ghost use Rattle.std.specs.Option.{option_copied};
 ghost use Rattle.gp_syntax.specs.Assigned.{PartialAssignment, IsInTypes, declared_type};
 ghost use Rattle.gp_syntax.specs.Value.{is_of};
@@ -15,11 +15,15 @@ use std::marker::Model;
 /// So many variables stand in an assignment itself; more take memory.
 const INLINE_VARIABLES: usize = 4;
 
+type Types = SmallVec<VariableType, { INLINE_VARIABLES }>;
+
+type Values = SmallVec<Option<List>, { INLINE_VARIABLES }>;
+
 /// The values of the variables of a rule's left labels, by their places: each has a value of its declared type, or none
 /// yet.
 pub struct Assignment {
-    types: SmallVec<VariableType, { INLINE_VARIABLES }>,
-    values: SmallVec<Option<List>, { INLINE_VARIABLES }>,
+    types: Types,
+    values: Values,
 }
 
 impl Drop for Assignment {
@@ -40,19 +44,55 @@ impl Model for Assignment {
     ghost invariant = { λ a. IsInTypes (record { types = a.types.items; values = a.values.items }) };
 }
 
+// Puts variables of these types behind the others, without values.
+fn add_variables(
+    types: &mut Types,
+    values: &mut Values,
+    added: &[VariableType],
+) -> Result<(), NoMemory>
+    ensures types { OnOk result (types.new.items ≡ types.old.items ++ added.now) }
+    ensures values { OnOk result (values.new.items ≡ values.old.items ++ replicate (length added.now) None) }
+{
+    for _ in added {
+        values.push(None)?;
+    }
+    types.extend_from_slice(added)?;
+    Ok(())
+}
+
 impl Assignment {
     /// Variables of these types, without values.
     pub fn new(alloc: Global, types: &[VariableType]) -> Result<Assignment, NoMemory>
         ensures { IfOk result (λ a. a ≡ record { types = types.now; values = replicate (length types.now) None }) }
     {
-        let mut values = SmallVec::with_capacity(alloc, types.len())?;
-        for _ in types {
-            values.push(None)?;
+        let mut assignment = Assignment::none(alloc);
+        assignment.begin(types)?;
+        Ok(assignment)
+    }
+
+    /// No variables. It takes no memory.
+    pub fn none(alloc: Global) -> Assignment
+        ensures { result ≡ record { types = []; values = [] } }
+    {
+        Assignment {
+            types: SmallVec::new(alloc),
+            values: SmallVec::new(alloc),
         }
-        Ok(Assignment {
-            types: SmallVec::from_slice(alloc, types)?,
-            values,
-        })
+    }
+
+    /// Begins anew with variables of these types, without values. On refusal there are no variables.
+    pub fn begin(&mut self, types: &[VariableType]) -> Result<(), NoMemory>
+        ensures ok { OnOk result (self.new ≡ record { types = types.now; values = replicate (length types.now) None }) }
+        ensures err { OnErr result (self.new ≡ record { types = []; values = [] }) }
+    {
+        self.types.clear();
+        self.values.clear();
+        let begun = add_variables(&mut self.types, &mut self.values, types);
+        if begun.is_err() {
+            self.types.clear();
+            self.values.clear();
+        }
+        begun
     }
 
     /// The declared types.

@@ -1,5 +1,5 @@
 -- The graphs before the steps of a trail, as steps are made and taken back.
-use Rattle.std.proofs.Common.{◌≡◌, ℕ, zero, suc, ◌+◌, ◌-◌, List, [], ◌∷◌, ◌++◌, length, drop, refl, sym, ap, ◌∙◌, arith, append_assoc}
+use Rattle.std.proofs.Common.{◌≡◌, ℕ, zero, suc, ◌+◌, List, [], ◌∷◌, ◌++◌, length, drop, refl, sym, ap, ◌∙◌, arith, append_assoc}
 use Rattle.std.proofs.lemmas.List.{length_push, drop_at}
 use Rattle.std.proofs.Math.Seq.{drop-nil}
 use Rattle.gp_values.specs.Graph.{Graph}
