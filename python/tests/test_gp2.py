@@ -1,6 +1,7 @@
 """Tests of the package. scripts/check-python runs them, with pytest where it is and else with unittest."""
 import itertools
 import os
+import random
 import tempfile
 import unittest
 from pathlib import Path
@@ -277,6 +278,25 @@ class Networks(unittest.TestCase):
             made.to_networkx(edge_label="mark")
         with self.assertRaisesRegex(TypeError, "^edge from 'a' to 'b': 1.5 is neither"):
             gp2.Graph.from_networkx(networkx.DiGraph([("a", "b", {"label": 1.5})]))
+
+    def test_same_as_add_edge(self):
+        chosen = random.Random(5)
+        for _ in range(20):
+            graph = gp2.Graph()
+            for name in range(chosen.randint(1, 8)):
+                graph.add_node(name, chosen.choice([(), 1, ("a", 2)]), chosen.choice([None, "red"]), chosen.random() < 0.2)
+            wanted = networkx.MultiDiGraph()
+            wanted.add_nodes_from(graph.to_networkx().nodes(data=True))
+            for _ in range(chosen.randint(0, 25)):
+                source, target = chosen.choices(list(graph.nodes), k=2)
+                graph.add_edge(source, target, 7, chosen.choice([None, "dashed"]))
+                wanted.add_edge(source, target, label=7, **({"mark": "dashed"} if graph.edges[-1].mark else {}))
+            made = graph.to_networkx()
+            self.assertEqual(list(made.edges(keys=True, data=True)), list(wanted.edges(keys=True, data=True)))
+            self.assertEqual((made.succ, made.pred), (wanted.succ, wanted.pred))
+            made.remove_node(0)  # as of any other graph
+            self.assertEqual(made.number_of_edges(), sum(0 not in (edge.source, edge.target) for edge in graph.edges))
+            self.assertEqual(gp2.Graph.from_networkx(wanted), graph)
 
     def test_undirected(self):
         graph = networkx.Graph([("a", "b"), ("b", "b")])

@@ -1,0 +1,3 @@
+pub mod Touch
+pub mod Ends
+pub mod Rows
