@@ -3,9 +3,10 @@
 ghost use Rattle.std.specs.Prelude.{◌≡◌, ℕ, ◌<◌, ◌++◌, [], true, slice_index_or, length, map, flat_map, Contains, IfOk, OnOk};
 ghost use Rattle.gp_syntax.specs.Tree.{command_of};
 ghost use Rattle.gp_syntax.specs.Scoped.{procedures_in};
-ghost use Rattle.gp_reader.specs.inside.Procedures.{InRange, MarksChains, IsMarked};
+ghost use Rattle.gp_reader.specs.inside.Procedures.{MarksChains, IsMarked};
 ghost use Rattle.gp_reader.specs.inside.Visits.{CallsMarked};
 
+use crate::callees::Callees;
 use gp_memory::NoMemory;
 use gp_syntax::{Command, Items};
 use std::alloc::Global;
@@ -14,29 +15,24 @@ use std::alloc::Global;
 const LONGEST_CHAIN: u32 = 64;
 
 /// Which procedures begin a chain of more than 64 procedures, each called by the one before it.
-pub(crate) fn deep_ones(alloc: Global, callees: &[Items<u32>]) -> Result<Vec<bool>, NoMemory>
-    requires { InRange callees.now }
-    ensures { IfOk result (λ v. MarksChains callees.now 64 v.items) }
+pub(crate) fn deep_ones(alloc: Global, called: &Callees<'_>) -> Result<Vec<bool>, NoMemory>
+    ensures { IfOk result (λ v. MarksChains called.now.lists.now 64 v.items) }
 {
-    let mut marks = vec![in alloc; true; callees.len()]?;
+    let mut marks = vec![in alloc; true; called.lists.len()]?;
     for calls in 0..LONGEST_CHAIN {
-        marks = one_call_more(alloc, callees, &marks)?;
+        marks = one_call_more(alloc, called, &marks)?;
     }
     Ok(marks)
 }
 
 // Which procedures call one that is marked.
-fn one_call_more(
-    alloc: Global,
-    callees: &[Items<u32>],
-    marks: &[bool],
-) -> Result<Vec<bool>, NoMemory>
-    requires range { InRange callees.now }
-    requires count { length marks.now ≡ length callees.now }
-    ensures count { IfOk result (λ v. length v.items ≡ length callees.now) }
-    ensures marked { IfOk result (λ v. (k : ℕ) → k < length callees.now → IsMarked v.items k → CallsMarked (slice_index_or callees.now k []) marks.now) }
-    ensures all { IfOk result (λ v. (k : ℕ) → k < length callees.now → CallsMarked (slice_index_or callees.now k []) marks.now → IsMarked v.items k) }
+fn one_call_more(alloc: Global, each: &Callees<'_>, marks: &[bool]) -> Result<Vec<bool>, NoMemory>
+    requires { length marks.now ≡ length each.now.lists.now }
+    ensures count { IfOk result (λ v. length v.items ≡ length each.now.lists.now) }
+    ensures marked { IfOk result (λ v. (k : ℕ) → k < length each.now.lists.now → IsMarked v.items k → CallsMarked (slice_index_or each.now.lists.now k []) marks.now) }
+    ensures all { IfOk result (λ v. (k : ℕ) → k < length each.now.lists.now → CallsMarked (slice_index_or each.now.lists.now k []) marks.now → IsMarked v.items k) }
 {
+    let callees = each.lists;
     let mut longer = Vec::with_capacity(alloc, callees.len())?;
     for called in callees {
         longer.push(calls_marked(called.as_slice(), marks))?;

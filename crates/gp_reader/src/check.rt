@@ -10,6 +10,7 @@ ghost use Rattle.gp_reader.specs.inside.Procedures.{IsFirstIn, IsMarked};
 ghost use Rattle.gp_reader.specs.Resolution.{IsFaultless};
 
 use crate::breaks::has_stray_break;
+use crate::callees::Callees;
 use crate::calls::{callees_of, deep_ones};
 use crate::names::name_at;
 use crate::recursion::first_recursive;
@@ -33,8 +34,11 @@ pub(crate) fn check_calls(
     ensures err { IfErr result (λ e. (f : Fault) → told e ≡ Some f → IsFault (outline declarations.now) f) }
 {
     let callees = callees_of(alloc, procedures)?;
-    let deep = deep_ones(alloc, callees.as_slice())?;
-    if let Some(number) = first_recursive(alloc, callees.as_slice(), deep.as_slice())? {
+    let called = Callees {
+        lists: callees.as_slice(),
+    };
+    let deep = deep_ones(alloc, &called)?;
+    if let Some(number) = first_recursive(alloc, &called, deep.as_slice())? {
         let name = name_at(alloc, declarations, number as usize)?;
         return Err(ScopeFault::Recursive(name));
     }

@@ -18,6 +18,7 @@
 #![tactic(auto)]
 
 mod breaks;
+mod callees;
 mod calls;
 mod check;
 mod components;

@@ -1,7 +1,7 @@
 mod Replicas
 mod News
 mod Later
-mod Batches
+mod Asked
 mod Answered
 mod Lists
 mod Stops

@@ -12,6 +12,8 @@ ghost use Rattle.opt_worker.specs.Events.{CameByEvents};
 ghost use Rattle.opt_worker.specs.inside.Jobs.{IsReady, IsBack, counted_down, numbers_of, states_of};
 
 use crate::pace::Pace;
+use crate::roll::{Roll, Start};
+use crate::stand::FitSite;
 use crate::worker::{Site, work_on};
 use opt_core::{Core, Event};
 use opt_gate::{Gate, Pass};
@@ -21,54 +23,43 @@ use std::thread;
 use std::thread::Threads;
 
 // The core, stopped.
-fn stopped<S: System>(s: &S, mut core: Core<S>) -> Core<S>
-    requires system { s.now ≡ core.system }
-    requires running { core.ending ≡ None }
-    ensures events { CameByEvents (S.means s.now) core result }
-    ensures legal { Legal (S.means s.now) result }
-    ensures start { SameStart core result }
+fn stopped<S: System>(start: Start<'_, S>) -> Core<S>
+    ensures events { CameByEvents (S.means start.entry.system.now) start.entry.core result }
+    ensures legal { Legal (S.means start.entry.system.now) result }
+    ensures start { SameStart start.entry.core result }
     ensures ended { (x : Ending S.Reason) × (result.ending ≡ Some x) }
-    ensures entries { result.entries ≡ core.entries }
+    ensures entries { result.entries ≡ start.entry.core.entries }
 {
-    core.step(s, Event::Stop);
+    let Start { system, mut core } = start;
+    core.step(system, Event::Stop);
     core
 }
 
 // A pass for each replica, the last replica first. Each pass has the place of its replica for its number.
-fn divide<S: System>(
-    gate: &Gate<S>,
-    pass: &mut Pass<S>,
-    replicas: &mut Vec<S::State>,
-    jobs: &mut Vec<(Pass<S>, S::State)>,
-)
+fn divide<S: System>(gate: &Gate<S>, pass: &mut Pass<S>, roll: &mut Roll<S>)
     requires gate { IsPassOf gate.now pass.old }
     requires told { pass.old.told ≡ 0 }
-    requires room { pass.old.room ≡ vec_len replicas.old + 1 }
-    requires few { vec_len replicas.old < 2 ^ 32 }
-    requires base { All (λ at. at ≡ (start_of gate.now).base) replicas.old.items }
-    requires empty { jobs.old.items ≡ [] }
-    requires places { vec_len replicas.old ≤ vec_capacity jobs.old }
+    requires room { pass.old.room ≡ vec_len roll.old.replicas + 1 }
+    requires base { All (λ at. at ≡ (start_of gate.now).base) roll.old.replicas.items }
+    requires empty { roll.old.jobs.items ≡ [] }
     ensures gate { IsPassOf gate.now pass.new }
-    ensures len { vec_len jobs.new ≡ vec_len replicas.old }
-    ensures ready { All (λ job. IsReady (S.means (start_of gate.now).system) gate.now job) jobs.new.items }
-    ensures numbers { numbers_of jobs.new.items ≡ counted_down (vec_len replicas.old) }
-    ensures states { states_of jobs.new.items ≡ reverse replicas.old.items }
-    ensures emptied { replicas.new.items ≡ [] }
-    ensures capacity { vec_capacity replicas.new ≡ vec_capacity replicas.old }
+    ensures len { vec_len roll.new.jobs ≡ vec_len roll.old.replicas }
+    ensures ready { All (λ job. IsReady (S.means (start_of gate.now).system) gate.now job) roll.new.jobs.items }
+    ensures numbers { numbers_of roll.new.jobs.items ≡ counted_down (vec_len roll.old.replicas) }
+    ensures states { states_of roll.new.jobs.items ≡ reverse roll.old.replicas.items }
+    ensures emptied { roll.new.replicas.items ≡ [] }
 {
-    while let Some(state) = replicas.pop() {
-        let number = replicas.len() as u32;
-        jobs.push_reserved((pass.split(gate, number), state));
+    while let Some(state) = roll.replicas.pop() {
+        let number = roll.replicas.len() as u32;
+        roll.jobs.push_reserved((pass.split(gate, number), state));
     }
 }
 
 // Each worker works until the goal has ended.
 fn run<S: System + Sync, P: Pace + Sync, R: Threads + Wait + Sync>(
     rt: &R,
-    s: &S,
-    gate: &Gate<S>,
+    site: &FitSite<'_, S, P>,
     jobs: &mut [(Pass<S>, S::State)],
-    pace: &P,
     batch: u32,
 )
 where
@@ -76,13 +67,15 @@ where
     S::Found: Send,
     S::Goal: Send + Sync,
     S::Reason: Send,
-    requires system { s.now ≡ (start_of gate.now).system }
     requires some { 0 < length jobs.old }
-    requires ready { All (λ job. IsReady (S.means (start_of gate.now).system) gate.now job) jobs.old }
+    requires ready { All (λ job. IsReady (S.means (start_of site.now.gate.now).system) site.now.gate.now job) jobs.old }
     ensures len { length jobs.new ≡ length jobs.old }
-    ensures back { All (λ job. IsBack (S.means (start_of gate.now).system) gate.now job) jobs.new }
+    ensures back { All (λ job. IsBack (S.means (start_of site.now.gate.now).system) site.now.gate.now job) jobs.new }
     ensures later { AllZip (λ before after. IsLater before.0 after.0) jobs.old jobs.new }
 {
+    let s = site.system;
+    let gate = site.gate;
+    let pace = site.pace;
     let threads = jobs.len();
     thread::for_each_mut(
         rt,
@@ -103,26 +96,20 @@ where
 }
 
 // Takes in what the workers gave back. The replicas are in their first order then.
-fn gather<S: System>(
-    gate: &Gate<S>,
-    pass: &mut Pass<S>,
-    jobs: &mut Vec<(Pass<S>, S::State)>,
-    replicas: &mut Vec<S::State>,
-)
+fn gather<S: System>(gate: &Gate<S>, pass: &mut Pass<S>, roll: &mut Roll<S>)
     requires gate { IsPassOf gate.now pass.old }
-    requires some { 0 < vec_len jobs.old }
-    requires back { All (λ job. IsBack (S.means (start_of gate.now).system) gate.now job) jobs.old.items }
-    requires empty { replicas.old.items ≡ [] }
-    requires places { vec_len jobs.old ≤ vec_capacity replicas.old }
+    requires some { 0 < vec_len roll.old.jobs }
+    requires back { All (λ job. IsBack (S.means (start_of gate.now).system) gate.now job) roll.old.jobs.items }
+    requires empty { roll.old.replicas.items ≡ [] }
     ensures gate { IsPassOf gate.now pass.new }
     ensures ended { (x : Ending S.Reason) × (pass.new.ending ≡ Some x) }
-    ensures len { vec_len replicas.new ≡ vec_len jobs.old }
-    ensures follow { All (λ at. IsReplica (S.means (start_of gate.now).system) (start_of gate.now).base pass.new.knows at) replicas.new.items }
-    ensures order { replicas.new.items ≡ reverse (states_of jobs.old.items) }
+    ensures len { vec_len roll.new.replicas ≡ vec_len roll.old.jobs }
+    ensures follow { All (λ at. IsReplica (S.means (start_of gate.now).system) (start_of gate.now).base pass.new.knows at) roll.new.replicas.items }
+    ensures order { roll.new.replicas.items ≡ reverse (states_of roll.old.jobs.items) }
 {
-    while let Some((other, state)) = jobs.pop() {
+    while let Some((other, state)) = roll.jobs.pop() {
         pass.join(gate, other);
-        replicas.push_reserved(state);
+        roll.replicas.push_reserved(state);
     }
 }
 
@@ -133,7 +120,7 @@ pub fn pursue<S: System + Sync, P: Pace + Sync, R: Threads + Wait + Sync>(
     rt: &R,
     s: &S,
     core: Core<S>,
-    mut replicas: Vec<S::State>,
+    replicas: Vec<S::State>,
     pace: &P,
     batch: u32,
 ) -> (Core<S>, Vec<S::State>)
@@ -158,15 +145,23 @@ where
 {
     let alloc = *replicas.allocator();
     let count = replicas.len();
-    let Ok(mut jobs) = Vec::with_capacity(alloc, count) else {
-        return (stopped(s, core), replicas);
+    let Ok(jobs) = Vec::with_capacity(alloc, count) else {
+        return (stopped(Start { system: s, core }), replicas);
     };
     let (gate, mut pass) = match Gate::start(alloc, core, count as u64 + 1) {
         Ok(started) => started,
-        Err(core) => return (stopped(s, core), replicas),
+        Err(core) => return (stopped(Start { system: s, core }), replicas),
     };
-    divide(&gate, &mut pass, &mut replicas, &mut jobs);
-    run(rt, s, &gate, &mut jobs, pace, batch);
-    gather(&gate, &mut pass, &mut jobs, &mut replicas);
+    let mut roll = Roll { replicas, jobs };
+    divide(&gate, &mut pass, &mut roll);
+    let site = FitSite {
+        system: s,
+        gate: &gate,
+        pace,
+    };
+    run(rt, &site, &mut roll.jobs, batch);
+    gather(&gate, &mut pass, &mut roll);
+    let Roll { replicas, jobs } = roll;
+    drop(jobs);
     (gate.close(rt, pass), replicas)
 }

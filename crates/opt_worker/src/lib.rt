@@ -26,7 +26,9 @@ mod commits;
 mod crew;
 mod held;
 mod pace;
+mod roll;
 mod sharing;
+mod stand;
 mod worker;
 
 pub use commits::Commits;

@@ -2,21 +2,20 @@
 
 ghost use Rattle.std.specs.Prelude.{◌≡◌, ◌≤◌, ◌<◌, ℕ, take, length, nat_lt, OnOk, IfOk, IfErr, IfSome, IfNone};
 ghost use Rattle.opt_system.specs.Meaning.{applies};
-ghost use Rattle.opt_system.specs.declared.answers.Mode.TheVariants.{Saturate};
 ghost use Rattle.opt_core.specs.Core.{reached, AllApply};
 ghost use Rattle.opt_gate.specs.Pass.{IsPassOf, start_of};
-ghost use Rattle.opt_gate.specs.Turn.{MayAsk, entries_told};
+ghost use Rattle.opt_gate.specs.Turn.{entries_told};
 ghost use Rattle.opt_worker.specs.Replica.{IsReplica, IsLater, IsDone};
-ghost use Rattle.opt_worker.specs.inside.Reports.{IsReport};
+ghost use Rattle.opt_worker.specs.inside.Reports.{IsReport, IsTrueReport};
 ghost use Rattle.opt_worker.specs.inside.Replies.{TellsEnding, WantsMemory, committed_by};
 
 use crate::batching::Batching;
 use crate::pace::Pace;
+use crate::stand::{FitSite, Stand, Task};
 use gp_memory::NoMemory;
 use opt_core::{Entries, Reply, Rest};
 use opt_gate::{Ask, Gate, Pass};
 use opt_system::{Mode, Sought, System};
-use std::alloc::Global;
 use std::sync::Wait;
 
 /// How many shares a goal best has for each worker: a worker that is done early searches no more than one share that
@@ -36,16 +35,6 @@ pub struct Site<'a, S: System, P: Pace> {
 struct Aim {
     from: u32,
     batching: Batching,
-}
-
-// A share to search. Of its matches so many may be offered in this turn, held together in memory of this allocator. How
-// many in the next the answer tells.
-#[derive(Clone, Copy)]
-struct Task {
-    share: u32,
-    batch: u32,
-    batching: Batching,
-    alloc: Global,
 }
 
 // Where a worker looks after a share that it found barren: where all begin at the share of their number and none stops,
@@ -71,13 +60,12 @@ pub fn follow<S: System>(s: &S, at: &mut S::State, entries: &[S::Found]) -> Resu
 // Asks for entries and a share, and makes the steps of the entries. The share, or none where the goal has ended.
 fn catch_up<S: System, P: Pace, R: Wait>(
     rt: &R,
-    site: &Site<'_, S, P>,
+    site: &FitSite<'_, S, P>,
     pass: &mut Pass<S>,
     at: &mut S::State,
     aim: Aim,
 ) -> Result<Option<Task>, NoMemory>
     requires gate { IsPassOf site.now.gate.now pass.old }
-    requires system { site.now.system.now ≡ (start_of site.now.gate.now).system }
     requires at { at.old ≡ reached (S.means site.now.system.now) (start_of site.now.gate.now).base (entries_told pass.old) }
     ensures later { IsLater pass.old pass.new }
     ensures replica { IsReplica (S.means site.now.system.now) (start_of site.now.gate.now).base pass.new.knows at.new }
@@ -103,70 +91,37 @@ fn catch_up<S: System, P: Pace, R: Wait>(
     }
 }
 
-// The match that was found, and of the others of the share as many as fit beside it and may be offered in one turn.
-fn batch_of<S: System>(
-    s: &S,
-    gate: &Gate<S>,
-    pass: &Pass<S>,
-    at: &S::State,
-    task: Task,
-    found: S::Found,
-) -> Result<Ask<S::Found>, NoMemory>
-    requires system { s.now ≡ (start_of gate.now).system }
-    requires goes_on { (S.means s.now).mode (start_of gate.now).goal ≡ Saturate }
-    requires several { 1 < task.batch }
-    requires at { at.now ≡ reached (S.means s.now) (start_of gate.now).base (entries_told pass.now) }
-    requires share { (S.means s.now).share (start_of gate.now).goal found ≡ task.share }
-    requires applies { (S.means s.now).judged (start_of gate.now).goal at.now found ≡ applies }
+// What is offered where a match of the share was found: it alone, or for a goal that goes on it and of the others of the
+// share as many as fit beside it and may be offered in one turn.
+fn offer<S: System>(stand: &Stand<'_, S>, found: S::Found) -> Result<Ask<S::Found>, NoMemory>
+    requires share { (S.means stand.now.system.now).share stand.now.goal found ≡ stand.now.task.share }
+    requires applies { (S.means stand.now.system.now).judged stand.now.goal stand.now.at.now found ≡ applies }
     ensures report { IfOk result IsReport }
-    ensures may { IfOk result (λ a. MayAsk (S.means s.now) (start_of gate.now) pass.now a) }
+    ensures is_true { IfOk result (λ a. IsTrueReport (S.means stand.now.system.now) stand.now.goal stand.now.at.now a) }
 {
-    let mut held = Vec::new(task.alloc);
-    held.push(found)?;
-    s.more(gate.goal(), task.share, at, &mut held, task.batch)?;
-    Ok(Ask::Batch {
-        founds: Entries::from_vec(held),
-    })
-}
-
-// What is offered where a match of the share was found: it alone, or several for a goal that goes on.
-fn offer<S: System>(
-    s: &S,
-    gate: &Gate<S>,
-    pass: &Pass<S>,
-    at: &S::State,
-    task: Task,
-    found: S::Found,
-) -> Result<Ask<S::Found>, NoMemory>
-    requires system { s.now ≡ (start_of gate.now).system }
-    requires at { at.now ≡ reached (S.means s.now) (start_of gate.now).base (entries_told pass.now) }
-    requires share { (S.means s.now).share (start_of gate.now).goal found ≡ task.share }
-    requires applies { (S.means s.now).judged (start_of gate.now).goal at.now found ≡ applies }
-    ensures report { IfOk result IsReport }
-    ensures may { IfOk result (λ a. MayAsk (S.means s.now) (start_of gate.now) pass.now a) }
-{
-    match s.mode(gate.goal()) {
-        Mode::Saturate if task.batch > 1 => batch_of(s, gate, pass, at, task, found),
+    let s = stand.system;
+    let task = stand.task;
+    match s.mode(stand.goal) {
+        Mode::Saturate if task.batch > 1 => {
+            let mut held = Vec::new(task.alloc);
+            held.push(found)?;
+            s.more(stand.goal, task.share, stand.at, &mut held, task.batch)?;
+            Ok(Ask::Batch {
+                founds: Entries::from_vec(held),
+            })
+        }
         _ => Ok(Ask::Offer { found }),
     }
 }
 
 // What the search of a share reports.
-fn search<S: System>(
-    s: &S,
-    gate: &Gate<S>,
-    pass: &Pass<S>,
-    at: &S::State,
-    task: Task,
-) -> Result<Ask<S::Found>, NoMemory>
-    requires system { s.now ≡ (start_of gate.now).system }
-    requires task { task.share < (S.means s.now).shares (start_of gate.now).goal }
-    requires at { at.now ≡ reached (S.means s.now) (start_of gate.now).base (entries_told pass.now) }
+fn search<S: System>(stand: &Stand<'_, S>) -> Result<Ask<S::Found>, NoMemory>
     ensures report { IfOk result IsReport }
-    ensures may { IfOk result (λ a. MayAsk (S.means s.now) (start_of gate.now) pass.now a) }
+    ensures is_true { IfOk result (λ a. IsTrueReport (S.means stand.now.system.now) stand.now.goal stand.now.at.now a) }
 {
-    match s.seek(gate.goal(), task.share, at) {
-        Sought::Applies(found) => offer(s, gate, pass, at, task, found),
+    let task = stand.task;
+    match stand.system.seek(stand.goal, task.share, stand.at) {
+        Sought::Applies(found) => offer(stand, found),
         Sought::Faulty(found, _) => Ok(Ask::Fault { found }),
         Sought::Barren => Ok(Ask::Quiet { share: task.share }),
         Sought::NoMemory => Err(NoMemory),
@@ -208,13 +163,12 @@ fn look_after<F, R>(reply: &Reply<F, R>, task: Task, shares: u32) -> Result<Opti
 // Searches the share and reports what was found. Where to look next, or none where the goal has ended.
 fn report<S: System, P: Pace, R: Wait>(
     rt: &R,
-    site: &Site<'_, S, P>,
+    site: &FitSite<'_, S, P>,
     pass: &mut Pass<S>,
     at: &S::State,
     task: Task,
 ) -> Result<Option<Aim>, NoMemory>
     requires gate { IsPassOf site.now.gate.now pass.old }
-    requires system { site.now.system.now ≡ (start_of site.now.gate.now).system }
     requires task { task.share < (S.means site.now.system.now).shares (start_of site.now.gate.now).goal }
     requires at { at.now ≡ reached (S.means site.now.system.now) (start_of site.now.gate.now).base (entries_told pass.old) }
     ensures later { IsLater pass.old pass.new }
@@ -223,23 +177,29 @@ fn report<S: System, P: Pace, R: Wait>(
 {
     let worker = pass.number();
     let told = pass.told();
-    let found = search(site.system, site.gate, pass, at, task);
+    let goal = site.gate.goal();
+    let stand = Stand {
+        system: site.system,
+        goal,
+        at,
+        task,
+    };
+    let found = search(&stand);
     site.pace.searched(rt, worker, told);
     let reply = site.gate.turn(rt, pass, site.system, found?);
     site.pace.turned(rt, worker, told, tells_commit(&reply));
-    look_after(&reply, task, site.system.shares(site.gate.goal()))
+    look_after(&reply, task, site.system.shares(goal))
 }
 
 // Catches up, searches and reports once. Where to look next, or none where the goal has ended.
 fn round<S: System, P: Pace, R: Wait>(
     rt: &R,
-    site: &Site<'_, S, P>,
+    site: &FitSite<'_, S, P>,
     pass: &mut Pass<S>,
     at: &mut S::State,
     aim: Aim,
 ) -> Result<Option<Aim>, NoMemory>
     requires gate { IsPassOf site.now.gate.now pass.old }
-    requires system { site.now.system.now ≡ (start_of site.now.gate.now).system }
     requires at { at.old ≡ reached (S.means site.now.system.now) (start_of site.now.gate.now).base (entries_told pass.old) }
     ensures later { IsLater pass.old pass.new }
     ensures replica { IsReplica (S.means site.now.system.now) (start_of site.now.gate.now).base pass.new.knows at.new }
@@ -252,18 +212,15 @@ fn round<S: System, P: Pace, R: Wait>(
     }
 }
 
-/// Works with the pass until the goal has ended, or stops it where memory is refused. Whatever the ending, the replica is
-/// then the base after a beginning of the entries that the pass knows. Of a goal that goes on it offers up to `batch`
-/// matches in one turn, and one where `batch` is 0.
-pub fn work_on<S: System, P: Pace, R: Wait>(
+// The rounds of `work_on`.
+fn work_at<S: System, P: Pace, R: Wait>(
     rt: &R,
-    site: &Site<'_, S, P>,
+    site: &FitSite<'_, S, P>,
     pass: &mut Pass<S>,
     state: &mut S::State,
     batch: u32,
 )
     requires gate { IsPassOf site.now.gate.now pass.old }
-    requires system { site.now.system.now ≡ (start_of site.now.gate.now).system }
     requires state { state.old ≡ reached (S.means site.now.system.now) (start_of site.now.gate.now).base (entries_told pass.old) }
     ensures later { IsLater pass.old pass.new }
     ensures done { IsDone (S.means site.now.system.now) site.now.gate.now.key pass.new }
@@ -284,6 +241,31 @@ pub fn work_on<S: System, P: Pace, R: Wait>(
         }
     }
     unreachable!()
+}
+
+/// Works with the pass until the goal has ended, or stops it where memory is refused. Whatever the ending, the replica is
+/// then the base after a beginning of the entries that the pass knows. Of a goal that goes on it offers up to `batch`
+/// matches in one turn, and one where `batch` is 0.
+pub fn work_on<S: System, P: Pace, R: Wait>(
+    rt: &R,
+    site: &Site<'_, S, P>,
+    pass: &mut Pass<S>,
+    state: &mut S::State,
+    batch: u32,
+)
+    requires gate { IsPassOf site.now.gate.now pass.old }
+    requires system { site.now.system.now ≡ (start_of site.now.gate.now).system }
+    requires state { state.old ≡ reached (S.means site.now.system.now) (start_of site.now.gate.now).base (entries_told pass.old) }
+    ensures later { IsLater pass.old pass.new }
+    ensures done { IsDone (S.means site.now.system.now) site.now.gate.now.key pass.new }
+    ensures replica { IsReplica (S.means site.now.system.now) (start_of site.now.gate.now).base pass.new.knows state.new }
+{
+    let fit = FitSite {
+        system: site.system,
+        gate: site.gate,
+        pace: site.pace,
+    };
+    work_at(rt, &fit, pass, state, batch)
 }
 
 /// `work_on` with the pass by value: it comes back knowing how the goal ended.

@@ -27,14 +27,14 @@ returns-in-Err-clause-follow g c =
 pub run-requires-clause-ready : goal.run-requires-clause-ready
 run-requires-clause-ready g c κs within =
     let gate = c.in-Ok-start.started.0 in
-    All-same (λ job. IsReady (g.S.System.means (start_of gate).system) gate job) c.deref_mut.result.now c.divide.new.jobs.items c.deref_mut.ensures.value c.divide.ensures.ready
+    All-same (λ job. IsReady (g.S.System.means (start_of gate).system) gate job) c.deref_mut.result.now c.divide.new.roll.jobs.items c.deref_mut.ensures.value c.divide.ensures.ready
 
 pub gather-requires-clause-back : goal.gather-requires-clause-back
 gather-requires-clause-back g c =
     let gate = c.in-Ok-start.started.0 in
     let same = ap (λ xs. length xs) c.deref_mut.ensures.value in
-    let long : length c.divide.new.jobs.items ≤ length c.run.new.jobs = omega (arith, same, c.run.ensures.len) in
-    written (λ job. IsBack (g.S.System.means (start_of gate).system) gate job) c.divide.new.jobs.len c.run.new.jobs c.divide.new.jobs.items long c.run.ensures.back
+    let long : length c.divide.new.roll.jobs.items ≤ length c.run.new.jobs = omega (arith, same, c.run.ensures.len) in
+    written (λ job. IsBack (g.S.System.means (start_of gate).system) gate job) c.divide.new.roll.jobs.len c.run.new.jobs c.divide.new.roll.jobs.items long c.run.ensures.back
 
 pub returns-in_default-clause-steps : goal.returns-in_default-clause-steps
 returns-in_default-clause-steps g c =
@@ -76,7 +76,7 @@ returns-in-Err-clause-events g c = subst (λ x. CameByEvents (g.S.System.means c
 pub returns-clause-follow : goal.returns-clause-follow
 returns-clause-follow g c =
     let e = c.gather.ensures.ended in
-    let ats = c.gather.new.replicas.items in
+    let ats = c.gather.new.roll.replicas.items in
     subst (λ es. All (λ at. IsReplica (g.S.System.means c.args.s.now) c.args.core.base es at) ats) (sym (c.close.ensures.stands e.0 e.1).1)
     (subst (λ x. All (λ at. IsReplica (g.S.System.means x) c.args.core.base c.gather.new.pass.knows at) ats) (sym c.requires.system)
     (subst (λ x. All (λ at. IsReplica (g.S.System.means x.system) x.base c.gather.new.pass.knows at) ats) c.in-Ok-start.ensures.ok.0 c.gather.ensures.follow))
@@ -92,8 +92,8 @@ divide-requires-clause-told g c = ap (λ p. p.told) c.in-Ok-start.ensures.ok.2
 pub divide-requires-clause-base : goal.divide-requires-clause-base
 divide-requires-clause-base g c = subst (λ x. All (λ at. at ≡ x.base) c.args.replicas.items) (sym c.in-Ok-start.ensures.ok.0) c.requires.base
 
-pub run-requires-clause-system : goal.run-requires-clause-system
-run-requires-clause-system g c κs within = c.requires.system ∙ sym (ap (λ x. x.system) c.in-Ok-start.ensures.ok.0)
+pub invariant_of-site : goal.invariant_of-site
+invariant_of-site g c = record { same = c.requires.system ∙ sym (ap (λ x. x.system) c.in-Ok-start.ensures.ok.0) }
 
 pub returns-in-Err-clause-start : goal.returns-in-Err-clause-start
 returns-in-Err-clause-start g c = subst (λ x. SameStart x c.stopped-in-Err.result) c.in-Err.ensures.err c.stopped-in-Err.ensures.start
@@ -107,13 +107,13 @@ returns-in-Err-clause-order g c = unworked refl
 pub returns-clause-order : goal.returns-clause-order
 returns-clause-order g c =
     let gate = c.in-Ok-start.started.0 in
-    let given = c.divide.new.jobs.items in
+    let given = c.divide.new.roll.jobs.items in
     let back = c.run.new.jobs in
     let same = ap (λ xs. length xs) c.deref_mut.ensures.value in
     let long : length given ≤ length back = omega (arith, same, c.run.ensures.len) in
-    let whole = written_whole c.divide.new.jobs.len back given long (omega (arith, same, c.run.ensures.len, c.divide.new.jobs.ok.0)) in
+    let whole = written_whole c.divide.new.roll.jobs.len back given long (omega (arith, same, c.run.ensures.len, c.divide.new.roll.jobs.ok.0)) in
     let later = subst (λ (xs : List _). AllZip (λ x y. IsLater x.0 y.0) xs back) c.deref_mut.ensures.value c.run.ensures.later in
-    let numbers = c.divide.ensures.numbers ∙ ap (λ n. counted_down n) (omega (arith, c.divide.ensures.len, c.divide.new.jobs.ok.0)) in
-    subst (λ x. ComeBack (g.S.System.means x) c.args.core c.args.replicas.items c.gather.new.replicas.items) (ap (λ x. x.system) c.in-Ok-start.ensures.ok.0 ∙ sym c.requires.system)
-    (come_back (g.S.System.means (start_of gate).system) c.args.core gate given back c.args.replicas.items c.gather.new.replicas.items c.in-Ok-start.ensures.ok.0
+    let numbers = c.divide.ensures.numbers ∙ ap (λ n. counted_down n) (omega (arith, c.divide.ensures.len, c.divide.new.roll.jobs.ok.0)) in
+    subst (λ x. ComeBack (g.S.System.means x) c.args.core c.args.replicas.items c.gather.new.roll.replicas.items) (ap (λ x. x.system) c.in-Ok-start.ensures.ok.0 ∙ sym c.requires.system)
+    (come_back (g.S.System.means (start_of gate).system) c.args.core gate given back c.args.replicas.items c.gather.new.roll.replicas.items c.in-Ok-start.ensures.ok.0
     c.divide.ensures.ready c.run.ensures.back later numbers c.divide.ensures.states (c.gather.ensures.order ∙ ap (λ xs. reverse (states_of xs)) whole))

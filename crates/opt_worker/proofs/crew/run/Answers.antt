@@ -10,7 +10,7 @@ pub returns-clause-back : goal.returns-clause-back
 returns-clause-back g c = λ k d lt.
     let inside : k < length c.args.jobs.now = omega (arith, c.for_each_mut.auto.s) in
     let each = (c.for_each_mut.ensures k d inside).1 in
-    subst (λ job. IsBack (g.S.System.means (start_of c.args.gate.now).system) c.args.gate.now job) each.left each.call.0
+    subst (λ job. IsBack (g.S.System.means (start_of c.args.site.now.gate.now).system) c.args.site.now.gate.now job) each.left each.call.0
 
 pub returns-clause-later : goal.returns-clause-later
 returns-clause-later g c =

@@ -1,11 +1,19 @@
-use Rattle.std.proofs.Common.{IfNone}
+use Rattle.std.proofs.Common.{◌<◌, IfNone, sym, subst}
 use Rattle.std.proofs.lemmas.Result.{IfOk-weaker}
 use Rattle.opt_gate.specs.Pass.{start_of}
 use Rattle.opt_worker.specs.Replica.{IsDone}
 use Rattle.opt_worker.specs.inside.Replies.{TellsEnding}
 use Rattle.opt_worker.proofs.Later.{later_self, turned}
+use Rattle.opt_worker.proofs.Asked.{may_ask}
 use Rattle.opt_worker.proofs.Answered.{none_weaker, ended, told_same}
 use Rattle.opt_worker.proofs.worker.report.Goals as goal
+
+pub invariant_of-stand : goal.invariant_of-stand
+invariant_of-stand g c = record { share = subst (λ (x : _). c.args.task.share < (g.S.System.means c.args.site.now.system.now).shares x) (sym c.goal-goal.ensures) c.requires.task }
+
+pub turn-reply-requires-clause-ask : goal.turn-reply-requires-clause-ask
+turn-reply-requires-clause-ask g c =
+    may_ask (g.S.System.means c.args.site.now.system.now) (start_of c.args.site.now.gate.now) c.args.pass.now c.goal-goal.result c.args.at.now c.in_ok-found.field-0 c.goal-goal.ensures c.requires.at c.in_ok-found.ensures.is_true
 
 pub returns-in_err-found-clause-later : goal.returns-in_err-found-clause-later
 returns-in_err-found-clause-later g c = later_self c.args.pass.now

@@ -7,7 +7,7 @@ use Rattle.opt_gate.specs.Turn.{entries_told}
 use Rattle.opt_worker.specs.Replica.{IsDone}
 use Rattle.opt_worker.proofs.Replicas.{replica_further}
 use Rattle.opt_worker.proofs.Later.{later_self, later_trans, turned, still_of}
-use Rattle.opt_worker.proofs.worker.work_on.Goals as goal
+use Rattle.opt_worker.proofs.worker.work_at.Goals as goal
 
 pub loop-init : goal.loop-init
 loop-init g c = (later_self c.args.pass.now, c.requires.state)

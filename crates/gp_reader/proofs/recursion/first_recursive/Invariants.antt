@@ -1,6 +1,0 @@
-use Rattle.std.proofs.Common.{ℕ, ◌<◌}
-use Rattle.gp_reader.specs.inside.Procedures.{ReachesIn}
-use Rattle.gp_reader.proofs.recursion.first_recursive.Given as goal
-
-abbrev pub invariant-loop-k : goal.invariant-loop-k
-invariant-loop-k l = (j : ℕ) → j < l.k → ReachesIn l.callees j j → ⊥
