@@ -3,3 +3,4 @@ pub mod Size
 pub mod Between
 pub mod Early
 pub mod Compared
+pub mod Setting

@@ -17,6 +17,7 @@ mod edges;
 mod expression;
 mod labels;
 mod leaf;
+mod setting;
 mod valued;
 
 pub use condition::holds;
