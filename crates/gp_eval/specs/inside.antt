@@ -4,3 +4,4 @@ pub mod Between
 pub mod Early
 pub mod Compared
 pub mod Setting
+pub mod Chosen

@@ -66,16 +66,10 @@ fn truth(
             let (source, target) = (setting.image(*a), setting.image(*b));
             Ok(has_edge_with(setting.graph, source, target, &list, *mark))
         }
-        Cond::Compared(comparison, d, e) => {
-            compare(alloc, *comparison, (d, e), setting)
-        }
+        Cond::Compared(comparison, d, e) => compare(alloc, *comparison, (d, e), setting),
         Cond::Not(part) => Ok(!truth(alloc, part.get(), setting)?),
-        Cond::And(first, rest) => {
-            all_true(alloc, first.get(), rest.as_slice(), setting)
-        }
-        Cond::Or(first, rest) => {
-            some_true(alloc, first.get(), rest.as_slice(), setting)
-        }
+        Cond::And(first, rest) => all_true(alloc, first.get(), rest.as_slice(), setting),
+        Cond::Or(first, rest) => some_true(alloc, first.get(), rest.as_slice(), setting),
     }
 }
 

@@ -49,11 +49,7 @@ pub fn value(
 
 /// The value, for `?`.
 #[cycle(eval)]
-pub fn eval(
-    alloc: Global,
-    e: &Expr<u32>,
-    setting: &Setting<'_>,
-) -> Result<List, Missing>
+pub fn eval(alloc: Global, e: &Expr<u32>, setting: &Setting<'_>) -> Result<List, Missing>
     requires { IsIn setting.now (expression_of e.now) }
     ensures { Gives result (value_of (expression_of e.now) setting.now) }
 {
@@ -98,11 +94,7 @@ pub fn eval(
 
 /// The integer of the value, without its list where it is a number.
 #[cycle(eval)]
-pub fn eval_integer(
-    alloc: Global,
-    e: &Expr<u32>,
-    setting: &Setting<'_>,
-) -> Result<i128, Missing>
+pub fn eval_integer(alloc: Global, e: &Expr<u32>, setting: &Setting<'_>) -> Result<i128, Missing>
     requires { IsIn setting.now (expression_of e.now) }
     ensures { Gives result (counted (value_of (expression_of e.now) setting.now)) }
 {
@@ -110,9 +102,7 @@ pub fn eval_integer(
         return Ok(z);
     }
     match e {
-        Expr::Negated(operand) => {
-            negated(eval_integer(alloc, operand.get(), setting))
-        }
+        Expr::Negated(operand) => negated(eval_integer(alloc, operand.get(), setting)),
         Expr::Sum(first, rest) => {
             let rest = rest.as_slice();
             eval_sum(alloc, first.get(), rest, setting)

@@ -55,11 +55,7 @@ fn told(present: Result<(), Missing>) -> Valued<()>
 }
 
 // Whether a part of a list has a value.
-fn has_part(
-    alloc: Global,
-    e: &Expr<u32>,
-    setting: &Setting<'_>,
-) -> Result<(), Missing>
+fn has_part(alloc: Global, e: &Expr<u32>, setting: &Setting<'_>) -> Result<(), Missing>
     requires { IsIn setting.now (expression_of e.now) }
     ensures { Gives result (presence (value_of (expression_of e.now) setting.now)) }
 {

@@ -10,6 +10,7 @@
 #![tactic(auto)]
 
 mod arithmetic;
+mod chosen;
 mod comparison;
 mod condition;
 mod denied;

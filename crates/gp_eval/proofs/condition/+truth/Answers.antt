@@ -8,7 +8,7 @@ use Rattle.gp_eval.specs.inside.Chains.{Lacks, and_step, or_step}
 use Rattle.gp_eval.specs.inside.Setting.{IsConditionIn}
 use Rattle.gp_eval.specs.inside.Size.{condition_size, condition_sizes}
 use Rattle.gp_eval.proofs.Chains.{err_given, bind_lacks}
-use Rattle.gp_eval.proofs.Conditions.{Tree, ands_are, ors_are, within_ands, within_ors, condition_size-Not, condition_size-And, condition_size-Or, condition_size_at, part_on, part_lacks, parts_end, first_part_lacks, decided, one_tested}
+use Rattle.gp_eval.proofs.Conditions.{Tree, ands_are, ors_are, within_ands, within_ors, condition_size-Not, condition_size-And, condition_size-Or, condition_size_at, part_on, part_lacks, parts_end, first_part_lacks, decided, one_tested, edge_at, edge_with_at}
 use Rattle.gp_eval.proofs.condition.+truth.Goals as goal
 
 pub all_true-returns-in_err-holds : goal.all_true-returns-in_err-holds
@@ -74,8 +74,8 @@ pub truth-image-requires : goal.truth-image-requires
 truth-image-requires t c =
     (subst (IsConditionIn c.args.setting.now) (ap (condition_of (pattern_of {M = EdgeMark})) c.in-HasEdge.is ∙ condition_of-HasEdge {R = ℕ} (pattern_of {M = EdgeMark}) c.in-HasEdge.a c.in-HasEdge.b) c.requires).0
 
-pub truth-image-requires-2 : goal.truth-image-requires-2
-truth-image-requires-2 t c =
+pub truth-image-requires-in-HasEdge : goal.truth-image-requires-in-HasEdge
+truth-image-requires-in-HasEdge t c =
     (subst (IsConditionIn c.args.setting.now) (ap (condition_of (pattern_of {M = EdgeMark})) c.in-HasEdge.is ∙ condition_of-HasEdge {R = ℕ} (pattern_of {M = EdgeMark}) c.in-HasEdge.a c.in-HasEdge.b) c.requires).1
 
 pub truth-eval-requires-in-HasEdgeWith : goal.truth-eval-requires-in-HasEdgeWith
@@ -107,7 +107,7 @@ pub truth-truth-requires : goal.truth-truth-requires
 truth-truth-requires t c =
     let is = c.get.ensures in
     let z : condition_size c.args.condition.now ≡ 2 + condition_size c.in-Not.part = ap condition_size c.in-Not.is ∙ condition_size-Not c.in-Not.part in
-    (search rules, (rw c.get.ensures (subst (IsConditionIn c.args.setting.now) (ap (condition_of (pattern_of {M = EdgeMark})) c.in-Not.is ∙ condition_of-Not {R = ℕ} (pattern_of {M = EdgeMark}) c.in-Not.part) c.requires))
+    (search rules, rw c.get.ensures (subst (IsConditionIn c.args.setting.now) (ap (condition_of (pattern_of {M = EdgeMark})) c.in-Not.is ∙ condition_of-Not {R = ℕ} (pattern_of {M = EdgeMark}) c.in-Not.part) c.requires))
 
 pub truth-returns-in_err-truth-in-Not : goal.truth-returns-in_err-truth-in-Not
 truth-returns-in_err-truth-in-Not t c =
@@ -152,12 +152,12 @@ truth-returns-in_ok-list-in-HasType t c =
 pub truth-returns-in-HasEdge : goal.truth-returns-in-HasEdge
 truth-returns-in-HasEdge t c =
     let s = c.args.setting.now in
-    rw (c.in-HasEdge.is, condition_of-HasEdge {R = ℕ} (pattern_of {M = EdgeMark}) c.in-HasEdge.a c.in-HasEdge.b) (ap (λ z. Value z) (sym c.has_edge.ensures))
+    rw (c.in-HasEdge.is, condition_of-HasEdge {R = ℕ} (pattern_of {M = EdgeMark}) c.in-HasEdge.a c.in-HasEdge.b) (ap (λ z. Value z) (sym (edge_at s _ _ _ _ _ _ c.setting.view_is c.image.ensures.image c.image-in-HasEdge.ensures.image c.has_edge.ensures)))
 
 pub truth-returns-in_ok-list-in-HasEdgeWith : goal.truth-returns-in_ok-list-in-HasEdgeWith
 truth-returns-in_ok-list-in-HasEdgeWith t c =
     let s = c.args.setting.now in
-    rw (c.in-HasEdgeWith.is, condition_of-HasEdgeWith {R = ℕ} (pattern_of {M = EdgeMark}) c.in-HasEdgeWith.a c.in-HasEdgeWith.b c.in-HasEdgeWith.e c.in-HasEdgeWith.mark) (one_tested (λ v. has_edge_with s.graph (image_at s c.in-HasEdgeWith.a) (image_at s c.in-HasEdgeWith.b) v (pattern_of c.in-HasEdgeWith.mark)) _ c.in_ok-list-in-HasEdgeWith.list _ c.in_ok-list-in-HasEdgeWith.ensures c.has_edge_with.ensures)
+    rw (c.in-HasEdgeWith.is, condition_of-HasEdgeWith {R = ℕ} (pattern_of {M = EdgeMark}) c.in-HasEdgeWith.a c.in-HasEdgeWith.b c.in-HasEdgeWith.e c.in-HasEdgeWith.mark) (one_tested (λ v. has_edge_with s.graph (image_at s c.in-HasEdgeWith.a) (image_at s c.in-HasEdgeWith.b) v (pattern_of c.in-HasEdgeWith.mark)) _ c.in_ok-list-in-HasEdgeWith.list _ c.in_ok-list-in-HasEdgeWith.ensures (edge_with_at s _ _ _ _ _ _ _ _ c.setting.view_is c.image-source.ensures.image c.image-target.ensures.image c.has_edge_with.ensures))
 
 pub truth-returns-in-Compared : goal.truth-returns-in-Compared
 truth-returns-in-Compared t c =
