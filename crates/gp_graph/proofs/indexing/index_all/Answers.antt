@@ -1,12 +1,10 @@
-use Rattle.std.proofs.Common.{◌≡◌, ◌<◌, ◌≤◌, ◌+◌, length, take, refl, sym, ap, subst, ◌∙◌, ℕ, arith}
+use Rattle.std.proofs.Common.{◌≡◌, ◌<◌, ◌≤◌, ◌+◌, length, take, sym, ap, subst, ◌∙◌, ℕ, arith}
 use Rattle.std.specs.Prelude.{IsSome, Some}
-use Rattle.gp_memory.proofs.Basics.{take_past as take_all}
 use Rattle.gp_rings.specs.Pairs.{Index, IsOn, pair_in}
 use Rattle.gp_graph.specs.inside.Slots.{slot_in}
-use Rattle.gp_graph.specs.inside.Pairs.{ends_in, IsIndex}
-use Rattle.gp_graph.proofs.Links.{slot_within}
+use Rattle.gp_graph.specs.inside.Pairs.{ends_in}
 use Rattle.gp_graph.proofs.Places.{slot_is}
-use Rattle.gp_graph.proofs.Indexing.{met_ends, none_of, front_same, slot_front, slot_behind, front_more, ends_entered}
+use Rattle.gp_graph.proofs.Indexed.{met_ends, none_of, front_same, slot_front, slot_behind, front_more, ends_entered}
 use Rattle.gp_graph.proofs.indexing.index_all.Goals as goal
 use Rattle.gp_graph.proofs.indexing.index_all.Goals.{then-is_some, else-is_some}
 
@@ -15,7 +13,7 @@ ends_of-source-requires c =
     subst IsSome (sym (slot_is c.args.edges.now c.loop-e.e c.index-edges-e.result c.loop-e-test.true ∙ sym c.index-edges-e.is)) (sym c.is_some.ensures ∙ c.if-is_some.true)
 
 pub loop-e-init : goal.loop-e-init
-loop-e-init c = ?
+loop-e-init c = let all = c.clear.ensures.cleared c.if-not-clear.false in record { room = all.0; so_far = λ on. all.1 }
 
 pub enter-requires-clause-room : goal.enter-requires-clause-room
 enter-requires-clause-room c some = omega (arith, c.loop-e-test.true, c.loop-e.invariant.room)

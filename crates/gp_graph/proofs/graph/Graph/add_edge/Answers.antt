@@ -15,7 +15,7 @@ use Rattle.gp_graph.specs.inside.Slots.{slot_in}
 use Rattle.gp_graph.specs.inside.Rings.{ShowSame}
 use Rattle.gp_graph.specs.inside.Pairs.{IsIndex, IsIndexBut}
 use Rattle.gp_graph.proofs.RingSteps.{still_there}
-use Rattle.gp_graph.proofs.Indexing.{is_index_added}
+use Rattle.gp_graph.proofs.Indexed.{is_index_added}
 use Rattle.gp_graph.proofs.graph.Graph.add_edge.Goals as goal
 
 pub enter_both-requires-clause-there : goal.enter_both-requires-clause-there

@@ -4,7 +4,7 @@ use Rattle.gp_graph.specs.inside.Rings.{ShowsSame, AllRings}
 use Rattle.gp_graph.specs.inside.Sound.{IsHeld}
 use Rattle.gp_graph.specs.inside.View.{graph_from}
 use Rattle.gp_graph.proofs.Calls.{edge_there, held_turned, same_seen}
-use Rattle.gp_graph.proofs.Indexing.{is_indexed, is_index_turned}
+use Rattle.gp_graph.proofs.Indexed.{is_indexed, is_index_turned}
 use Rattle.gp_graph.proofs.graph.Graph.begin_behind.Goals as goal
 
 pub begin_behind-requires-clause-there : goal.begin_behind-requires-clause-there

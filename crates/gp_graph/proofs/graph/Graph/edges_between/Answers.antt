@@ -8,7 +8,7 @@ use Rattle.gp_rings.specs.Chains.{those, follow}
 use Rattle.gp_graph.specs.inside.View.{graph_from}
 use Rattle.gp_rings.specs.declared.rings.Ring.{Ring}
 use Rattle.gp_graph.specs.declared.rings.Side.TheVariants.{Beginning, Ending}
-use Rattle.gp_graph.proofs.Indexing.{walks_index}
+use Rattle.gp_graph.proofs.Indexed.{walks_index}
 use Rattle.gp_graph.proofs.Walking.{walks_between_ring, walks_back_ring, counts_out, counts_in}
 use Rattle.gp_graph.proofs.graph.Graph.edges_between.Goals as goal
 

@@ -1,4 +1,4 @@
-use Rattle.std.proofs.Common.{◌≡◌, ◌<◌, ◌≤◌, List, length, refl, sym, ap, subst, ◌∙◌, arith, length-set}
+use Rattle.std.proofs.Common.{◌≡◌, ◌<◌, List, length, refl, sym, ap, subst, ◌∙◌, arith, length-set}
 use Rattle.std.specs.Prelude.{Some, IsSome, slice_set}
 use Rattle.std.specs.Vec.{with_items}
 use Rattle.std.proofs.lemmas.List.{with_items_is}
@@ -15,7 +15,7 @@ use Rattle.gp_graph.proofs.RingSteps.{still_there}
 use Rattle.gp_graph.proofs.Calls.{node_there, edge_seen, edge_free, links_slot, rings_put, held_same, same_seen}
 use Rattle.gp_graph.specs.inside.Rings.{ShowSame}
 use Rattle.gp_graph.specs.inside.Pairs.{ends_in, IsIndex}
-use Rattle.gp_graph.proofs.Indexing.{same_ends, is_index_put}
+use Rattle.gp_graph.proofs.Indexed.{same_ends, is_index_put}
 use Rattle.gp_graph.proofs.graph.Graph.put_edge.Goals as goal
 
 pub enter_both-requires-clause-there : goal.enter_both-requires-clause-there

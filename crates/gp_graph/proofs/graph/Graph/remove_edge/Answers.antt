@@ -11,7 +11,7 @@ use Rattle.gp_graph.proofs.SlotMaps.{entry_at}
 use Rattle.gp_graph.proofs.Links.{slot_within}
 use Rattle.gp_graph.proofs.Calls.{edge_there, linked, held_cleared, seen_cleared, same_seen}
 use Rattle.gp_graph.specs.inside.Pairs.{IsIndex}
-use Rattle.gp_graph.proofs.Indexing.{is_indexed, is_index_left}
+use Rattle.gp_graph.proofs.Indexed.{is_indexed, is_index_left}
 use Rattle.gp_graph.proofs.graph.Graph.remove_edge.Goals as goal
 
 pub ends_of-source-requires : goal.ends_of-source-requires

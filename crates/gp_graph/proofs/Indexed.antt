@@ -3,6 +3,7 @@ use Rattle.std.proofs.Common.{inl, inr, ◌≡◌, ◌≢◌, ℕ, zero, suc, �
 use Rattle.std.specs.Prelude.{◌⊎◌, ◌↔◌, Option, Some, None, IsSome, IsSomeAnd, is_some, slice_set}
 use Rattle.std.specs.Option.{option_map}
 use Rattle.std.proofs.lemmas.Bool.{cases_eq}
+use Rattle.gp_memory.proofs.Basics.{some_same}
 use Rattle.gp_values.specs.declared.atom.Atom.{Atom}
 use Rattle.gp_values.specs.declared.marks.EdgeMark.{EdgeMark}
 use Rattle.gp_values.specs.Graph.{Edge}
@@ -172,7 +173,7 @@ none_of (Some x) h = absurd cc
 
 between-at : (o : Option EdgeSlot) (m n : ℕ) → (ends_in o ≡ Some (m, n)) ↔ IsSomeAnd (option_map edge_of o) (λ d. (d.source ≡ m) × (d.target ≡ n))
 between-at None m n = (λ h. absurd cc, λ h. absurd h)
-between-at (Some s) m n = (λ h. let a : s.source ≡ m = cc in let b : s.target ≡ n = cc in (a, b), λ h. ap Some (ap₂ (λ a b. (a, b)) h.0 h.1))
+between-at (Some s) m n = (λ h. let p : (s.source, s.target) ≡ (m, n) = some_same h in (ap (λ (q : ℕ × ℕ). q.0) p, ap (λ (q : ℕ × ℕ). q.1) p), λ h. ap Some (ap₂ (λ a b. (a, b)) h.0 h.1))
 
 pub walks_index : (ns : List (Option NodeSlot)) (es : List (Option EdgeSlot)) (i : Index) (m n : ℕ) (xs : List ℕ) → IsOn i → IsIndex i es → Walks xs (λ k. pair_in i k ≡ Some (m, n)) → Walks xs (GoesBetween (graph_from ns es) m n)
 walks_index ns es i m n xs some h w =
