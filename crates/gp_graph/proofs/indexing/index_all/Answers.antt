@@ -37,8 +37,8 @@ loop-e-preserved c =
             room = omega (arith, old, size, w.enter.ensures.room);
             so_far = subst (λ (i : Index). IsOn i → (k : ℕ) → pair_in i k ≡ ends_in (slot_in (take (e + 1) es) k)) (sym w.index-is)
                 (λ on. (
-                  let some : IsOn c.loop-e.index = subst (λ n. 0 < n) w.enter.ensures.buckets on in
-                  ends_entered c.loop-e.index w.enter.new.self (take (e + 1) es) e s t (w.enter.ensures.entered some) at (λ k ne. c.loop-e.invariant.so_far some k ∙ sym (ap ends_in (front_more es e k ne)))));
+                let some : IsOn c.loop-e.index = subst (λ n. 0 < n) w.enter.ensures.buckets on in
+                ends_entered c.loop-e.index w.enter.new.self (take (e + 1) es) e s t (w.enter.ensures.entered some) at (λ k ne. c.loop-e.invariant.so_far some k ∙ sym (ap ends_in (front_more es e k ne)))));
           })
       | else-is_some w ↦ (
           let size : length c.if-is_some.index.pairs ≡ length c.loop-e.index.pairs = ap (λ (i : Index). length i.pairs) w.index-is in
