@@ -17,7 +17,7 @@ use Rattle.gp_graph.specs.inside.View.{node_of, edge_of, graph_from}
 use Rattle.gp_graph.specs.inside.Rings.{end_of, link_in, ring_in, ring_of, next_of, prev_of, first_of, count_of, changed_at, Meets, HasRings, AllRings, AllRingsBut, Links, ShowsSame, root_link, rewritten_edge}
 use Rattle.gp_graph.specs.inside.Roots.{HasRoots, HasRootsBut, KeepsNodes, rewritten}
 use Rattle.gp_graph.specs.inside.Sound.{IsHeld}
-use Rattle.gp_graph.specs.declared.slots.Ring.{Ring}
+use Rattle.gp_rings.specs.declared.rings.Ring.{Ring}
 use Rattle.gp_graph.specs.declared.slots.NodeSlot.{NodeSlot}
 use Rattle.gp_graph.specs.declared.slots.EdgeSlot.{EdgeSlot}
 use Rattle.gp_graph.specs.declared.rings.Side.{Side}
@@ -25,7 +25,7 @@ use Rattle.gp_graph.specs.declared.rings.Side.TheVariants.{Beginning, Ending}
 use Rattle.gp_graph.proofs.SlotMaps.{seen_at}
 use Rattle.gp_graph.proofs.Views.{nothing, cleared_edge, set_node, set_edge, dropped_node, dropped_edge}
 use Rattle.gp_graph.proofs.Links.{kept, changed_here, some_kept, still_some, slot_here, slot_other, slot_within}
-use Rattle.gp_graph.proofs.RingSets.{rings_agree}
+use Rattle.gp_rings.proofs.RingSets.{rings_agree}
 use Rattle.gp_graph.proofs.Sides.{same_shown, same_rings, gone_node, no_rings, taken, freed, slot_past, slot_pushed, slot_push_other}
 use Rattle.gp_graph.proofs.RootSteps.{roots_kept, roots_but, roots_off, no_root, no_roots, ring_rewritten}
 

@@ -3,9 +3,9 @@ use Rattle.std.proofs.Common.{◌≡◌, ℕ, List, ap, ◌∙◌}
 use Rattle.std.specs.Prelude.{Option, IsSome}
 use Rattle.std.specs.Option.{option_map}
 use Rattle.gp_graph.specs.inside.Slots.{slot_in}
-use Rattle.gp_graph.specs.Chains.{Joins}
+use Rattle.gp_rings.specs.Chains.{Joins}
 use Rattle.gp_graph.specs.inside.Rings.{link_in, with_next, with_prev, changed_at}
-use Rattle.gp_graph.specs.declared.slots.Link.{Link}
+use Rattle.gp_rings.specs.declared.rings.Link.{Link}
 use Rattle.gp_graph.specs.declared.slots.EdgeSlot.{EdgeSlot}
 use Rattle.gp_graph.specs.declared.rings.Side.{Side}
 use Rattle.gp_graph.proofs.Links.{kept, slot_other, changed_here, still_some, next_new, next_kept, prev_new, prev_kept}

@@ -6,17 +6,17 @@ use Rattle.std.proofs.lemmas.Bool.{cases_eq}
 use Rattle.gp_memory.proofs.Basics.{first_or_later}
 use Rattle.gp_values.specs.Graph.{Edge}
 use Rattle.gp_graph.specs.inside.Slots.{slot_in}
-use Rattle.gp_graph.specs.Chains.{Joins, follow}
+use Rattle.gp_rings.specs.Chains.{Joins, follow}
 use Rattle.gp_graph.specs.inside.View.{edge_of}
 use Rattle.gp_graph.specs.inside.Rings.{other, end_of, link_in, ring_in, with_ring, changed_at, next_of, prev_of, first_of, count_of, Meets, HasRings, HasRingsBut, ShowSame, Keeps}
-use Rattle.gp_graph.specs.declared.slots.Link.{Link}
-use Rattle.gp_graph.specs.declared.slots.Ring.{Ring}
+use Rattle.gp_rings.specs.declared.rings.Link.{Link}
+use Rattle.gp_rings.specs.declared.rings.Ring.{Ring}
 use Rattle.gp_graph.specs.declared.slots.NodeSlot.{NodeSlot}
 use Rattle.gp_graph.specs.declared.slots.EdgeSlot.{EdgeSlot}
 use Rattle.gp_graph.specs.declared.rings.Side.{Side}
-use Rattle.gp_graph.proofs.Numbers.{apart_more, few}
-use Rattle.gp_graph.proofs.Rounds.{next_round, prev_round, length-follow}
-use Rattle.gp_graph.proofs.RingSets.{rings_push, rings_remove, rings_turn, last_there, first_there}
+use Rattle.gp_rings.proofs.Numbers.{apart_more, few}
+use Rattle.gp_rings.proofs.Rounds.{next_round, prev_round, length-follow}
+use Rattle.gp_rings.proofs.RingSets.{rings_push, rings_remove, rings_turn, last_there, first_there}
 use Rattle.gp_graph.proofs.Links.{slot_within, ring_here, ring_elsewhere, ring_other_side, ring_seen, ring_roots}
 
 one-at : (side : Side) (o : Option Edge) (j k : ℕ) → IsSomeAnd o (λ d. end_of side d ≡ j) → IsSomeAnd o (λ d. end_of side d ≡ k) → j ≡ k

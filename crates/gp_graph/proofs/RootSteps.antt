@@ -7,18 +7,18 @@ use Rattle.gp_memory.proofs.Basics.{first_or_later}
 use Rattle.gp_values.specs.declared.atom.Atom.{Atom}
 use Rattle.gp_values.specs.declared.marks.NodeMark.{NodeMark}
 use Rattle.gp_graph.specs.inside.Slots.{slot_in}
-use Rattle.gp_graph.specs.Chains.{Joins, follow}
+use Rattle.gp_rings.specs.Chains.{Joins, follow}
 use Rattle.gp_graph.specs.inside.View.{node_of}
 use Rattle.gp_graph.specs.inside.Rings.{changed_at, ring_in, root_link, ShowSame, SameRootLinks}
 use Rattle.gp_graph.specs.inside.Roots.{with_next_root, with_prev_root, next_root, prev_root, at_zero, is_root_in, IsRootAt, HasRoots, HasRootsBut, KeepsNodes, rewritten}
-use Rattle.gp_graph.specs.declared.slots.Link.{Link}
-use Rattle.gp_graph.specs.declared.slots.Ring.{Ring}
+use Rattle.gp_rings.specs.declared.rings.Link.{Link}
+use Rattle.gp_rings.specs.declared.rings.Ring.{Ring}
 use Rattle.gp_graph.specs.declared.slots.NodeSlot.{NodeSlot}
 use Rattle.gp_graph.specs.declared.rings.Side.{Side}
 use Rattle.gp_graph.specs.declared.rings.Side.TheVariants.{Beginning, Ending}
-use Rattle.gp_graph.proofs.Numbers.{apart_more, few}
-use Rattle.gp_graph.proofs.Rounds.{next_round, prev_round, length-follow}
-use Rattle.gp_graph.proofs.RingSets.{rings_push, rings_remove, rings_agree, rings_by, last_there, first_there}
+use Rattle.gp_rings.proofs.Numbers.{apart_more, few}
+use Rattle.gp_rings.proofs.Rounds.{next_round, prev_round, length-follow}
+use Rattle.gp_rings.proofs.RingSets.{rings_push, rings_remove, rings_agree, rings_by, last_there, first_there}
 use Rattle.gp_graph.proofs.Links.{kept, slot_within, slot_here, slot_other, changed_here}
 use Rattle.gp_graph.proofs.RingSteps.{still_there}
 use Rattle.gp_graph.proofs.Lens.{IsLens, lens_joins}

@@ -6,7 +6,7 @@ use Rattle.std.proofs.lemmas.Bool.{cases_eq}
 use Rattle.gp_values.proofs.Graphs.{same_graph}
 use Rattle.gp_graph.specs.inside.Slots.{slot_in}
 use Rattle.gp_graph.specs.Walks.{Walks}
-use Rattle.gp_graph.specs.Chains.{Begins, follow}
+use Rattle.gp_rings.specs.Chains.{Begins, follow}
 use Rattle.gp_graph.specs.inside.View.{node_of, edge_of, graph_from}
 use Rattle.gp_graph.specs.inside.Rings.{other, end_of, link_in, ring_in, next_of, prev_of, first_of, count_of, Meets, HasRings, HasRingsBut, ShowSame, Keeps, AllRings, ShowsSame}
 use Rattle.gp_graph.specs.declared.slots.NodeSlot.{NodeSlot}
@@ -14,7 +14,7 @@ use Rattle.gp_graph.specs.declared.slots.EdgeSlot.{EdgeSlot}
 use Rattle.gp_graph.specs.declared.rings.Side.{Side}
 use Rattle.gp_graph.specs.declared.rings.Side.TheVariants.{Beginning, Ending}
 use Rattle.gp_graph.proofs.SlotMaps.{seen_at}
-use Rattle.gp_graph.proofs.RingSets.{rings_agree, rings_by, begins_follow}
+use Rattle.gp_rings.proofs.RingSets.{rings_agree, rings_by, begins_follow}
 use Rattle.gp_graph.proofs.Links.{slot_other, slot_here}
 use Rattle.gp_graph.proofs.RingSteps.{met_same, met_back, begun, turned, keeps}
 

@@ -7,21 +7,22 @@ use Rattle.gp_memory.proofs.Basics.{first_or_later, here, later}
 use Rattle.gp_values.specs.Graph.{in_degree, out_degree, root_count}
 use Rattle.gp_graph.specs.Walks.{Walks, IsNode, IsRoot, BeginsAt, EndsAt, GoesBetween}
 use Rattle.gp_graph.specs.inside.Slots.{slot_in}
-use Rattle.gp_graph.specs.Chains.{follow}
+use Rattle.gp_rings.specs.Chains.{follow}
 use Rattle.gp_graph.specs.inside.View.{node_of, edge_of, graph_from}
 use Rattle.gp_graph.specs.inside.Rings.{ring_in, next_of, first_of, count_of, Meets, HasRings}
 use Rattle.gp_graph.specs.inside.Roots.{next_root, IsRootAt, HasRoots}
-use Rattle.gp_graph.specs.inside.Sought.{after, those, has_end, passes}
-use Rattle.gp_graph.specs.declared.slots.Ring.{Ring}
+use Rattle.gp_rings.specs.Chains.{those}
+use Rattle.gp_graph.specs.inside.Sought.{after, has_end, passes}
+use Rattle.gp_rings.specs.declared.rings.Ring.{Ring}
 use Rattle.gp_graph.specs.declared.slots.NodeSlot.{NodeSlot}
 use Rattle.gp_graph.specs.declared.slots.EdgeSlot.{EdgeSlot}
 use Rattle.gp_graph.specs.declared.rings.Side.{Side}
 use Rattle.gp_graph.specs.declared.rings.Side.TheVariants.{Beginning, Ending}
-use Rattle.gp_graph.proofs.Numbers.{apart_more, Walks-same}
+use Rattle.gp_rings.proofs.Numbers.{apart_more, Walks-same}
 use Rattle.gp_graph.proofs.SlotMaps.{seen_at}
 use Rattle.gp_graph.proofs.Degrees.{in_degree-walk, out_degree-walk, root_count-walk}
-use Rattle.gp_graph.proofs.Rounds.{length-follow}
-use Rattle.gp_graph.proofs.Those.{Walks-those}
+use Rattle.gp_rings.proofs.Rounds.{length-follow}
+use Rattle.gp_rings.proofs.Those.{Walks-those}
 
 all_kept : (xs : List ℕ) → those (λ k. true) xs ≡ xs
 all_kept [] = refl

@@ -4,14 +4,15 @@ ghost use Rattle.std.specs.Prelude.{◌≡◌, ◌<◌, ◌≤◌, ◌+◌, ◌-
 ghost use Rattle.gp_values.specs.Graph.{IsGraph, HasNoEdges, empty_graph, with_node, with_edge, without_node, without_edge, relabeled, relabeled_edge, with_node_at, with_edge_at, without_node_number, without_edge_number, node_at, edge_at, in_degree, out_degree, node_count, root_count};
 ghost use Rattle.gp_graph.specs.Walks.{Walks, IsNode, IsRoot, BeginsAt, EndsAt, GoesBetween};
 
-use crate::pairs::PairIndex;
+use crate::indexing::{index_added, index_all};
 use crate::rings::{
     Side, begin_at, begin_behind, ends_of, enter_both, leave_both, rewrite_edge, ring_at,
 };
 use crate::roots::{admit, clear, fill, relabel};
-use crate::slots::{EdgeSlot, NodeSlot, Ring, append, copy_of, drop_last, look, put};
+use crate::slots::{EdgeSlot, NodeSlot, append, copy_of, drop_last, look, put};
 use crate::walk::{Sought, Walk, over};
 use gp_memory::NoMemory;
+use gp_rings::{PairIndex, Ring};
 use gp_values::{EdgeMark, List, NodeMark};
 use std::alloc::Global;
 use std::marker::Model;
@@ -97,7 +98,7 @@ impl Graph {
         ensures node_room { self.new.node_room ≡ self.old.node_room }
         ensures edge_room { self.new.edge_room ≡ self.old.edge_room }
     {
-        self.index.renew(&self.edges);
+        index_all(&mut self.index, &self.edges);
     }
 
     /// Adds a node and gives its number. On refusal the graph is as before.
@@ -138,7 +139,7 @@ impl Graph {
         let number = self.edges.len() as u64;
         append(&mut self.edges, EdgeSlot::new(source, target, label, mark))?;
         enter_both(&mut self.nodes, &mut self.edges, source, target, number);
-        self.index.add(&self.edges, number);
+        index_added(&mut self.index, &self.edges, number);
         Ok(number)
     }
 
@@ -172,7 +173,7 @@ impl Graph {
     {
         let (source, target) = ends_of(&self.edges, e);
         leave_both(&mut self.nodes, &mut self.edges, source, target, e);
-        self.index.leave(&self.edges, e);
+        self.index.leave(e);
         match put(&mut self.edges, e, None) {
             Some(slot) => (slot.source, slot.target, slot.label, slot.mark),
             None => unreachable!(),
@@ -215,7 +216,7 @@ impl Graph {
         ensures edge_room { self.new.edge_room ≡ self.old.edge_room }
     {
         begin_at(&mut self.nodes, &self.edges, e);
-        self.index.begin(&self.edges, e, false);
+        self.index.begin(e, false);
     }
 
     /// Lets the walks over the edges at both ends of an edge begin behind it. The graph stays.
@@ -226,7 +227,7 @@ impl Graph {
         ensures edge_room { self.new.edge_room ≡ self.old.edge_room }
     {
         begin_behind(&mut self.nodes, &self.edges, e);
-        self.index.begin(&self.edges, e, true);
+        self.index.begin(e, true);
     }
 
     /// Puts a node back at a number that is vacant and below the next one. It takes no memory.
@@ -257,7 +258,7 @@ impl Graph {
         let slot = EdgeSlot::new(source, target, label, mark);
         let _vacant = put(&mut self.edges, e, Some(slot));
         enter_both(&mut self.nodes, &mut self.edges, source, target, e);
-        self.index.enter(&self.edges, e);
+        self.index.enter(e, source, target);
         self.begin_at(e);
     }
 
@@ -386,7 +387,7 @@ impl Graph {
         let to = ring_at(&self.nodes, Side::Ending, target);
         let most = from.count.min(to.count);
         if let Some(ring) = self.index.ring(source, target, most) {
-            return over(Sought::Pairs(&self.index.pairs, source, target), ring);
+            return over(Sought::Pairs(self.index.pairs(), source, target), ring);
         }
         if from.count <= to.count {
             over(

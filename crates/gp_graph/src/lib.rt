@@ -12,7 +12,7 @@
 #![tactic(auto)]
 
 mod graph;
-mod pairs;
+mod indexing;
 mod rings;
 mod roots;
 mod slots;

@@ -4,11 +4,12 @@ ghost use Rattle.std.specs.Prelude.{◌≡◌, ◌≢◌, ◌<◌, ◌≤◌, �
 ghost use Rattle.std.specs.Option.{option_map};
 ghost use Rattle.gp_values.specs.Atoms.{AreAtoms};
 ghost use Rattle.gp_graph.specs.inside.Slots.{slot_in};
-ghost use Rattle.gp_graph.specs.Chains.{Joins};
+ghost use Rattle.gp_rings.specs.Chains.{Joins};
 ghost use Rattle.gp_graph.specs.inside.View.{edge_of};
 ghost use Rattle.gp_graph.specs.inside.Rings.{other, link_in, ring_in, with_next, with_prev, with_ring, changed_at, next_of, prev_of, first_of, count_of, Meets, HasRings, HasRingsBut, ShowSame, Keeps, AllRings, AllRingsBut, Links, ShowsSame, rewritten_edge};
 
-use crate::slots::{EdgeSlot, Link, NodeSlot, Ring, look};
+use crate::slots::{EdgeSlot, NodeSlot, look};
+use gp_rings::{Link, Ring};
 use gp_values::{EdgeMark, List};
 use std::mem;
 

@@ -1,15 +1,16 @@
 //! The ring of the roots, and nodes that are put, taken out and relabelled with it.
 
-ghost use Rattle.std.specs.Prelude.{◌≡◌, ◌≢◌, ◌<◌, ◌≤◌, ℕ, length, IsSome, Some, None, slice_set};
+ghost use Rattle.std.specs.Prelude.{◌≡◌, ◌<◌, ◌≤◌, ℕ, length, IsSome, Some, None, slice_set};
 ghost use Rattle.std.specs.Option.{option_map};
 ghost use Rattle.gp_values.specs.Atoms.{AreAtoms};
 ghost use Rattle.gp_graph.specs.inside.Slots.{slot_in};
-ghost use Rattle.gp_graph.specs.Chains.{Joins};
+ghost use Rattle.gp_rings.specs.Chains.{Joins};
 ghost use Rattle.gp_graph.specs.inside.View.{node_of};
 ghost use Rattle.gp_graph.specs.inside.Rings.{changed_at, root_link};
 ghost use Rattle.gp_graph.specs.inside.Roots.{with_next_root, with_prev_root, next_root, prev_root, is_root_in, IsRootAt, HasRoots, HasRootsBut, KeepsNodes, rewritten};
 
-use crate::slots::{Link, NodeSlot, Ring, ends, look, put};
+use crate::slots::{NodeSlot, look, put};
+use gp_rings::{Link, Ring, ends, first_without};
 use gp_values::{List, NodeMark};
 use std::mem;
 
@@ -76,14 +77,6 @@ fn enter_roots(nodes: &mut [Option<NodeSlot>], roots: Ring, n: u64) -> Ring
         first,
         count: roots.count + 1,
     }
-}
-
-// What is first in the ring when a root leaves it.
-fn first_without(first: u64, next: u64, leaving: u64) -> u64
-    ensures first { first ≡ leaving → result ≡ next }
-    ensures others { first ≢ leaving → result ≡ first }
-{
-    if first == leaving { next } else { first }
 }
 
 // Takes a root out of the ring.

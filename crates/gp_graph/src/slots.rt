@@ -1,11 +1,12 @@
 //! Vectors of optional slots, each at the place of its number.
 
-ghost use Rattle.std.specs.Prelude.{◌≡◌, ◌≢◌, ◌<◌, ◌≤◌, ◌+◌, ◌-◌, [], ◌∷◌, ◌++◌, IsOk, IfOk, OnOk, OnErr, Some, slice_get, slice_set, length, take, vec_capacity, vec_len};
+ghost use Rattle.std.specs.Prelude.{◌≡◌, ◌<◌, ◌≤◌, ◌+◌, ◌-◌, [], ◌∷◌, ◌++◌, IsOk, IfOk, OnOk, OnErr, Some, slice_get, slice_set, length, take, vec_capacity, vec_len};
 ghost use Rattle.std.specs.Option.{option_copied};
 ghost use Rattle.gp_values.specs.Atoms.{AreAtoms};
 ghost use Rattle.gp_graph.specs.inside.Slots.{slot_in};
 
 use gp_memory::NoMemory;
+use gp_rings::{Link, Ring};
 use gp_values::{EdgeMark, List, NodeMark};
 use std::alloc::Global;
 use std::mem;
@@ -15,32 +16,6 @@ pub(crate) trait Content: Sized + Drop {
     /// A copy of its own memory.
     fn copy(&self, alloc: Global) -> Result<Self, NoMemory>
         ensures { IfOk result (λ x. x ≡ self.now) };
-}
-
-/// The numbers after and before one in a ring.
-#[derive(Clone, Copy)]
-pub(crate) struct Link {
-    pub(crate) next: u64,
-    pub(crate) prev: u64,
-}
-
-/// The first number of a ring, and how many it has.
-#[derive(Clone, Copy)]
-pub(crate) struct Ring {
-    pub(crate) first: u64,
-    pub(crate) count: u64,
-}
-
-/// What is to be the first and what the last before a number that enters a ring.
-pub(crate) fn ends(ring: Ring, last: u64, entering: u64) -> (u64, u64)
-    ensures none { ring.count ≡ 0 → (result.0 ≡ entering) × (result.1 ≡ entering) }
-    ensures some { ring.count ≢ 0 → (result.0 ≡ ring.first) × (result.1 ≡ last) }
-{
-    if ring.count == 0 {
-        (entering, entering)
-    } else {
-        (ring.first, last)
-    }
 }
 
 /// What a node carries, the rings of the edges that begin and that end there, and its link among the roots.

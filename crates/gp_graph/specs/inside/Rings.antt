@@ -6,10 +6,10 @@ use Rattle.gp_values.specs.declared.atom.Atom.{Atom}
 use Rattle.gp_values.specs.declared.marks.EdgeMark.{EdgeMark}
 use Rattle.gp_values.specs.Graph.{Edge}
 use Rattle.gp_graph.specs.inside.Slots.{slot_in}
-use Rattle.gp_graph.specs.Chains.{AreRings}
+use Rattle.gp_rings.specs.Chains.{AreRings}
 use Rattle.gp_graph.specs.inside.View.{node_of, edge_of}
-use Rattle.gp_graph.specs.declared.slots.Link.{Link}
-use Rattle.gp_graph.specs.declared.slots.Ring.{Ring}
+use Rattle.gp_rings.specs.declared.rings.Link.{Link}
+use Rattle.gp_rings.specs.declared.rings.Ring.{Ring}
 use Rattle.gp_graph.specs.declared.slots.NodeSlot.{NodeSlot}
 use Rattle.gp_graph.specs.declared.slots.EdgeSlot.{EdgeSlot}
 use Rattle.gp_graph.specs.declared.rings.Side.{Side}

@@ -4,10 +4,10 @@ use Rattle.std.specs.Option.{option_map}
 use Rattle.gp_values.specs.declared.atom.Atom.{Atom}
 use Rattle.gp_values.specs.declared.marks.NodeMark.{NodeMark}
 use Rattle.gp_graph.specs.inside.Slots.{slot_in}
-use Rattle.gp_graph.specs.Chains.{AreRings}
+use Rattle.gp_rings.specs.Chains.{AreRings}
 use Rattle.gp_graph.specs.inside.View.{node_of}
 use Rattle.gp_graph.specs.inside.Rings.{ring_in, root_link, ShowSame}
-use Rattle.gp_graph.specs.declared.slots.Ring.{Ring}
+use Rattle.gp_rings.specs.declared.rings.Ring.{Ring}
 use Rattle.gp_graph.specs.declared.slots.NodeSlot.{NodeSlot}
 use Rattle.gp_graph.specs.declared.rings.Side.{Side}
 

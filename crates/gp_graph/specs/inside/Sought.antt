@@ -1,11 +1,11 @@
 -- What a walk goes over, and what it gives of that.
-use Rattle.std.specs.Prelude.{ℕ, ◌+◌, ◌==◌, Bool, true, false, if◌then◌else◌, List, [], ◌∷◌, Option, Some, None, is_some}
+use Rattle.std.specs.Prelude.{ℕ, ◌+◌, ◌==◌, Bool, true, false, if◌then◌else◌, List, Option, Some, None, is_some}
 use Rattle.gp_graph.specs.inside.Slots.{slot_in}
-use Rattle.gp_graph.specs.Chains.{follow}
+use Rattle.gp_rings.specs.Chains.{those, follow}
 use Rattle.gp_graph.specs.inside.View.{edge_of}
 use Rattle.gp_graph.specs.inside.Rings.{next_of, other, end_of}
 use Rattle.gp_graph.specs.inside.Roots.{next_root}
-use Rattle.gp_graph.specs.inside.Pairs.{pair_at, next_pair, has_ends}
+use Rattle.gp_rings.specs.Pairs.{pair_at, next_pair, has_ends}
 use Rattle.gp_graph.specs.declared.slots.EdgeSlot.{EdgeSlot}
 use Rattle.gp_graph.specs.declared.rings.Side.{Side}
 use Rattle.gp_graph.specs.declared.walk.Sought.{Sought}
@@ -37,11 +37,6 @@ behind (Nodes ns) k = after k
 behind (Roots ns) k = next_root ns.now k
 behind (Edges es side wanted) k = next_of side es.now k
 behind (Pairs ps source target) k = next_pair ps.now k
-
--- the numbers that pass a test
-abbrev pub those : (ℕ → Bool) → List ℕ → List ℕ
-those p [] = []
-those p (x ∷ xs) = if p x then x ∷ those p xs else those p xs
 
 -- what is given of so many numbers, beginning with this one
 abbrev pub given_of : Sought → ℕ → ℕ → List ℕ

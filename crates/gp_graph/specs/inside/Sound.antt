@@ -1,14 +1,14 @@
 -- What a graph's fields keep.
 use Rattle.std.specs.Prelude.{◌≡◌, ℕ, List, Option}
 use Rattle.gp_values.specs.Graph.{IsGraph, node_count}
+use Rattle.gp_rings.specs.Pairs.{Index}
 use Rattle.gp_graph.specs.inside.View.{graph_from}
 use Rattle.gp_graph.specs.inside.Rings.{AllRings}
 use Rattle.gp_graph.specs.inside.Roots.{HasRoots}
 use Rattle.gp_graph.specs.inside.Pairs.{IsIndex}
-use Rattle.gp_graph.specs.declared.slots.Ring.{Ring}
+use Rattle.gp_rings.specs.declared.rings.Ring.{Ring}
 use Rattle.gp_graph.specs.declared.slots.NodeSlot.{NodeSlot}
 use Rattle.gp_graph.specs.declared.slots.EdgeSlot.{EdgeSlot}
-use Rattle.gp_graph.specs.declared.pairs.PairIndex.{PairIndex}
 
 -- The slots show a graph, the links go round its lists, and the count is that of its nodes.
 --
@@ -29,6 +29,6 @@ pub record IsHeld (ns : List (Option NodeSlot)) (es : List (Option EdgeSlot)) (r
 
 -- Besides, the index, where there is one, has the edges by the pair of their ends: a bucket is a ring too, and turns
 -- with those of its edges' ends.
-pub record IsSound (ns : List (Option NodeSlot)) (es : List (Option EdgeSlot)) (r : Ring) (c : ℕ) (i : PairIndex) : Type 0 where
+pub record IsSound (ns : List (Option NodeSlot)) (es : List (Option EdgeSlot)) (r : Ring) (c : ℕ) (i : Index) : Type 0 where
   pub held : IsHeld ns es r c
   pub index : IsIndex i es

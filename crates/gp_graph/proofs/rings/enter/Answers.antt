@@ -1,7 +1,7 @@
 use Rattle.std.proofs.Common.{◌≡◌, sym, ap, subst, ◌∙◌, arith}
 use Rattle.gp_graph.specs.inside.View.{edge_of}
 use Rattle.gp_graph.specs.inside.Rings.{HasRings, Keeps, count_of}
-use Rattle.gp_graph.specs.declared.slots.Ring.{Ring}
+use Rattle.gp_rings.specs.declared.rings.Ring.{Ring}
 use Rattle.gp_graph.proofs.Links.{slot_within}
 use Rattle.gp_graph.proofs.RingSteps.{entered, keeps, last_some, first_some, may_enter, still_there}
 use Rattle.gp_graph.proofs.rings.enter.Goals as goal

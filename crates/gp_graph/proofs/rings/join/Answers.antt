@@ -1,6 +1,6 @@
 use Rattle.std.proofs.Common.{◌≡◌, ℕ, ap, sym, subst, ◌∙◌}
 use Rattle.gp_graph.specs.inside.Slots.{slot_in}
-use Rattle.gp_graph.specs.Chains.{Joins}
+use Rattle.gp_rings.specs.Chains.{Joins}
 use Rattle.gp_graph.specs.inside.View.{edge_of}
 use Rattle.gp_graph.specs.inside.Rings.{other, with_prev, changed_at, next_of, prev_of, link_in, ShowSame}
 use Rattle.gp_graph.proofs.Links.{joined, joined_links, joined_seen, slot_within}

@@ -1,5 +1,5 @@
 use Rattle.std.proofs.Common.{ap, ◌∙◌, arith}
-use Rattle.gp_graph.specs.declared.slots.Link.{Link}
+use Rattle.gp_rings.specs.declared.rings.Link.{Link}
 use Rattle.gp_graph.proofs.RootSteps.{root_entered, last_root_some, first_root_some, may_enter_roots, still_some, keeps_then, root_there}
 use Rattle.gp_graph.proofs.roots.enter_roots.Goals as goal
 

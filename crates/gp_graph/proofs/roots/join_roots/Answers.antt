@@ -1,5 +1,5 @@
 use Rattle.std.proofs.Common.{◌≡◌, ap, sym, subst, ◌∙◌}
-use Rattle.gp_graph.specs.Chains.{Joins}
+use Rattle.gp_rings.specs.Chains.{Joins}
 use Rattle.gp_graph.specs.inside.Rings.{changed_at}
 use Rattle.gp_graph.specs.inside.Roots.{with_prev_root, next_root, prev_root, KeepsNodes}
 use Rattle.gp_graph.proofs.Links.{slot_within}

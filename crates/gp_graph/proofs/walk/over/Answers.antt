@@ -1,8 +1,8 @@
 use Rattle.std.proofs.Common.{arith}
-use Rattle.gp_graph.specs.Chains.{follow}
+use Rattle.gp_rings.specs.Chains.{follow}
 use Rattle.gp_graph.specs.inside.Sought.{is_given, behind}
-use Rattle.gp_graph.proofs.Rounds.{length-follow}
-use Rattle.gp_graph.proofs.Those.{length-those}
+use Rattle.gp_rings.proofs.Rounds.{length-follow}
+use Rattle.gp_rings.proofs.Those.{length-those}
 use Rattle.gp_graph.proofs.walk.over.Goals as goal
 
 pub returns-clause-most : goal.returns-clause-most

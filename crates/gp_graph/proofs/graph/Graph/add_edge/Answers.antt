@@ -13,9 +13,9 @@ use Rattle.gp_graph.proofs.Sides.{slot_pushed}
 use Rattle.gp_graph.proofs.Calls.{node_there, links_slot, rings_added, held_same, same_seen}
 use Rattle.gp_graph.specs.inside.Slots.{slot_in}
 use Rattle.gp_graph.specs.inside.Rings.{ShowSame}
-use Rattle.gp_graph.specs.inside.Pairs.{IndexesBut, IsIndex}
+use Rattle.gp_graph.specs.inside.Pairs.{IsIndex, IsIndexBut}
 use Rattle.gp_graph.proofs.RingSteps.{still_there}
-use Rattle.gp_graph.proofs.Indexing.{is_index_added}
+use Rattle.gp_graph.proofs.Indexed.{is_index_added}
 use Rattle.gp_graph.proofs.graph.Graph.add_edge.Goals as goal
 
 pub enter_both-requires-clause-there : goal.enter_both-requires-clause-there
@@ -32,8 +32,8 @@ enter_both-requires-clause-rings c =
     rw (c.deref_mut.ensures.value, c.deref_mut-2.ensures.value, c.in_ok-append.ensures.ok, n)
     (rings_added c.self.inside.nodes.items c.self.inside.edges.items c.new.result c.self.invariant.held.rings)
 
-pub add-requires-clause-there : goal.add-requires-clause-there
-add-requires-clause-there c =
+pub index_added-requires-clause-there : goal.index_added-requires-clause-there
+index_added-requires-clause-there c =
     let es = c.self.inside.edges.items in
     let x = c.new.result in
     let lb = c.enter_both.new.edges in
@@ -43,8 +43,8 @@ add-requires-clause-there c =
     subst (λ xs. IsSome (slot_in xs c.len-number.result)) (sym (c.deref.ensures.value ∙ e))
     (subst (λ k. IsSome (slot_in lb k)) (sym n) (still_there edge_of (es ++ Some x ∷ []) lb (length es) same (subst IsSome (sym (slot_pushed es (Some x))) refl)))
 
-pub add-requires-clause-others : goal.add-requires-clause-others
-add-requires-clause-others c some =
+pub index_added-requires-clause-others : goal.index_added-requires-clause-others
+index_added-requires-clause-others c =
     let es = c.self.inside.edges.items in
     let i = c.self.inside.index in
     let x = c.new.result in
@@ -52,8 +52,7 @@ add-requires-clause-others c some =
     let n : c.len-number.result ≡ length es = omega (arith, c.len-number.ensures) in
     let e = with_items_is c.append.new.slots lb (c.enter_both.auto.edges ∙ c.deref_mut-2.ensures.len) in
     let same : ShowSame edge_of (es ++ Some x ∷ []) lb = subst (λ xs. ShowSame edge_of xs lb) (c.deref_mut-2.ensures.value ∙ c.in_ok-append.ensures.ok) c.enter_both.ensures.same.edges in
-    subst (λ xs. IndexesBut i.buckets.items i.pairs.items xs c.len-number.result) (sym (c.deref.ensures.value ∙ e))
-    (subst (IndexesBut i.buckets.items i.pairs.items lb) (sym n) (is_index_added i es lb x same c.self.invariant.index some))
+    subst (λ xs. IsIndexBut i xs c.len-number.result) (sym (c.deref.ensures.value ∙ e)) (subst (IsIndexBut i lb) (sym n) (is_index_added i es lb x same c.self.invariant.index))
 
 pub invariant_of-self-2 : goal.invariant_of-self-2
 invariant_of-self-2 c = record {
@@ -74,7 +73,7 @@ invariant_of-self-2 c = record {
       (held_same c.deref_mut.result.now c.deref_mut-2.result.now c.enter_both.new.nodes c.enter_both.new.edges c.self.inside.roots c.self.inside.node_count (with_edge (graph_from ns es) (edge_of x))
       seen graph c.enter_both.ensures.same c.enter_both.auto.nodes c.enter_both.auto.edges c.enter_both.ensures.rings
       (subst (HasRoots c.self.inside.roots) (sym c.deref_mut.ensures.value) c.self.invariant.held.roots) c.self.invariant.held.count));
-  index = subst (IsIndex c.add.new.self) c.deref.ensures.value c.add.ensures;
+  index = subst (IsIndex c.index_added.new.index) c.deref.ensures.value c.index_added.ensures;
 }
 
 pub returns-clause-ok : goal.returns-clause-ok

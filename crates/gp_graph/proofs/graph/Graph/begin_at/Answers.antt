@@ -4,20 +4,15 @@ use Rattle.gp_graph.specs.inside.Rings.{ShowsSame, AllRings}
 use Rattle.gp_graph.specs.inside.Sound.{IsHeld}
 use Rattle.gp_graph.specs.inside.View.{graph_from}
 use Rattle.gp_graph.proofs.Calls.{edge_there, held_turned, same_seen}
-use Rattle.std.specs.Prelude.{IsSome}
-use Rattle.gp_graph.specs.inside.Slots.{slot_in}
-use Rattle.gp_graph.specs.inside.Pairs.{IsIndex}
+use Rattle.gp_graph.proofs.Indexed.{is_indexed, is_index_turned}
 use Rattle.gp_graph.proofs.graph.Graph.begin_at.Goals as goal
 
 pub begin_at-requires-clause-there : goal.begin_at-requires-clause-there
 begin_at-requires-clause-there c = rw c.deref.ensures.value (edge_there c.self.inside.nodes.items c.self.inside.edges.items c.args.e (rw (← c.self.view_is) at c.requires))
 
-pub begin-requires-clause-there : goal.begin-requires-clause-there
-begin-requires-clause-there c =
-    subst (λ xs. IsSome (slot_in xs c.args.e)) (sym c.deref-2.ensures.value) (edge_there c.self.inside.nodes.items c.self.inside.edges.items c.args.e (rw (← c.self.view_is) at c.requires))
-
-pub begin-requires-clause-all : goal.begin-requires-clause-all
-begin-requires-clause-all c = subst (IsIndex c.self.inside.index) (sym c.deref-2.ensures.value) c.self.invariant.index
+pub begin-requires : goal.begin-requires
+begin-requires c =
+    is_indexed c.self.inside.index c.self.inside.edges.items c.args.e (edge_there c.self.inside.nodes.items c.self.inside.edges.items c.args.e (rw (← c.self.view_is) at c.requires)) c.self.invariant.index
 
 pub invariant_of-self : goal.invariant_of-self
 invariant_of-self c = record {
@@ -30,7 +25,7 @@ invariant_of-self c = record {
       (held_turned ns c.begin_at.new.nodes es c.self.inside.roots c.self.inside.node_count c.self.invariant.held same
       (c.begin_at.auto.nodes ∙ ap (λ (xs : List _). length xs) c.deref_mut.ensures.value)
       (subst (AllRings c.begin_at.new.nodes) c.deref.ensures.value c.begin_at.ensures.rings));
-  index = subst (IsIndex c.begin.new.self) c.deref-2.ensures.value c.begin.ensures;
+  index = is_index_turned c.self.inside.index c.begin.new.self c.self.inside.edges.items c.begin.ensures.same c.begin.ensures.buckets c.begin.ensures.room c.self.invariant.index;
 }
 
 pub returns-clause-graph : goal.returns-clause-graph

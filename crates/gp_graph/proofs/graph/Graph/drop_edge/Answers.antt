@@ -2,7 +2,7 @@ use Rattle.std.proofs.Common.{◌-◌, length}
 use Rattle.gp_graph.proofs.Views.{dropped_edge}
 use Rattle.gp_graph.proofs.Calls.{held_edge_dropped}
 use Rattle.gp_graph.proofs.Calls.{edge_free}
-use Rattle.gp_graph.proofs.Indexing.{is_index_dropped}
+use Rattle.gp_graph.proofs.Indexed.{is_index_dropped}
 use Rattle.gp_graph.proofs.graph.Graph.drop_edge.Goals as goal
 
 pub invariant_of-self : goal.invariant_of-self

@@ -1,15 +1,14 @@
 use Rattle.std.proofs.Common.{◌≡◌, sym, ap, subst, ◌∙◌, arith}
 use Rattle.gp_values.specs.Graph.{in_degree, out_degree}
 use Rattle.gp_graph.specs.Walks.{Walks, GoesBetween}
-use Rattle.gp_graph.specs.Chains.{follow}
 use Rattle.gp_graph.specs.inside.Slots.{slot_in}
 use Rattle.gp_graph.specs.inside.Rings.{ring_in}
-use Rattle.gp_graph.specs.inside.Pairs.{pair_at, next_pair, has_ends}
-use Rattle.gp_graph.specs.inside.Sought.{those}
+use Rattle.gp_rings.specs.Pairs.{pair_at, next_pair, has_ends}
+use Rattle.gp_rings.specs.Chains.{those, follow}
 use Rattle.gp_graph.specs.inside.View.{graph_from}
-use Rattle.gp_graph.specs.declared.slots.Ring.{Ring}
+use Rattle.gp_rings.specs.declared.rings.Ring.{Ring}
 use Rattle.gp_graph.specs.declared.rings.Side.TheVariants.{Beginning, Ending}
-use Rattle.gp_graph.proofs.Buckets.{walks_pairs}
+use Rattle.gp_graph.proofs.Indexed.{walks_index}
 use Rattle.gp_graph.proofs.Walking.{walks_between_ring, walks_back_ring, counts_out, counts_in}
 use Rattle.gp_graph.proofs.graph.Graph.edges_between.Goals as goal
 
@@ -21,11 +20,10 @@ returns-in-Some-clause-walks c =
     let n = c.args.target in
     let i = c.self.inside.index in
     let ring = c.in-Some.ring in
-    let is = c.in-Some.ensures.is in
     rw (← c.self.view_is)
     (subst (λ xs. Walks xs (GoesBetween (graph_from ns es) m n)) (sym c.over.ensures.numbers)
-    (subst (λ ps. Walks (those (λ e. has_ends m n (pair_at ps e)) (follow (next_pair ps) ring.count ring.first)) (GoesBetween (graph_from ns es) m n)) (sym c.deref-in-Some.ensures.value)
-    (walks_pairs ns i.buckets.items i.pairs.items es m n ring (c.self.invariant.index is.0).1 is.1)))
+    (subst (λ ps. Walks (those (λ e. has_ends m n (pair_at ps e)) (follow (next_pair ps) ring.count ring.first)) (GoesBetween (graph_from ns es) m n)) (sym c.pairs.ensures)
+    (walks_index ns es i m n (those (λ e. has_ends m n (pair_at i.pairs e)) (follow (next_pair i.pairs) ring.count ring.first)) c.in-Some.ensures.on c.self.invariant.index c.in-Some.ensures.walks)))
 
 pub returns-in-Some-clause-most_from : goal.returns-in-Some-clause-most_from
 returns-in-Some-clause-most_from c =

@@ -5,7 +5,7 @@ use Rattle.gp_graph.specs.inside.Sound.{IsHeld}
 use Rattle.gp_graph.specs.inside.View.{graph_from}
 use Rattle.gp_graph.proofs.Calls.{edge_there, held_edge_rewritten, seen_edge_rewritten, edge_rewritten_seen, edge_label_was}
 use Rattle.gp_graph.specs.inside.Pairs.{IsIndex}
-use Rattle.gp_graph.proofs.Indexing.{is_index_rewritten}
+use Rattle.gp_graph.proofs.Indexed.{is_index_rewritten}
 use Rattle.gp_graph.proofs.graph.Graph.relabel_edge.Goals as goal
 
 pub rewrite_edge-was-requires : goal.rewrite_edge-was-requires

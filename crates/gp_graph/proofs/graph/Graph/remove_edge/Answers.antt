@@ -1,5 +1,5 @@
 use Rattle.std.proofs.Common.{◌≡◌, ◌<◌, List, length, sym, ap, subst, ◌∙◌, arith}
-use Rattle.std.specs.Prelude.{Some, None, IsSome, slice_set}
+use Rattle.std.specs.Prelude.{Some, None, slice_set}
 use Rattle.std.specs.List.{slice_get}
 use Rattle.std.specs.Vec.{with_items}
 use Rattle.std.proofs.lemmas.List.{with_items_is}
@@ -10,11 +10,8 @@ use Rattle.gp_graph.specs.inside.View.{edge_of, graph_from}
 use Rattle.gp_graph.proofs.SlotMaps.{entry_at}
 use Rattle.gp_graph.proofs.Links.{slot_within}
 use Rattle.gp_graph.proofs.Calls.{edge_there, linked, held_cleared, seen_cleared, same_seen}
-use Rattle.gp_graph.specs.inside.Slots.{slot_in}
-use Rattle.gp_graph.specs.inside.Pairs.{IsIndex, IsIndexBut}
-use Rattle.gp_graph.proofs.RingSteps.{still_there}
-use Rattle.gp_graph.proofs.Buckets.{same_pairs}
-use Rattle.gp_graph.proofs.Indexing.{is_index_same, is_index_cleared}
+use Rattle.gp_graph.specs.inside.Pairs.{IsIndex}
+use Rattle.gp_graph.proofs.Indexed.{is_indexed, is_index_left}
 use Rattle.gp_graph.proofs.graph.Graph.remove_edge.Goals as goal
 
 pub ends_of-source-requires : goal.ends_of-source-requires
@@ -26,25 +23,9 @@ leave_both-requires-clause-there c =
     (linked c.self.inside.nodes.items c.self.inside.edges.items c.ends_of-source.result.0 c.ends_of-source.result.1 c.args.e c.self.invariant.held.graph
     (rw c.deref.ensures.value at c.ends_of-source.ensures.source) (rw c.deref.ensures.value at c.ends_of-source.ensures.target))
 
-pub leave-requires-clause-there : goal.leave-requires-clause-there
-leave-requires-clause-there c =
-    let ns = c.self.inside.nodes.items in
-    let es = c.self.inside.edges.items in
-    let lb = c.leave_both.new.edges in
-    let first = with_items_is c.self.inside.edges lb (c.leave_both.auto.edges ∙ c.deref_mut-2.ensures.len) in
-    let same : ShowsSame ns es c.leave_both.new.nodes lb = rw (c.deref_mut.ensures.value, c.deref_mut-2.ensures.value) at c.leave_both.ensures.same in
-    subst (λ xs. IsSome (slot_in xs c.args.e)) (sym (c.deref-2.ensures.value ∙ first))
-    (still_there edge_of es lb c.args.e same.edges (edge_there ns es c.args.e (rw (← c.self.view_is) at c.requires)))
-
-pub leave-requires-clause-all : goal.leave-requires-clause-all
-leave-requires-clause-all c =
-    let ns = c.self.inside.nodes.items in
-    let es = c.self.inside.edges.items in
-    let lb = c.leave_both.new.edges in
-    let first = with_items_is c.self.inside.edges lb (c.leave_both.auto.edges ∙ c.deref_mut-2.ensures.len) in
-    let same : ShowsSame ns es c.leave_both.new.nodes lb = rw (c.deref_mut.ensures.value, c.deref_mut-2.ensures.value) at c.leave_both.ensures.same in
-    let long : length lb ≡ length es = c.leave_both.auto.edges ∙ ap (λ (xs : List _). length xs) c.deref_mut-2.ensures.value in
-    subst (IsIndex c.self.inside.index) (sym (c.deref-2.ensures.value ∙ first)) (is_index_same c.self.inside.index es lb (same_pairs es lb same.edges) (omega (arith, long)) c.self.invariant.index)
+pub leave-requires : goal.leave-requires
+leave-requires c =
+    is_indexed c.self.inside.index c.self.inside.edges.items c.args.e (edge_there c.self.inside.nodes.items c.self.inside.edges.items c.args.e (rw (← c.self.view_is) at c.requires)) c.self.invariant.index
 
 pub invariant_of-self : goal.invariant_of-self
 invariant_of-self c = record {
@@ -71,7 +52,8 @@ invariant_of-self c = record {
       let within : c.args.e < length es = slot_within es c.args.e (edge_there ns es c.args.e (rw (← c.self.view_is) at c.requires)) in
       let long : length lb ≡ length es = c.leave_both.auto.edges ∙ ap (λ (xs : List _). length xs) c.deref_mut-2.ensures.value in
       let l : c.args.e < length lb = omega (arith, long, within) in
-      subst (IsIndex c.leave.new.self) (sym now) (is_index_cleared c.leave.new.self lb c.args.e l (subst (λ xs. IsIndexBut c.leave.new.self xs c.args.e) (c.deref-2.ensures.value ∙ first) c.leave.ensures));
+      let same : ShowsSame ns es c.leave_both.new.nodes lb = rw (c.deref_mut.ensures.value, c.deref_mut-2.ensures.value) at c.leave_both.ensures.same in
+      subst (IsIndex c.leave.new.self) (sym now) (is_index_left c.self.inside.index c.leave.new.self es lb c.args.e same.edges long l c.leave.ensures.left c.leave.ensures.buckets c.leave.ensures.room c.self.invariant.index);
 }
 
 pub returns-clause-removed : goal.returns-clause-removed

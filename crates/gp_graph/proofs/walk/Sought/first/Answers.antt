@@ -1,6 +1,6 @@
 use Rattle.std.proofs.Common.{sym, ◌∙◌, arith}
 use Rattle.gp_graph.specs.inside.Sought.{is_given, behind}
-use Rattle.gp_graph.proofs.Those.{step_here, step_past}
+use Rattle.gp_rings.proofs.Those.{step_here, step_past}
 use Rattle.gp_graph.proofs.walk.Sought.first.Goals as goal
 
 pub returns-then-gives : goal.returns-then-gives

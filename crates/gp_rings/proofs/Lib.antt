@@ -1,0 +1,5 @@
+pub mod Numbers
+pub mod Rounds
+pub mod RingSets
+pub mod Those
+pub mod Buckets

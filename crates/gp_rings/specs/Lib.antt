@@ -1,0 +1,4 @@
+pub mod Walks
+pub mod Chains
+pub mod Pairs
+pub mod inside
