@@ -1,7 +1,7 @@
 -- What is noted of nodes and edges while they are read.
 use Rattle.std.proofs.Common.{◌≡◌, ℕ, ◌-◌, ◌<◌, Bool, true, false, not, List, [], ◌∷◌, ◌++◌, length, map, Option, Some, None, refl, sym, ap, subst, ◌∙◌, append_assoc, append-nil}
 use Rattle.std.proofs.lemmas.List.{map-append}
-use Rattle.std.specs.Prelude.{if◌then◌else◌, is_some, Result, Ok}
+use Rattle.std.specs.Prelude.{if◌then◌else◌, is_some, IsSome}
 use Rattle.std.specs.Option.{option_or}
 use Rattle.gp_tokens.specs.declared.token.Token.{Token}
 use Rattle.gp_tokens.specs.declared.error.ReadError.{ReadError}
@@ -11,7 +11,8 @@ use Rattle.gp_tokens.proofs.Loops.{GoesOn, starts, goes_on, fails, ends, runs_ou
 use Rattle.gp_values.specs.Names.{Name, has_name, first_doubled, first_doubled_behind}
 use Rattle.gp_hostfile.specs.declared.seen.Seen.{Seen}
 use Rattle.gp_hostfile.specs.Host.{first_found, out_of_range}
-use Rattle.gp_hostfile.specs.inside.Seen.{Item, HasSeen, HasSeenNumbers, HasSeenNames, MeetsOne}
+use Rattle.gp_hostfile.specs.inside.Seen.{Item, HasSeen, HasSeenNumbers, HasSeenNames}
+use Rattle.gp_hostfile.specs.inside.Walks.{items_of}
 use Rattle.gp_hostfile.proofs.Faults.{found_append}
 
 -- ---- numbers
@@ -41,7 +42,7 @@ module _ (items : List Item) (i : Item) (s t : Seen) (h : HasSeenNumbers items s
   number_taken k e = let n = none_when s.beyond b was k in record { beyond = e ∙ sym (more ∙ rw n refl) }
 
   pub number_kept : b ≡ false → t.beyond ≡ s.beyond → HasSeenNumbers (items ++ i ∷ []) t
-  number_kept k e = let n = some_when s.beyond b was k in record { beyond = e ∙ n.1 ∙ sym (more ∙ rw n.1 refl) }
+  number_kept k e = let n = some_when s.beyond b was k in record { beyond = e ∙ n.1 ∙ sym (more ∙ ap (λ o. option_or o (beyond i)) n.1) }
 
 -- ---- names
 
@@ -100,7 +101,10 @@ module _ (items : List Item) (i : Item) (s t : Seen) (h : HasSeenNames items s) 
     name_passed k e =
         let n = some_when s.twice b was k in
         let f : t.twice ≡ Some n.0 = ap (λ (s : Seen). s.twice) e ∙ n.1 in
-        record { twice = f ∙ sym (grown ∙ rw n.1 refl); names = λ none. absurd (nothing f none) }
+        record {
+          twice = f ∙ sym (grown ∙ ap (λ o. option_or o (if has_name (names_of items) i.0 then Some i.0 else None)) n.1);
+          names = λ none. absurd (nothing f none);
+        }
 
 -- ---- over nodes or edges
 
@@ -131,8 +135,9 @@ module _ {T : Type 0} (want : Want) (one : Reader T) (item : T → Item) where
   met_none start n s e h = record { found = []; goes_on = rw e (starts want one (repeated want one start) start); seen = h }
 
   module _ (whole : Option (List T × List Token)) (n : ℕ) (ts : List Token) (s : Seen) where
-    pub met_more : {U : Type 0} (m : ℕ) (left : List Token) (t : Seen) (u : U) → begins want ts ≡ true → 0 < n → m ≡ n - 1 → MeetsOne {U = U} item (one ts) s t (Ok u) left → Met want one item whole n ts s → Met want one item whole m left t
-    met_more m left t u b lt e h w = record {
+    pub met_more : (m : ℕ) (left : List Token) (t : Seen) → begins want ts ≡ true → 0 < n → m ≡ n - 1 → (x : T) × (one ts ≡ Some (x, left)) × ((items : List Item) → HasSeen items s → HasSeen (items ++ item x ∷ []) t)
+        → Met want one item whole n ts s → Met want one item whole m left t
+    met_more m left t b lt e h w = record {
       found = w.found ++ h.0 ∷ [];
       goes_on = goes_on want one whole w.found n m ts h.0 left b h.1 lt e w.goes_on;
       seen = subst (λ items. HasSeen items t) (sym (map-append item w.found (h.0 ∷ []))) (h.2 (map item w.found) w.seen);
@@ -146,3 +151,17 @@ module _ {T : Type 0} (want : Want) (one : Reader T) (item : T → Item) where
 
     pub met_runs_out : n ≡ 0 → Met want one item whole n ts s → AllMet item whole ts s
     met_runs_out e w = record { found = w.found; read = runs_out want one whole w.found n ts e w.goes_on; seen = w.seen }
+
+module _ {T : Type 0} (item : T → Item) (whole : Option (List T × List Token)) (rest : List Token) (s : Seen) (w : AllMet item whole rest s) where
+  pub is_there : IsSome whole
+  is_there = rw w.read refl
+
+  module _ (xs : List T) (is : xs ≡ items_of whole) where
+    same : w.found ≡ xs
+    same = sym (is ∙ ap items_of w.read)
+
+    pub are_seen : HasSeen (map item xs) s
+    are_seen = subst (λ l. HasSeen (map item l) s) same w.seen
+
+    pub are_read : whole ≡ Some (xs, rest)
+    are_read = w.read ∙ ap (λ l. Some (l, rest)) same

@@ -40,11 +40,7 @@ pub(crate) fn build(alloc: Global, tree: HostTree<'_>) -> Result<Graph, HostFaul
 }
 
 // Adds the nodes, up to one whose mark is none.
-fn build_nodes(
-    alloc: Global,
-    nodes: &mut NodeWalk<'_>,
-    graph: &mut Graph,
-) -> Result<(), HostFault>
+fn build_nodes(alloc: Global, nodes: &mut NodeWalk<'_>, graph: &mut Graph) -> Result<(), HostFault>
     requires { first_found (λ (n : NodeOf). label_fault n.label) nodes.old ≡ None }
     ensures fault { Checks result (first_found node_mark_fault nodes.old) }
     ensures made { IfOk result (λ _. nodes_made nodes.old graph.old.graph ≡ Some graph.new.graph) }
