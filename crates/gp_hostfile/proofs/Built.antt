@@ -166,7 +166,7 @@ valued (atoms.Number negative start value) h = by (signed negative value) refl h
     by (Some z) e h = (Int z, rw e refl)
 valued (atoms.String s) h = (Str s, refl)
 
-all_valued : (label : List AtomTree) → label_fault label ≡ None → (v : List Atom) × (atoms_of label ≡ Some v)
+pub all_valued : (label : List AtomTree) → label_fault label ≡ None → (v : List Atom) × (atoms_of label ≡ Some v)
 all_valued [] h = ([], refl)
 all_valued (a ∷ label) h =
     let p = neither (atom_fault a) (label_fault label) h in

@@ -6,13 +6,14 @@ use Rattle.std.specs.List.{list_any, position_from}
 use Rattle.std.proofs.Common.{cond, ◌||◌, ℕ, ◌+◌}
 use Rattle.gp_memory.proofs.Basics.{neither, or_assoc}
 use Rattle.gp_values.specs.Names.{Name, same_name, has_name, place_of, first_doubled, first_unknown}
+use Rattle.gp_hostfile.specs.declared.tree.AtomTree.{AtomTree}
 use Rattle.gp_hostfile.specs.declared.tree.NodeTree.{NodeTree}
 use Rattle.gp_hostfile.specs.declared.tree.EdgeTree.{EdgeTree}
 use Rattle.gp_hostfile.specs.declared.fault.HostFault.{HostFault}
 use Rattle.gp_hostfile.specs.declared.fault.HostFault.TheVariants as faults
 use Rattle.gp_hostfile.specs.Grammar.{HostTree}
 use Rattle.gp_hostfile.specs.Host.{first_found, unless, node_mark, edge_mark, out_of_range, first_out_of_range, wrong_node, wrong_edge, first_wrong_mark, node_names, edge_names, end_names, first_fault}
-use Rattle.gp_hostfile.specs.inside.Stages.{Refuses, atom_fault, label_fault, end_fault, ends_fault, node_mark_fault, edge_mark_fault}
+use Rattle.gp_hostfile.specs.inside.Stages.{Refuses, HasNumbers, early_fault, late_fault, atom_fault, label_fault, end_fault, ends_fault, node_mark_fault, edge_mark_fault}
 
 pub first_refused : (e : HostFault) (a b : Option HostFault) → Refuses e a → Refuses e (option_or a b)
 first_refused faults.NoMemory a b h = tt
@@ -40,7 +41,7 @@ found_mapped : {A B C : Type 0} (g : B → C) (f : A → Option B) (xs : List A)
 found_mapped g f [] = refl
 found_mapped g f (x ∷ xs) = map_or g (f x) (first_found f xs) ∙ ap (option_or (option_map g (f x))) (found_mapped g f xs)
 
-found_append : {A B : Type 0} (f : A → Option B) (xs ys : List A) → first_found f (xs ++ ys) ≡ option_or (first_found f xs) (first_found f ys)
+pub found_append : {A B : Type 0} (f : A → Option B) (xs ys : List A) → first_found f (xs ++ ys) ≡ option_or (first_found f xs) (first_found f ys)
 found_append f [] ys = refl
 found_append f (x ∷ xs) ys = ap (option_or (f x)) (found_append f xs ys) ∙ sym (or_assoc (f x) (first_found f xs) (first_found f ys))
 
@@ -105,41 +106,86 @@ marks_alike t =
     ((found_mapped faults.WrongMark wrong_node t.0 ∙ found_alike _ node_mark_fault (λ (n : NodeTree). unless_mapped faults.WrongMark n.name (node_mark n.mark)) t.0) i)
     ((found_mapped faults.WrongMark wrong_edge t.1 ∙ found_alike _ edge_mark_fault (λ (e : EdgeTree). unless_mapped faults.WrongMark e.name (edge_mark e.mark)) t.1) i))
 
+labels_alike : {A : Type 0} (label : A → List AtomTree) (xs : List A) → option_map faults.NumberRange (first_found (λ x. first_found out_of_range (label x)) xs) ≡ first_found (λ x. label_fault (label x)) xs
+labels_alike label xs =
+    found_mapped faults.NumberRange (λ x. first_found out_of_range (label x)) xs
+    ∙ found_alike _ (λ x. label_fault (label x)) (λ x. found_mapped faults.NumberRange out_of_range (label x)) xs
+
+unmapped : {A B : Type 0} (f : A → B) (o : Option A) → option_map f o ≡ None → o ≡ None
+unmapped f None h = refl
+unmapped f (Some x) h = absurd cc
+
 module _ (t : HostTree) where
+  abbrev of_nodes : Option HostFault
+  of_nodes = option_map faults.NumberRange (first_found (λ (n : NodeTree). first_found out_of_range n.label) t.0)
+
+  abbrev of_edges : Option HostFault
+  of_edges = option_map faults.NumberRange (first_found (λ (e : EdgeTree). first_found out_of_range e.label) t.1)
+
   abbrev two_nodes : Option HostFault
   two_nodes = option_map faults.TwoNodes (first_doubled (node_names t))
 
   abbrev two_edges : Option HostFault
   two_edges = option_map faults.TwoEdges (first_doubled (edge_names t))
 
-  abbrev no_end : Option HostFault
-  no_end = first_found (ends_fault (node_names t)) t.1
+  nodes_alike : of_nodes ≡ first_found (λ (n : NodeTree). label_fault n.label) t.0
+  nodes_alike = labels_alike (λ (n : NodeTree). n.label) t.0
 
-  in_turn : first_fault t ≡ option_or (number_checks t) (option_or two_nodes (option_or two_edges (option_or no_end (mark_checks t))))
+  edges_alike : of_edges ≡ first_found (λ (e : EdgeTree). label_fault e.label) t.1
+  edges_alike = labels_alike (λ (e : EdgeTree). e.label) t.1
+
+  in_turn : first_fault t ≡ option_or (number_checks t) (option_or two_nodes (option_or two_edges (late_fault t)))
   in_turn = λ i. option_or (numbers_alike t i) (option_or two_nodes (option_or two_edges (option_or (ends_alike t i) (marks_alike t i))))
 
-  pub number_stops : (e : HostFault) → Refuses e (number_checks t) → Refuses e (first_fault t)
-  number_stops e h = rw in_turn (first_refused e _ _ h)
+  numbers_first : number_checks t ≡ option_or of_nodes of_edges
+  numbers_first = λ i. option_or (sym nodes_alike i) (sym edges_alike i)
 
-  pub two_nodes_stop : (e : HostFault) → number_checks t ≡ None → Refuses e two_nodes → Refuses e (first_fault t)
-  two_nodes_stop e a h = rw in_turn (then_refused e _ _ a (first_refused e _ _ h))
+  in_two : first_fault t ≡ option_or (early_fault t) (late_fault t)
+  in_two =
+      let late = late_fault t in
+      let rest = option_or two_nodes (option_or two_edges late) in
+      in_turn ∙ ap (λ o. option_or o rest) numbers_first ∙ or_assoc of_nodes of_edges rest
+      ∙ sym (or_assoc of_nodes (option_or of_edges (option_or two_nodes two_edges)) late
+      ∙ ap (option_or of_nodes) (or_assoc of_edges (option_or two_nodes two_edges) late ∙ ap (option_or of_edges) (or_assoc two_nodes two_edges late)))
 
-  pub two_edges_stop : (e : HostFault) → number_checks t ≡ None → two_nodes ≡ None → Refuses e two_edges → Refuses e (first_fault t)
-  two_edges_stop e a b h = rw in_turn (then_refused e _ _ a (then_refused e _ _ b (first_refused e _ _ h)))
+  pub early_stops : (e : HostFault) → Refuses e (early_fault t) → Refuses e (first_fault t)
+  early_stops e h = rw in_two (first_refused e _ _ h)
 
-  pub end_stops : (e : HostFault) → number_checks t ≡ None → two_nodes ≡ None → two_edges ≡ None → Refuses e no_end → Refuses e (first_fault t)
-  end_stops e a b c h = rw in_turn (then_refused e _ _ a (then_refused e _ _ b (then_refused e _ _ c (first_refused e _ _ h))))
+  pub late_stops : (e : HostFault) → early_fault t ≡ None → Refuses e (late_fault t) → Refuses e (first_fault t)
+  late_stops e a h = rw in_two (then_refused e _ _ a h)
 
-  pub mark_stops : (e : HostFault) → number_checks t ≡ None → two_nodes ≡ None → two_edges ≡ None → no_end ≡ None → Refuses e (mark_checks t) → Refuses e (first_fault t)
-  mark_stops e a b c d h = rw in_turn (then_refused e _ _ a (then_refused e _ _ b (then_refused e _ _ c (then_refused e _ _ d h))))
+  pub none_stops : early_fault t ≡ None → late_fault t ≡ None → first_fault t ≡ None
+  none_stops a b = in_two ∙ none_refused _ _ a b
 
-  pub none_stops : number_checks t ≡ None → two_nodes ≡ None → two_edges ≡ None → no_end ≡ None → mark_checks t ≡ None → first_fault t ≡ None
-  none_stops a b c d e = in_turn ∙ rw (a, b, c, d) e
+  -- what holds of a tree without an early fault
+  pub early_clear : early_fault t ≡ None → HasNumbers t × (first_doubled (node_names t) ≡ None)
+  early_clear h =
+      let a = neither of_nodes _ h in
+      let b = neither of_edges _ a.1 in
+      let c = neither two_nodes two_edges b.1 in
+      (record { nodes = sym nodes_alike ∙ a.0; edges = sym edges_alike ∙ b.0 }, unmapped faults.TwoNodes _ c.0)
 
-  pub clear : first_fault t ≡ None → (number_checks t ≡ None) × (no_end ≡ None) × (mark_checks t ≡ None)
+  pub clear : first_fault t ≡ None → (number_checks t ≡ None) × (first_found (ends_fault (node_names t)) t.1 ≡ None) × (mark_checks t ≡ None)
   clear h =
       let a = neither (number_checks t) _ (sym in_turn ∙ h) in
       let b = neither two_nodes _ a.1 in
       let c = neither two_edges _ b.1 in
-      let d = neither no_end (mark_checks t) c.1 in
+      let d = neither (first_found (ends_fault (node_names t)) t.1) (mark_checks t) c.1 in
       (a.0, d.0, d.1)
+
+  -- ---- the late fault, part by part
+
+  pub end_first : (e : HostFault) → Refuses e (first_found (ends_fault (node_names t)) t.1) → Refuses e (late_fault t)
+  end_first e h = first_refused e _ _ h
+
+  pub node_mark_next : (e : HostFault) → first_found (ends_fault (node_names t)) t.1 ≡ None → Refuses e (first_found node_mark_fault t.0) → Refuses e (late_fault t)
+  node_mark_next e a h = then_refused e _ _ a (first_refused e _ _ h)
+
+  without_node_marks : first_found node_mark_fault t.0 ≡ None → late_fault t ≡ option_or (first_found (ends_fault (node_names t)) t.1) (first_found edge_mark_fault t.1)
+  without_node_marks a = rw a refl
+
+  pub edges_stop : (e : HostFault) → first_found node_mark_fault t.0 ≡ None → Refuses e (option_or (first_found (ends_fault (node_names t)) t.1) (first_found edge_mark_fault t.1)) → Refuses e (late_fault t)
+  edges_stop e a h = rw (without_node_marks a) h
+
+  pub no_late : first_found node_mark_fault t.0 ≡ None → option_or (first_found (ends_fault (node_names t)) t.1) (first_found edge_mark_fault t.1) ≡ None → late_fault t ≡ None
+  no_late a h = without_node_marks a ∙ h

@@ -15,35 +15,23 @@ use Rattle.gp_values.proofs.Graphs.{same_graph}
 use Rattle.gp_graph.specs.declared.graph.Graph.{Graph as HeldGraph}
 use Rattle.gp_hostfile.specs.declared.tree.NodeTree.{NodeTree}
 use Rattle.gp_hostfile.specs.declared.tree.EdgeTree.{EdgeTree}
-use Rattle.gp_hostfile.specs.declared.tree.HostTree.{HostTree as HeldTree}
+use Rattle.gp_hostfile.specs.declared.host.HostTree.{HostTree as HeldTree}
 use Rattle.gp_hostfile.specs.declared.fault.HostFault.{HostFault}
 use Rattle.gp_hostfile.specs.declared.fault.HostFault.TheVariants as faults
 use Rattle.gp_hostfile.specs.Grammar.{HostTree, IsHostShape, host}
 use Rattle.gp_hostfile.specs.Host.{IsHostFault, IsBuilt, IsBuiltNode, IsBuiltEdge, IsHostText, IsRefusal, ReadsHost, first_fault, node_names, first_found}
 use Rattle.gp_hostfile.specs.Host as spec
 use Rattle.gp_hostfile.specs.Laws.{AreSyntax}
-use Rattle.gp_hostfile.specs.inside.Stages.{Refuses, Fails, Makes, ReadsTree, ReadsText, HasTree, all_read, lex_fault, nodes_made, edges_made, graph_made, label_fault, node_mark_fault, edge_mark_fault}
+use Rattle.gp_hostfile.specs.inside.Stages.{Refuses, Builds, early_fault, ReadsTree, ReadsText, HasTree, all_read, lex_fault, nodes_made, edges_made, graph_made, label_fault, node_mark_fault, edge_mark_fault}
 use Rattle.gp_hostfile.proofs.Grammars.{host_sound, host_again}
-use Rattle.gp_hostfile.proofs.Faults.{clear}
-use Rattle.gp_hostfile.proofs.Making.{failed}
+use Rattle.gp_hostfile.proofs.Faults.{clear, early_stops, late_stops, none_stops}
 use Rattle.gp_hostfile.proofs.Built.{AreBuiltNodes, AreBuiltEdges, nodes_sound, edges_sound, nodes_complete, edges_complete}
 
 -- ---- the graph of a tree
 
-module _ (nodes : List Name) (t : HostTree) where
-  pub nodes_failed : (e : HostFault) → Fails e (nodes_made t.0 empty_graph) → Fails e (graph_made nodes t)
-  unfolding graph_made
-  nodes_failed e h = failed e (nodes_made t.0 empty_graph) (edges_made nodes t.1) (graph_made nodes t) h refl
-
-  behind_nodes : (g : Graph) → nodes_made t.0 empty_graph ≡ Some g → graph_made nodes t ≡ edges_made nodes t.1 g
-  unfolding graph_made
-  behind_nodes g made = ap (λ o. o >>= edges_made nodes t.1) made
-
-  pub edges_failed : (g : Graph) → nodes_made t.0 empty_graph ≡ Some g → (e : HostFault) → Fails e (edges_made nodes t.1 g) → Fails e (graph_made nodes t)
-  edges_failed g made e h = rw (behind_nodes g made) h
-
-  pub edges_built : (g : Graph) → nodes_made t.0 empty_graph ≡ Some g → (h : Graph) → edges_made nodes t.1 g ≡ Some h → graph_made nodes t ≡ Some h
-  edges_built g made h e = behind_nodes g made ∙ e
+pub all_made : (nodes : List Name) (t : HostTree) (g h : Graph) → nodes_made t.0 empty_graph ≡ Some g → edges_made nodes t.1 g ≡ Some h → graph_made nodes t ≡ Some h
+unfolding graph_made
+all_made nodes t g h made e = ap (λ o. o >>= edges_made nodes t.1) made ∙ e
 
 built : (t : HostTree) (g h : Graph) → AreBuiltNodes t.0 empty_graph g → AreBuiltEdges (node_names t) t.1 g h → IsBuilt t h
 built t g h p q =
@@ -127,18 +115,13 @@ module _ (bytes : List ℕ) (t : HostTree) (of : HasTree bytes t) where
   fault_refused (faults.NoSuchEnd n) h = spec.tree of.tokens t of.lexed (shaped of.tokens t of.read) h
   fault_refused (faults.WrongMark n) h = spec.tree of.tokens t of.lexed (shaped of.tokens t of.read) h
 
-  pub graph_answered : (names : List Name) → first_fault t ≡ None → names ≡ node_names t → (r : Result HeldGraph HostFault) → Makes (λ (g : HeldGraph). g.graph) r (graph_made names t) → IfOk r (λ (g : HeldGraph). IsGraph g.graph) → ReadsHost bytes r
-  graph_answered names f n (Ok g) made w =
-      let m : graph_made (node_names t) t ≡ Some g.graph = ap (λ ns. graph_made ns t) (sym n) ∙ made in
-      record { tokens = of.tokens; tree = t; lexed = of.lexed; shape = shaped of.tokens t of.read; faultless = f; built = graph_sound t g.graph m; graph = w }
-  graph_answered names f n (Err faults.NoMemory) made w = tt
-  graph_answered names f n (Err (faults.Lex x)) made w = absurd (graph_complete t f (ap (λ ns. graph_made ns t) (sym n) ∙ made))
-  graph_answered names f n (Err (faults.Syntax k)) made w = absurd (graph_complete t f (ap (λ ns. graph_made ns t) (sym n) ∙ made))
-  graph_answered names f n (Err (faults.NumberRange at)) made w = absurd (graph_complete t f (ap (λ ns. graph_made ns t) (sym n) ∙ made))
-  graph_answered names f n (Err (faults.TwoNodes x)) made w = absurd (graph_complete t f (ap (λ ns. graph_made ns t) (sym n) ∙ made))
-  graph_answered names f n (Err (faults.TwoEdges x)) made w = absurd (graph_complete t f (ap (λ ns. graph_made ns t) (sym n) ∙ made))
-  graph_answered names f n (Err (faults.NoSuchEnd x)) made w = absurd (graph_complete t f (ap (λ ns. graph_made ns t) (sym n) ∙ made))
-  graph_answered names f n (Err (faults.WrongMark x)) made w = absurd (graph_complete t f (ap (λ ns. graph_made ns t) (sym n) ∙ made))
+  pub early_refused : (e : HostFault) → Refuses e (early_fault t) → IsRefusal bytes e
+  early_refused e h = fault_refused e (early_stops t e h)
+
+  pub built_answered : early_fault t ≡ None → (r : Result HeldGraph HostFault) → Builds r t → ReadsHost bytes r
+  built_answered f (Ok g) b =
+      record { tokens = of.tokens; tree = t; lexed = of.lexed; shape = shaped of.tokens t of.read; faultless = none_stops t f b.faultless; built = graph_sound t g.graph b.made; graph = b.graph }
+  built_answered f (Err e) b = fault_refused e (late_stops t e f b)
 
 -- ---- a text is of one graph
 

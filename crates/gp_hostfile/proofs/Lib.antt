@@ -1,6 +1,8 @@
 pub mod Faults
 pub mod Making
 pub mod Finding
+pub mod Ahead
+pub mod Noted
 pub mod Built
 pub mod Edges
 pub mod Grammars

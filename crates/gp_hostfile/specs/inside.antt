@@ -1,4 +1,6 @@
 pub mod Stages
+pub mod Seen
+pub mod Walks
 pub mod Lines
 pub mod Held
 pub mod Edges

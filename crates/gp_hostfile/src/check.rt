@@ -1,92 +1,43 @@
 //! The faults of a host that is spelled as one, from the first to the last.
 
-ghost use Rattle.std.specs.Prelude.{◌≡◌, ◌++◌, ◌∷◌, [], map, IfOk, OnOk, option_map};
-ghost use Rattle.std.specs.Option.{option_or};
+ghost use Rattle.std.specs.Prelude.{◌≡◌, IfOk, option_map};
 ghost use Rattle.gp_tokens.specs.Numerals.{signed};
-ghost use Rattle.gp_values.specs.Names.{place_of, first_doubled, same_name};
-ghost use Rattle.gp_hostfile.specs.Host.{node_mark, edge_mark, first_found, first_fault, first_out_of_range, first_wrong_mark, node_names};
-ghost use Rattle.std.specs.List.{AllZip};
-ghost use Rattle.gp_hostfile.specs.inside.Stages.{Checks, Finds, HasEnds, tree_in, atom_fault, label_fault, ends_fault, node_mark_fault, edge_mark_fault};
+ghost use Rattle.gp_values.specs.Names.{place_of, same_name};
+ghost use Rattle.gp_hostfile.specs.Host.{node_mark, edge_mark, first_found};
+ghost use Rattle.gp_hostfile.specs.inside.Stages.{Checks, Finds, HasEnds, tree_in, early_fault, ends_fault};
 ghost use Rattle.gp_hostfile.specs.declared.fault.HostFault.TheVariants as faults;
-ghost use Rattle.gp_hostfile.specs.declared.tree.NodeTree.{NodeTree};
-ghost use Rattle.gp_hostfile.specs.declared.tree.EdgeTree.{EdgeTree};
 
 use crate::fault::HostFault;
+use crate::host::HostTree;
 use crate::names::TextNames;
-use crate::tree::{AtomTree, EdgeTree, Halves, HostTree, NodeTree};
-use gp_memory::NoMemory;
+use crate::tree::{EdgeTree, Halves, NodeTree};
+use crate::walk::EdgeWalk;
 use gp_tokens::{Numeral, Slice};
 use gp_values::{EdgeMark, NodeMark};
 use std::alloc::Global;
 
-/// The numbers of the nodes that the ends of an edge name.
-#[derive(Clone, Copy)]
-pub(crate) struct Ends {
-    pub(crate) source: u64,
-    pub(crate) target: u64,
-}
-
-/// The names of a host: those of its nodes, and which nodes the ends of each edge name, in order.
-pub(crate) struct HostNames<'t> {
-    pub(crate) nodes: TextNames<'t>,
-    pub(crate) ends: Vec<Ends>,
-}
-
-impl<'t> Drop for HostNames<'t> {
-    fn drop(self) {
-        let HostNames { nodes, ends } = self;
-        drop(nodes);
-        drop(ends);
-    }
-}
-
-/// Finds the first fault, or gives the names.
-pub(crate) fn check<'t>(alloc: Global, tree: &HostTree<'t>) -> Result<HostNames<'t>, HostFault>
-    ensures fault { Checks result (first_fault (tree_in tree.now)) }
-    ensures names { IfOk result (λ h. h.nodes ≡ node_names (tree_in tree.now)) }
-    ensures ends { IfOk result (λ h. AllZip (HasEnds h.nodes) tree.now.edges.items h.ends.items) }
+/// Finds the first fault that the names and the numbers of a host have.
+pub(crate) fn check(alloc: Global, tree: &HostTree<'_>) -> Result<(), HostFault>
+    ensures { Checks result (early_fault (tree_in tree.now)) }
 {
-    check_numbers(tree)?;
-    let nodes = check_node_names(alloc, &tree.nodes)?;
-    check_edge_names(alloc, &tree.edges)?;
-    let ends = check_ends(alloc, &tree.edges, &nodes)?;
-    check_marks(alloc, tree)?;
-    Ok(HostNames { nodes, ends })
-}
-
-fn check_numbers(tree: &HostTree<'_>) -> Result<(), HostFault>
-    ensures { Checks result (option_or (first_found (λ (n : NodeTree). label_fault n.label) tree.now.nodes.items) (first_found (λ (e : EdgeTree). label_fault e.label) tree.now.edges.items)) }
-{
-    for node in tree.nodes.as_slice() {
-        check_label(node.label.as_slice())?;
+    check_number(tree.nodes.beyond())?;
+    check_number(tree.edges.beyond())?;
+    if let Some(name) = tree.nodes.twice() {
+        return Err(HostFault::TwoNodes(name.copy(alloc)?));
     }
-    for edge in tree.edges.as_slice() {
-        check_label(edge.label.as_slice())?;
+    if let Some(name) = tree.edges.twice() {
+        return Err(HostFault::TwoEdges(name.copy(alloc)?));
     }
     Ok(())
 }
 
-fn check_label(label: &[AtomTree]) -> Result<(), HostFault>
-    ensures { Checks result (label_fault label.now) }
+fn check_number(beyond: Option<u32>) -> Result<(), HostFault>
+    ensures { Checks result (option_map faults.NumberRange beyond) }
 {
-    for atom in label {
-        check_atom(atom)?;
+    match beyond {
+        Some(start) => Err(HostFault::NumberRange(u64::from(start))),
+        None => Ok(()),
     }
-    Ok(())
-}
-
-fn check_atom(atom: &AtomTree) -> Result<(), HostFault>
-    ensures { Checks result (atom_fault atom.now) }
-{
-    if let AtomTree::Number {
-        negative,
-        start,
-        value,
-    } = atom
-    {
-        integer(*negative, value, *start)?;
-    }
-    Ok(())
 }
 
 /// The integer, or the fault that it is out of range.
@@ -103,54 +54,39 @@ pub(crate) fn integer(negative: bool, value: &Halves, start: u32) -> Result<i128
     }
 }
 
-fn check_node_names<'t>(alloc: Global, nodes: &[NodeTree<'t>]) -> Result<TextNames<'t>, HostFault>
-    ensures fault { Checks result (option_map faults.TwoNodes (first_doubled (map (λ (n : NodeTree). n.name) nodes.now))) }
-    ensures names { IfOk result (λ t. t ≡ map (λ (n : NodeTree). n.name) nodes.now) }
-{
-    let mut names = TextNames::with_room(alloc, nodes.len())?;
-    for node in nodes {
-        if !names.add(node.name.as_bytes())? {
-            return Err(HostFault::TwoNodes(node.name.copy(alloc)?));
-        }
-    }
-    Ok(names)
+/// The numbers of the nodes that the ends of an edge name.
+#[derive(Clone, Copy)]
+pub(crate) struct Ends {
+    pub(crate) source: u64,
+    pub(crate) target: u64,
 }
 
-fn check_edge_names(alloc: Global, edges: &[EdgeTree<'_>]) -> Result<(), HostFault>
-    ensures { Checks result (option_map faults.TwoEdges (first_doubled (map (λ (e : EdgeTree). e.name) edges.now))) }
-{
-    let mut names = TextNames::with_room(alloc, edges.len())?;
-    for edge in edges {
-        if !names.add(edge.name.as_bytes())? {
-            return Err(HostFault::TwoEdges(edge.name.copy(alloc)?));
-        }
-    }
-    Ok(())
-}
-
-fn check_ends(
+/// Finds the first end of these edges that names no node.
+pub(crate) fn check_ends(
     alloc: Global,
-    edges: &[EdgeTree<'_>],
+    edges: &mut EdgeWalk<'_>,
     nodes: &TextNames<'_>,
-) -> Result<Vec<Ends>, HostFault>
-    ensures fault { Checks result (first_found (ends_fault nodes.now) edges.now) }
-    ensures ends { IfOk result (λ ends. AllZip (HasEnds nodes.now) edges.now ends.items) }
+) -> Result<(), HostFault>
+    ensures { Checks result (first_found (ends_fault nodes.now) edges.old) }
 {
-    let mut ends = Vec::with_capacity(alloc, edges.len())?;
-    for edge in edges {
-        let source = end(alloc, &edge.source, nodes)?;
-        let target = end(alloc, &edge.target, nodes)?;
-        put(&mut ends, Ends { source, target })?;
+    'each: while let Some(edge) = edges.next()? {
+        ends_of(alloc, &edge, nodes)?;
     }
-    Ok(ends)
+    Ok(())
 }
 
-// Puts the ends of one edge more behind the others.
-fn put(ends: &mut Vec<Ends>, more: Ends) -> Result<(), NoMemory>
-    ensures { OnOk result (ends.new.items ≡ ends.old.items ++ more ∷ []) }
+/// The ends of an edge, or the fault that one of them names no node.
+pub(crate) fn ends_of(
+    alloc: Global,
+    edge: &EdgeTree<'_>,
+    nodes: &TextNames<'_>,
+) -> Result<Ends, HostFault>
+    ensures fault { Checks result (ends_fault nodes.now edge.now) }
+    ensures ends { IfOk result (HasEnds nodes.now edge.now) }
 {
-    ends.push(more)?;
-    Ok(())
+    let source = end(alloc, &edge.source, nodes)?;
+    let target = end(alloc, &edge.target, nodes)?;
+    Ok(Ends { source, target })
 }
 
 // The number of the node that an end names, or the fault that it names none.
@@ -161,18 +97,6 @@ fn end(alloc: Global, name: &Slice<'_>, nodes: &TextNames<'_>) -> Result<u64, Ho
         Some(place) => Ok(place as u64),
         None => Err(HostFault::NoSuchEnd(name.copy(alloc)?)),
     }
-}
-
-fn check_marks(alloc: Global, tree: &HostTree<'_>) -> Result<(), HostFault>
-    ensures { Checks result (option_or (first_found node_mark_fault tree.now.nodes.items) (first_found edge_mark_fault tree.now.edges.items)) }
-{
-    for node in tree.nodes.as_slice() {
-        node_mark(alloc, node)?;
-    }
-    for edge in tree.edges.as_slice() {
-        edge_mark(alloc, edge)?;
-    }
-    Ok(())
 }
 
 /// The mark of a node, or the fault that its word is none.

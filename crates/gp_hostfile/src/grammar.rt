@@ -6,13 +6,18 @@ ghost use Rattle.gp_tokens.specs.Reading.{reader_of};
 ghost use Rattle.gp_hostfile.specs.Grammar as spec;
 ghost use Rattle.gp_hostfile.specs.inside.Edges.{item, placed_label, last_label};
 ghost use Rattle.gp_hostfile.specs.inside.Passing.{Passes};
+ghost use Rattle.gp_hostfile.specs.inside.Seen.{MeetsOne, node_item, edge_item};
 
-use crate::many::{repeated_by, separated_by};
-use crate::tree::{AtomTree, AtomTrees, EdgeTree, Halves, HostTree, NodeTree};
+use crate::host::{Edges, HostTree, Nodes};
+use crate::many::separated_by;
+use crate::seen::Seen;
+use crate::tree::{AtomTree, AtomTrees, EdgeTree, Halves, NodeTree};
+use crate::walk::{EdgeWalk, NodeWalk};
 use gp_tokens::{Cutter, Keyword, Kind, ReadError, Slice, Token, Want};
 use sqlite_items::Boxed;
 
-const OPEN: Want = Want::Kind(Kind::OpenParenthesis);
+/// How a node and an edge begin.
+pub(crate) const OPEN: Want = Want::Kind(Kind::OpenParenthesis);
 
 const CLOSE: Want = Want::Kind(Kind::CloseParenthesis);
 
@@ -149,9 +154,9 @@ fn read_placed_label<'t>(
     Ok(label)
 }
 
-// Node = "(" Item ["(" "R" ")"] "," Label [Position] ")"
+/// Node = "(" Item ["(" "R" ")"] "," Label [Position] ")"
 #[tactic(auto, using(crate::proofs::Edges::node_parts), unfolding(crate::specs::inside::Edges::node_in_parts))]
-fn read_node<'t>(tokens: &mut Cutter<'t>, _nothing: ()) -> Result<NodeTree<'t>, ReadError>
+pub(crate) fn read_node<'t>(tokens: &mut Cutter<'t>) -> Result<NodeTree<'t>, ReadError>
     ensures { Reads (reader_of spec.node tokens.old) result tokens.new }
 {
     let name = read_item(tokens, OPEN)?;
@@ -178,9 +183,9 @@ fn read_last_label<'t>(tokens: &mut Cutter<'t>) -> Result<(AtomTrees, Option<Sli
     Ok(label)
 }
 
-// Edge = "(" Item "," Item "," Item "," Label ")"
+/// Edge = "(" Item "," Item "," Item "," Label ")"
 #[tactic(auto, using(crate::proofs::Edges::edge_parts), unfolding(crate::specs::inside::Edges::edge_in_parts))]
-fn read_edge<'t>(tokens: &mut Cutter<'t>, _nothing: ()) -> Result<EdgeTree<'t>, ReadError>
+pub(crate) fn read_edge<'t>(tokens: &mut Cutter<'t>) -> Result<EdgeTree<'t>, ReadError>
     ensures { Reads (reader_of spec.edge tokens.old) result tokens.new }
 {
     let name = read_item(tokens, OPEN)?;
@@ -196,24 +201,60 @@ fn read_edge<'t>(tokens: &mut Cutter<'t>, _nothing: ()) -> Result<EdgeTree<'t>, 
     })
 }
 
-#[tactic(auto, unfolding(crate::specs::Grammar::nodes))]
-fn read_nodes<'t>(tokens: &mut Cutter<'t>) -> Result<Vec<NodeTree<'t>>, ReadError>
-    ensures { ReadsAs (λ x. x.items) (reader_of spec.nodes tokens.old) result tokens.new }
+// Reads one node more, and notes it.
+fn meet_node<'t>(tokens: &mut Cutter<'t>, seen: &mut Seen<'t>) -> Result<(), ReadError>
+    ensures { MeetsOne node_item (reader_of spec.node tokens.old) seen.old seen.new result tokens.new }
 {
-    repeated_by(tokens, OPEN, (), read_node)
+    let node = read_node(tokens)?;
+    match seen.meet(&node.name, &node.label) {
+        Ok(()) => Ok(()),
+        Err(_) => Err(ReadError::NoMemory),
+    }
 }
 
-#[tactic(auto, unfolding(crate::specs::Grammar::edges))]
-fn read_edges<'t>(tokens: &mut Cutter<'t>) -> Result<Vec<EdgeTree<'t>>, ReadError>
-    ensures { ReadsAs (λ x. x.items) (reader_of spec.edges tokens.old) result tokens.new }
+// Reads one edge more, and notes it.
+fn meet_edge<'t>(tokens: &mut Cutter<'t>, seen: &mut Seen<'t>) -> Result<(), ReadError>
+    ensures { MeetsOne edge_item (reader_of spec.edge tokens.old) seen.old seen.new result tokens.new }
 {
-    repeated_by(tokens, OPEN, (), read_edge)
+    let edge = read_edge(tokens)?;
+    match seen.meet(&edge.name, &edge.label) {
+        Ok(()) => Ok(()),
+        Err(_) => Err(ReadError::NoMemory),
+    }
+}
+
+fn read_nodes<'t>(tokens: &mut Cutter<'t>) -> Result<Nodes<'t>, ReadError>
+    ensures { Reads (reader_of spec.nodes tokens.old) result tokens.new }
+{
+    let begin = tokens.again();
+    let mut seen = Seen::new(tokens.alloc());
+    'each: for _ in 0..tokens.count() {
+        if !tokens.begins(OPEN) {
+            break;
+        }
+        meet_node(tokens, &mut seen)?;
+    }
+    Ok(Nodes::new(NodeWalk::new(begin), seen))
+}
+
+fn read_edges<'t>(tokens: &mut Cutter<'t>) -> Result<Edges<'t>, ReadError>
+    ensures { Reads (reader_of spec.edges tokens.old) result tokens.new }
+{
+    let begin = tokens.again();
+    let mut seen = Seen::new(tokens.alloc());
+    'each: for _ in 0..tokens.count() {
+        if !tokens.begins(OPEN) {
+            break;
+        }
+        meet_edge(tokens, &mut seen)?;
+    }
+    Ok(Edges::new(EdgeWalk::new(begin), seen))
 }
 
 // {Node} "|" {Edge} "]"
 #[tactic(auto, unfolding(crate::specs::Grammar::body))]
 fn read_body<'t>(tokens: &mut Cutter<'t>) -> Result<HostTree<'t>, ReadError>
-    ensures { ReadsAs (λ x. (x.nodes.items, x.edges.items)) (reader_of spec.body tokens.old) result tokens.new }
+    ensures { ReadsAs (λ x. (x.nodes, x.edges)) (reader_of spec.body tokens.old) result tokens.new }
 {
     let nodes = read_nodes(tokens)?;
     if !tokens.eat(BAR) {
@@ -236,7 +277,7 @@ fn has_two_bars(tokens: &Cutter<'_>) -> bool
 // ["|"] {Node} "|" {Edge} "]"
 #[tactic(auto, unfolding(crate::specs::Grammar::barred))]
 fn read_barred<'t>(tokens: &mut Cutter<'t>) -> Result<HostTree<'t>, ReadError>
-    ensures { ReadsAs (λ x. (x.nodes.items, x.edges.items)) (reader_of spec.barred tokens.old) result tokens.new }
+    ensures { ReadsAs (λ x. (x.nodes, x.edges)) (reader_of spec.barred tokens.old) result tokens.new }
 {
     if has_two_bars(tokens) {
         tokens.eat(BAR);
@@ -248,7 +289,7 @@ fn read_barred<'t>(tokens: &mut Cutter<'t>) -> Result<HostTree<'t>, ReadError>
 /// The tree of a host: "[" [Position ["|"]] {Node} "|" {Edge} "]".
 #[tactic(auto, unfolding(crate::specs::Grammar::host))]
 pub(crate) fn read_host_tree<'t>(tokens: &mut Cutter<'t>) -> Result<HostTree<'t>, ReadError>
-    ensures { ReadsAs (λ x. (x.nodes.items, x.edges.items)) (reader_of spec.host tokens.old) result tokens.new }
+    ensures { ReadsAs (λ x. (x.nodes, x.edges)) (reader_of spec.host tokens.old) result tokens.new }
 {
     if !tokens.eat(Want::Kind(Kind::OpenBracket)) {
         return Err(tokens.refusal());

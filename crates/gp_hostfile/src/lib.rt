@@ -12,14 +12,17 @@ mod build;
 mod check;
 mod fault;
 mod grammar;
+mod host;
 pub mod laws;
 mod line;
 mod many;
 mod names;
 mod read;
+mod seen;
 mod sheet;
 mod text;
 mod tree;
+mod walk;
 
 pub use fault::HostFault;
 pub use read::read_host;

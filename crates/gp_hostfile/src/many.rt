@@ -23,26 +23,6 @@ fn read_more<'t, C: Copy, T: Drop, F: Copy + FnOnce(&mut Cutter<'t>, C) -> Resul
     Ok(())
 }
 
-/// As many as there are, each of which begins with the token that is wanted.
-pub(crate) fn repeated_by<
-    't,
-    C: Copy,
-    T: Drop,
-    F: Copy + FnOnce(&mut Cutter<'t>, C) -> Result<T, ReadError>,
->(tokens: &mut Cutter<'t>, want: Want, inside: C, read: F) -> Result<Vec<T>, ReadError>
-    requires { (ts : _) → F.pre read ts inside }
-    ensures { (one : List Token → Option (T × List Token)) → IsReading (F.post read) inside one → ReadsAs (λ v. v.items) (spec.repeated want one tokens.old) result tokens.new }
-{
-    let mut found = Vec::new(tokens.alloc());
-    'each: for _ in 0..tokens.count() {
-        if !tokens.begins(want) {
-            break;
-        }
-        read_more(tokens, inside, read, &mut found)?;
-    }
-    Ok(found)
-}
-
 /// One, and another behind each sign.
 pub(crate) fn separated_by<
     't,

@@ -31,12 +31,18 @@ impl<'t> Model for TextNames<'t> {
 }
 
 impl<'t> TextNames<'t> {
-    /// The table of no names, with room for so many.
-    pub(crate) fn with_room(alloc: Global, room: usize) -> Result<TextNames<'t>, NoMemory>
-        ensures { IfOk result (λ t. t ≡ []) }
+    /// The table of no names.
+    pub(crate) fn new(alloc: Global) -> TextNames<'t>
+        ensures { result ≡ [] }
     {
-        let places = IndexSet::with_capacity(alloc, room)?;
-        Ok(TextNames { places })
+        TextNames {
+            places: IndexSet::new(alloc),
+        }
+    }
+
+    /// How many names there are.
+    pub(crate) fn count(&self) -> u64 {
+        self.places.len() as u64
     }
 
     /// Puts a name at the end, where it is new, and says whether it was.

@@ -7,7 +7,7 @@ use crate::build::build;
 use crate::check::check;
 use crate::fault::HostFault;
 use crate::grammar::read_host_tree;
-use crate::tree::HostTree;
+use crate::host::HostTree;
 use gp_graph::Graph;
 use gp_tokens::{Cutter, ReadError, line_of_place};
 use std::alloc::Global;
@@ -18,8 +18,8 @@ pub fn read_host(alloc: Global, text: &[u8]) -> Result<Graph, HostFault>
     ensures { ReadsHost text.now result }
 {
     let tree = tree_of_text(alloc, text)?;
-    let names = check(alloc, &tree)?;
-    build(alloc, tree, &names)
+    check(alloc, &tree)?;
+    build(alloc, tree)
 }
 
 // The tree of a text.

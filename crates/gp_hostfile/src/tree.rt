@@ -139,10 +139,3 @@ pub(crate) struct EdgeTree<'t> {
     pub(crate) label: AtomTrees,
     pub(crate) mark: Option<Slice<'t>>,
 }
-
-/// The nodes and the edges, in the order of the text.
-#[derive(Drop)]
-pub(crate) struct HostTree<'t> {
-    pub(crate) nodes: Vec<NodeTree<'t>>,
-    pub(crate) edges: Vec<EdgeTree<'t>>,
-}

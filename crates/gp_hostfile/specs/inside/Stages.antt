@@ -6,17 +6,19 @@ use Rattle.gp_tokens.specs.declared.fault.LexFault.TheVariants as lex_faults
 use Rattle.gp_tokens.specs.Ahead.{◌>>=◌}
 use Rattle.gp_tokens.specs.Reading.{reader_of}
 use Rattle.gp_tokens.specs.Lexed.{tokens_of}
-use Rattle.gp_values.specs.Names.{Name, place_of}
-use Rattle.gp_values.specs.Graph.{Graph, node_at, empty_graph, with_node, with_edge}
+use Rattle.std.specs.Option.{option_or}
+use Rattle.gp_values.specs.Names.{Name, place_of, first_doubled}
+use Rattle.gp_values.specs.Graph.{Graph, IsGraph, node_at, empty_graph, with_node, with_edge}
+use Rattle.gp_graph.specs.declared.graph.Graph.{Graph as HeldGraph}
 use Rattle.gp_hostfile.specs.declared.tree.AtomTree.{AtomTree}
 use Rattle.gp_hostfile.specs.declared.tree.NodeTree.{NodeTree}
 use Rattle.gp_hostfile.specs.declared.tree.EdgeTree.{EdgeTree}
-use Rattle.gp_hostfile.specs.declared.tree.HostTree.{HostTree as HeldTree}
+use Rattle.gp_hostfile.specs.declared.host.HostTree.{HostTree as HeldTree}
 use Rattle.gp_hostfile.specs.declared.check.Ends.{Ends}
 use Rattle.gp_hostfile.specs.declared.fault.HostFault.{HostFault}
 use Rattle.gp_hostfile.specs.declared.fault.HostFault.TheVariants as faults
 use Rattle.gp_hostfile.specs.Grammar.{HostTree, host}
-use Rattle.gp_hostfile.specs.Host.{atoms_of, node_mark, edge_mark, unless, first_found, out_of_range, IsLineOfSome, IsRefusal}
+use Rattle.gp_hostfile.specs.Host.{atoms_of, node_mark, edge_mark, node_names, edge_names, unless, first_found, out_of_range, IsLineOfSome, IsRefusal}
 use Rattle.gp_memory.specs.Free.{Free}
 
 -- ---- answers
@@ -61,7 +63,7 @@ Makes view (Err e) made = Fails e made
 -- ---- the tree of tokens, and of a text
 
 abbrev pub tree_in : HeldTree → HostTree
-tree_in t = (t.nodes.items, t.edges.items)
+tree_in t = (t.nodes, t.edges)
 
 -- what was read, where nothing is left behind it
 abbrev pub all_read : Option (HostTree × List Token) → Option HostTree
@@ -120,6 +122,22 @@ node_mark_fault n = unless (faults.WrongMark n.name) (node_mark n.mark)
 abbrev pub edge_mark_fault : EdgeTree → Option HostFault
 edge_mark_fault e = unless (faults.WrongMark e.name) (edge_mark e.mark)
 
+-- no number of a label is out of range
+pub record HasNumbers (t : HostTree) : Type 0 where
+  pub nodes : first_found (λ (n : NodeTree). label_fault n.label) t.0 ≡ None
+  pub edges : first_found (λ (e : EdgeTree). label_fault e.label) t.1 ≡ None
+
+-- the fault that numbers and names have, which is known after a first reading
+abbrev pub early_fault : HostTree → Option HostFault
+early_fault t =
+    option_or (option_map faults.NumberRange (first_found (λ (n : NodeTree). first_found out_of_range n.label) t.0))
+    (option_or (option_map faults.NumberRange (first_found (λ (e : EdgeTree). first_found out_of_range e.label) t.1))
+    (option_or (option_map faults.TwoNodes (first_doubled (node_names t))) (option_map faults.TwoEdges (first_doubled (edge_names t)))))
+
+-- the fault that ends and marks have
+abbrev pub late_fault : HostTree → Option HostFault
+late_fault t = option_or (first_found (ends_fault (node_names t)) t.1) (option_or (first_found node_mark_fault t.0) (first_found edge_mark_fault t.1))
+
 -- these are the numbers of the nodes that the ends of an edge name
 pub record HasEnds (nodes : List Name) (e : EdgeTree) (ends : Ends) : Type 0 where
   pub source : place_of nodes e.source ≡ Some ends.source
@@ -148,3 +166,13 @@ graph_made nodes t = nodes_made t.0 empty_graph >>= edges_made nodes t.1
 -- the names are those of nodes
 abbrev pub AreNodes : List Name → Graph → Type 0
 AreNodes names g = (k : ℕ) → k < length names → IsSome (node_at g k)
+
+-- the graph of a tree that has no fault in ends and marks, or that fault
+pub record IsMade (t : HostTree) (g : Graph) : Type 0 where
+  pub faultless : late_fault t ≡ None
+  pub made : graph_made (node_names t) t ≡ Some g
+  pub graph : IsGraph g
+
+abbrev pub Builds : Result HeldGraph HostFault → HostTree → Type 0
+Builds (Ok g) t = IsMade t g.graph
+Builds (Err e) t = Refuses e (late_fault t)

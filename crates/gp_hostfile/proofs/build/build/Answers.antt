@@ -1,29 +1,25 @@
-use Rattle.std.proofs.Common.{length, sym, ap, subst, ◌∙◌}
-use Rattle.std.specs.List.{AllZip}
+use Rattle.std.proofs.Common.{◌≡◌, ◌∙◌, None, Some, ap, length}
+use Rattle.std.specs.Option.{option_or}
 use Rattle.std.proofs.lemmas.List.{length-map}
-use Rattle.std.proofs.lemmas.Result.{err_from_is_err_and}
-use Rattle.gp_hostfile.specs.inside.Stages.{HasEnds, tree_in}
+use Rattle.gp_values.specs.Graph.{empty_graph}
+use Rattle.gp_hostfile.specs.Host.{first_found, node_names}
+use Rattle.gp_hostfile.specs.inside.Stages.{tree_in, nodes_made, edges_made, node_mark_fault, edge_mark_fault, ends_fault}
 use Rattle.gp_hostfile.proofs.Built.{are_nodes}
-use Rattle.gp_hostfile.proofs.Hosts.{nodes_failed, edges_failed, edges_built}
+use Rattle.gp_hostfile.proofs.Faults.{no_late}
+use Rattle.gp_hostfile.proofs.Hosts.{all_made}
 use Rattle.gp_hostfile.proofs.build.build.Goals as goal
-
-pub returns-in_err-build_nodes-clause-made : goal.returns-in_err-build_nodes-clause-made
-returns-in_err-build_nodes-clause-made c =
-    let p = err_from_is_err_and c.from_residual.result c.from_residual.ensures.1 in
-    rw (p.1, p.2) (nodes_failed c.args.names.now.nodes (tree_in c.args.tree) c.in_err-build_nodes.field-0.0 (rw (c.deref.ensures.value, c.new-graph.ensures) at c.in_err-build_nodes.ensures))
 
 pub build_edges-requires-clause-nodes : goal.build_edges-requires-clause-nodes
 build_edges-requires-clause-nodes c =
-    let d = tree_in c.args.tree in
-    are_nodes d.0 c.args.names.now.nodes _ (ap length c.requires.names ∙ length-map d.0 _) (rw (c.deref.ensures.value, c.new-graph.ensures) at c.in_ok-build_nodes.ensures)
+    let t = tree_in c.args.tree in
+    let made : nodes_made t.0 empty_graph ≡ Some c.build_nodes.new.graph.graph = rw (c.into_parts-nodes.ensures.walk, c.in_ok-reserve.ensures.graph, c.new-graph.ensures) at c.in_default.ensures.made in
+    are_nodes t.0 c.into_parts-nodes.result.1 _ (ap length c.into_parts-nodes.ensures.names ∙ length-map t.0 _) made
 
-pub returns-in_err-build_edges-clause-made : goal.returns-in_err-build_edges-clause-made
-returns-in_err-build_edges-clause-made c =
-    let p = err_from_is_err_and c.from_residual-in_err-build_edges.result c.from_residual-in_err-build_edges.ensures.1 in
-    rw (p.1, p.2) (edges_failed c.args.names.now.nodes (tree_in c.args.tree) _ (rw (c.deref.ensures.value, c.new-graph.ensures) at c.in_ok-build_nodes.ensures) c.in_err-build_edges.field-0.0 (rw c.deref-2.ensures.value at c.in_err-build_edges.ensures))
-
-pub returns-clause-made : goal.returns-clause-made
-returns-clause-made c = edges_built c.args.names.now.nodes (tree_in c.args.tree) _ (rw (c.deref.ensures.value, c.new-graph.ensures) at c.in_ok-build_nodes.ensures) _ (rw c.deref-2.ensures.value at c.in_ok-build_edges.ensures)
-
-pub build_edges-requires-clause-ends : goal.build_edges-requires-clause-ends
-build_edges-requires-clause-ends c = subst (λ es. AllZip (HasEnds c.args.names.now.nodes) es c.args.names.now.ends.items) (sym c.deref-2.ensures.value) c.requires.ends
+pub returns : goal.returns
+returns c =
+    let t = tree_in c.args.tree in
+    let made : nodes_made t.0 empty_graph ≡ Some c.build_nodes.new.graph.graph = rw (c.into_parts-nodes.ensures.walk, c.in_ok-reserve.ensures.graph, c.new-graph.ensures) at c.in_default.ensures.made in
+    let joined : edges_made (node_names t) t.1 c.build_nodes.new.graph.graph ≡ Some c.build_edges.new.graph.graph = rw (c.into_parts-nodes.ensures.names, c.into_walk-edges.ensures) at c.in_ok-build_edges.ensures.made in
+    let marked : first_found node_mark_fault t.0 ≡ None = rw c.into_parts-nodes.ensures.walk at c.in_default.ensures.fault in
+    let ended : option_or (first_found (ends_fault (node_names t)) t.1) (first_found edge_mark_fault t.1) ≡ None = rw (c.into_parts-nodes.ensures.names, c.into_walk-edges.ensures) at c.in_ok-build_edges.ensures.fault in
+    record { faultless = no_late t marked ended; made = all_made (node_names t) t _ _ made joined; graph = c.next_numbers-sound.ensures.sound }

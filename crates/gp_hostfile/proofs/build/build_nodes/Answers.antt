@@ -1,19 +1,17 @@
-use Rattle.std.proofs.Common.{ap}
-use Rattle.std.proofs.lemmas.Result.{err_from_is_err_and}
-use Rattle.gp_hostfile.specs.inside.Stages.{nodes_made}
-use Rattle.gp_hostfile.proofs.Making.{nodes_go_on, nodes_stop, nodes_end}
+use Rattle.std.proofs.Common.{◌≡◌, ◌∷◌, rules}
+use Rattle.gp_hostfile.specs.declared.tree.NodeTree.{NodeTree}
+use Rattle.gp_hostfile.specs.inside.Stages.{node_mark_fault, label_fault}
+use Rattle.gp_hostfile.proofs.Finding.{found_goes_on, none_found}
+use Rattle.gp_hostfile.proofs.Making.{nodes_go_on, nodes_end}
 use Rattle.gp_hostfile.proofs.build.build_nodes.Goals as goal
 
-pub loop-node-init : goal.loop-node-init
-loop-node-init c = ap (nodes_made c.args.nodes.now) c.reserve.ensures.graph
+pub each-preserved : goal.each-preserved
+each-preserved c =
+    let is : c.each.nodes ≡ c.in-Some.node ∷ c.next.new.self = rw c.in-Some.is at c.in_ok-node.ensures in (
+      found_goes_on node_mark_fault c.each.nodes c.next.new.self c.in-Some.node is _ c.each.invariant.0 c.in_ok-build_node.ensures.fault,
+      nodes_go_on c.each.nodes c.next.new.self c.in-Some.node c.each.graph.graph c.build_node.new.graph.graph _ is c.in_ok-build_node.ensures.made c.each.invariant.1,
+      (none_found (λ (n : NodeTree). label_fault n.label) c.each.nodes c.next.new.self c.in-Some.node is c.each.invariant.2).1,
+    )
 
-pub returns-in_err-build_node : goal.returns-in_err-build_node
-returns-in_err-build_node c =
-    let p = err_from_is_err_and c.from_residual-in_err-build_node.result c.from_residual-in_err-build_node.ensures.1 in
-    rw (p.1, p.2) (nodes_stop c.args.nodes.now c.loop-node.node-index c.node-item.result c.loop-node-test.true c.node-item.is _ _ c.loop-node.invariant c.in_err-build_node.field-0.0 c.in_err-build_node.ensures)
-
-pub loop-node-preserved : goal.loop-node-preserved
-loop-node-preserved c = nodes_go_on c.args.nodes.now c.loop-node.node-index c.node-item.result c.loop-node-test.true c.node-item.is _ _ c.loop-node.invariant _ c.in_ok-build_node.ensures
-
-pub returns : goal.returns
-returns c = nodes_end c.args.nodes.now c.loop-node.node-index _ _ c.loop-node-test.false c.loop-node.invariant
+pub returns-clause-made : goal.returns-clause-made
+returns-clause-made c = nodes_end c.each.nodes c.each.graph.graph _ (search rules) c.each.invariant.1
