@@ -177,7 +177,7 @@ mark_cmp_is : (a b : EdgeMark) → mark_cmp a b ≡ nat_cmp (edge_mark_rank a) (
 mark_cmp_is a b = grind arith
 
 abbrev pub line_cmp : EdgeLine → EdgeLine → Ordering
-line_cmp a b = ordering_then (nat_cmp a.source b.source) (ordering_then (nat_cmp a.target b.target) (ordering_then (mark_cmp a.mark b.mark) (slice_cmp nat_cmp a.label.items b.label.items)))
+line_cmp a b = ordering_then (nat_cmp a.source b.source) (ordering_then (nat_cmp a.target b.target) (ordering_then (mark_cmp a.mark b.mark) (slice_cmp nat_cmp a.label b.label)))
 
 line_cmp_is : (a b : EdgeLine) → line_cmp a b ≡ key_cmp (line_key a) (line_key b)
 line_cmp_is a b = rw (mark_cmp_is a.mark b.mark) refl

@@ -2,6 +2,7 @@ pub mod Stages
 pub mod Seen
 pub mod Walks
 pub mod Lines
+pub mod LabelTexts
 pub mod Held
 pub mod Edges
 pub mod Passing

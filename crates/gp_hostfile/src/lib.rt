@@ -13,6 +13,7 @@ mod check;
 mod fault;
 mod grammar;
 mod host;
+mod label;
 pub mod laws;
 mod line;
 mod many;

@@ -7,6 +7,7 @@ ghost use Rattle.gp_hostfile.specs.GraphText.{IsGraphText, WritesGraph, BeginsGr
 ghost use Rattle.gp_hostfile.specs.inside.Lines.{line_key, line_keys, entry_keys, key_line, key_lines};
 ghost use Rattle.gp_hostfile.specs.inside.Puts.{Puts, Says};
 
+use crate::label::LabelText;
 use crate::sheet::Sheet;
 use gp_graph::Graph;
 use gp_memory::NoMemory;
@@ -111,7 +112,7 @@ struct EdgeLine {
     source: u64,
     target: u64,
     mark: EdgeMark,
-    label: Vec<u8>,
+    label: LabelText,
 }
 
 // The lines of the edges, in the order of their numbers.
@@ -136,8 +137,9 @@ fn add_line_at(
     ensures { OnOk result (line_keys lines.new.items ≡ line_keys lines.old.items ++ entry_keys (numbered e (edge_at graph.now.graph e))) }
 {
     if let Some((source, target, list, mark)) = graph.edge(e) {
-        let mut label = Vec::new(alloc);
-        list.write_label(&mut label)?;
+        let mut text = Vec::new(alloc);
+        list.write_label(&mut text)?;
+        let label = LabelText::new(alloc, &text)?;
         lines.push(EdgeLine {
             source,
             target,
@@ -166,7 +168,7 @@ fn put_edge(i: u64, line: &EdgeLine, sheet: &mut Sheet)
     sheet.put(b", n");
     sheet.number(line.target);
     sheet.put(b", ");
-    sheet.put(&line.label);
+    sheet.put(line.label.as_bytes());
     sheet.put(edge_mark_text(line.mark));
     sheet.put(b")\n");
 }

@@ -6,7 +6,7 @@ use Rattle.gp_hostfile.specs.declared.text.EdgeLine.{EdgeLine}
 use Rattle.gp_hostfile.specs.GraphText.{EdgeKey, edge_key, edge_mark_text}
 
 abbrev pub line_key : EdgeLine → EdgeKey
-line_key l = record { source = l.source; target = l.target; mark = l.mark; label = l.label.items }
+line_key l = record { source = l.source; target = l.target; mark = l.mark; label = l.label }
 
 abbrev pub line_keys : List EdgeLine → List EdgeKey
 line_keys ls = map line_key ls
