@@ -31,7 +31,10 @@ end
 # Whether the option is one of the command, and was not given yet.
 function __gp2_option
     set -l words (commandline -opc)
-    test "$words[2]" = $argv[1]; and not contains -- -- $words; and not string match -q -- "$argv[2]" $words; and not string match -q -- "$argv[2]=*" $words
+    test "$words[2]" = $argv[1]
+    and not contains -- -- $words
+    and not string match -q -- "$argv[2]" $words
+    and not string match -q -- "$argv[2]=*" $words
 end
 complete -c gp2 -f
 complete -c gp2 -n __fish_use_subcommand -a run -d 'Run a program on a host graph'

@@ -97,7 +97,8 @@ def _host_name(name: Hashable) -> str:
 
 def _label_text(label: Label, mark: Optional[str]) -> str:
     if len(label) == 1:
-        text = str(label[0]) if type(label[0]) is int else f'"{as_atom(label[0])}"'
+        (atom,) = label
+        text = str(atom) if type(atom) is int else f'"{as_atom(atom)}"'
     elif label:
         text = ":".join([str(atom) if type(atom) is int else f'"{as_atom(atom)}"' for atom in label])
     else:
@@ -166,15 +167,16 @@ class Graph:
     def __str__(self) -> str:
         """The text of the graph as a host."""
         names = self.host_names()
-        lines = ["["]
-        for name, (label, mark, root) in zip(names, self.nodes.values()):
-            lines.append(f"  ({name}{'(R)' if root else ''}, {_label_text(label, mark)})")
-        lines.append("|")
+        nodes = [
+            f"  ({name}{'(R)' if root else ''}, {_label_text(label, mark)})\n"
+            for name, (label, mark, root) in zip(names, self.nodes.values())
+        ]
         name_of = dict(zip(self.nodes, names))
-        for number, (source, target, label, mark) in enumerate(self.edges):
-            lines.append(f"  (e{number}, {name_of[source]}, {name_of[target]}, {_label_text(label, mark)})")
-        lines.append("]\n")
-        return "\n".join(lines)
+        edges = [
+            f"  (e{number}, {name_of[source]}, {name_of[target]}, {_label_text(label, mark)})\n"
+            for number, (source, target, label, mark) in enumerate(self.edges)
+        ]
+        return "".join(["[\n", *nodes, "|\n", *edges, "]\n"])
 
     @classmethod
     def from_text(cls, text: str) -> "Graph":

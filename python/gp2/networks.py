@@ -1,7 +1,7 @@
 """Graphs from and to networkx, which is needed here alone."""
 from __future__ import annotations
 
-from typing import Any, Dict, Hashable, Iterator, Optional, Tuple
+from typing import Any, Dict, Hashable, Iterator, Optional, Sequence, Tuple
 
 from .graph import EDGE_MARKS, NODE_MARKS, Edge, Graph, Label, Names, Node, _as_mark, as_atom, as_label, plain_label
 
@@ -14,10 +14,8 @@ def _networkx() -> Any:
     return networkx
 
 
-def _label_of(data: Dict[str, Any], names: Names) -> Label:
-    if isinstance(names, str):
-        return as_label(data[names]) if names in data else ()
-    return tuple(as_atom(data[name]) for name in names if data.get(name) is not None)
+def _label_of(data: Dict[str, Any], names: Sequence[str]) -> Label:
+    return tuple([as_atom(data[name]) for name in names if data.get(name) is not None])
 
 
 def from_networkx(graph: Any, made: Graph, node_label: Names, edge_label: Names, undirected: Optional[str]) -> Graph:
@@ -29,22 +27,49 @@ def from_networkx(graph: Any, made: Graph, node_label: Names, edge_label: Names,
             "the graph is undirected, and all edges of a host are directed: Graph.from_networkx(graph, undirected=..)"
             ' takes "one" for an edge in one direction, or "both" for an edge in each direction'
         )
-    where: Tuple[Hashable, ...] = ()
-    to_and_fro = undirected == "both" and not graph.is_directed()
+    _take_nodes(graph, made, node_label)
+    _take_edges(graph, made, edge_label)
+    if undirected == "both" and not graph.is_directed():
+        to_and_fro = [[edge, edge._replace(source=edge.target, target=edge.source)] for edge in made.edges]
+        made.edges = [edge for both in to_and_fro for edge in (both if both[0].source != both[0].target else both[:1])]
+    return made
+
+
+def _take_nodes(graph: Any, made: Graph, names: Names) -> None:
+    new, nodes, is_one = tuple.__new__, made.nodes, isinstance(names, str)
     try:
         for name, data in graph.nodes(data=True):
-            where = (name,)
-            mark = _as_mark(data.get("mark"), NODE_MARKS)
-            made.nodes[name] = Node(_label_of(data, node_label), mark, bool(data.get("root")))
-        for source, target, data in graph.edges(data=True):
-            where = (source, target)
-            mark = _as_mark(data.get("mark"), EDGE_MARKS)
-            made.edges.append(Edge(source, target, _label_of(data, edge_label), mark))
-            if to_and_fro and source != target:
-                made.edges.append(made.edges[-1]._replace(source=target, target=source))
+            label = as_label(data.get(names)) if is_one else _label_of(data, names)
+            mark = data.get("mark")
+            if mark is not None:
+                _as_mark(mark, NODE_MARKS)
+            nodes[name] = new(Node, (label, mark, bool(data.get("root"))))
     except (TypeError, ValueError) as error:
-        raise type(error)(f"{_told(where)}: {error}") from None
-    return made
+        raise type(error)(f"{_told((name,))}: {error}") from None
+
+
+def _take_edges(graph: Any, made: Graph, names: Names) -> None:
+    new, add, is_one = tuple.__new__, made.edges.append, isinstance(names, str)
+    try:
+        for source, target, data in _edges_of(graph):
+            label = as_label(data.get(names)) if is_one else _label_of(data, names)
+            mark = data.get("mark")
+            if mark is not None:
+                _as_mark(mark, EDGE_MARKS)
+            add(new(Edge, (source, target, label, mark)))
+    except (TypeError, ValueError) as error:
+        raise type(error)(f"{_told((source, target))}: {error}") from None
+
+
+def _edges_of(graph: Any) -> Iterator[Tuple[Hashable, Hashable, Dict[str, Any]]]:
+    """The edges of a networkx graph, in the order of `graph.edges`, which takes longer for one of the usual kind."""
+    if not (graph.is_directed() and graph.is_multigraph()):
+        yield from graph.edges(data=True)
+        return
+    for source, targets in graph.adjacency():
+        for target, between in targets.items():
+            for data in between.values():
+                yield source, target, data
 
 
 def _told(where: Tuple[Hashable, ...]) -> str:
@@ -63,24 +88,22 @@ def _attributes(label: Label, mark: Optional[str], names: Names, where: Tuple[Ha
     return data
 
 
-def _edges(graph: Graph, names: Names) -> Iterator[Tuple[Hashable, Hashable, Dict[str, Any]]]:
-    """The edges with their attributes."""
-    for source, target, label, mark in graph.edges:
-        if mark is None and isinstance(names, str):
-            yield source, target, {names: label[0] if len(label) == 1 else label}
-        else:
-            yield source, target, _attributes(label, mark, names, (source, target))
-
-
-def _join(made: Any, edges: Iterator[Tuple[Hashable, Hashable, Dict[str, Any]]]) -> None:
-    """Adds edges between nodes of a MultiDiGraph that has none yet, as its add_edge does, which takes five times as long."""
+def _join(made: Any, graph: Graph, names: Names) -> None:
+    """Adds the edges to a MultiDiGraph that has none yet, as its add_edge does, which takes five times as long."""
     after, before = made._succ, made._pred
-    for source, target, data in edges:
-        between = after[source].get(target)
-        if between is None:
-            after[source][target] = before[target][source] = {0: data}
+    for source, target, label, mark in graph.edges:
+        if names.__class__ is str:
+            data = {names: label[0] if len(label) == 1 else label}
+            if mark is not None:
+                data["mark"] = mark
         else:
+            data = _attributes(label, mark, names, (source, target))
+        targets = after[source]
+        if target in targets:
+            between = targets[target]
             between[len(between)] = data
+        else:
+            targets[target] = before[target][source] = {0: data}
 
 
 def to_networkx(graph: Graph, node_label: Names, edge_label: Names, create_using: Any) -> Any:
@@ -94,12 +117,11 @@ def to_networkx(graph: Graph, node_label: Names, edge_label: Names, create_using
         if root:
             data["root"] = True
         made.add_node(name, **data)
-    edges = _edges(graph, edge_label)
     if type(made) is _networkx().MultiDiGraph:
-        _join(made, edges)
+        _join(made, graph, edge_label)
         return made
-    for source, target, data in edges:
-        made.add_edge(source, target, **data)
+    for source, target, label, mark in graph.edges:
+        made.add_edge(source, target, **_attributes(label, mark, edge_label, (source, target)))
     if made.number_of_edges() != len(graph.edges):
         kind = type(made).__name__
         raise ValueError(f"a {kind} has at most one edge between two nodes, and here are several: use a MultiDiGraph")

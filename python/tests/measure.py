@@ -1,4 +1,5 @@
-"""Measures how long a networkx graph of 10^5 nodes and 3*10^5 edges takes to a host, and back: scripts/check-python --measure."""
+"""Measures how long a networkx graph of 10^5 nodes and 3*10^5 edges takes to a host, and back: scripts/check-python
+--measure."""
 import random
 import time
 
@@ -17,7 +18,9 @@ def made() -> networkx.MultiDiGraph:
         graph.add_node(f"town {number}", label=(f"town {number}", chosen.randrange(10**6)))
     names = list(graph)
     for _ in range(EDGES):
-        graph.add_edge(chosen.choice(names), chosen.choice(names), label=chosen.randrange(1000), mark=chosen.choice([None, "red"]))
+        graph.add_edge(
+            chosen.choice(names), chosen.choice(names), label=chosen.randrange(1000), mark=chosen.choice([None, "red"])
+        )
     return graph
 
 
@@ -34,7 +37,10 @@ def main() -> None:
     sum(range(10**7))
     for _ in range(10**7):
         pass
-    print(f"for comparison, two loops of 10^7 rounds: {time.perf_counter() - began[0]:.2f} s ({time.process_time() - began[1]:.2f} s of a processor)")
+    print(
+        f"for comparison, two loops of 10^7 rounds: {time.perf_counter() - began[0]:.2f} s "
+        f"({time.process_time() - began[1]:.2f} s of a processor)"
+    )
 
 
 if __name__ == "__main__":

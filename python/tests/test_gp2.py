@@ -18,18 +18,35 @@ except ImportError:
 TOP = Path(__file__).resolve().parents[2]
 EXAMPLES = TOP / "examples"
 NUMBER = "Main = number!  number(x:string) [ (n, x) | ] => [ (n, x:0) | ] interface = {n}"
-TOWNS = {"nodes": {"Aber": "Aber", ("St.", "Asaph"): "St. Asaph", 7: 1}, "edges": [("Aber", 7, 12), (7, ("St.", "Asaph"))]}
+TOWNS = {
+    "nodes": {"Aber": "Aber", ("St.", "Asaph"): "St. Asaph", 7: 1},
+    "edges": [("Aber", 7, 12), (7, ("St.", "Asaph"))],
+}
 
 
 class Labels(unittest.TestCase):
     def test_what_is_a_label(self):
-        for value, label in [(None, ()), (7, (7,)), ("a b", ("a b",)), ([1, "x"], (1, "x")), ((), ()), (-(2**127), (-(2**127),))]:
+        for value, label in [
+            (None, ()),
+            (7, (7,)),
+            ("a b", ("a b",)),
+            ([1, "x"], (1, "x")),
+            ((), ()),
+            (-(2**127), (-(2**127),)),
+        ]:
             graph = gp2.Graph()
             graph.add_node("a", value)
             self.assertEqual(graph.nodes["a"].label, label)
 
     def test_what_is_no_label(self):
-        for value, error in [(1.5, TypeError), (True, TypeError), (2**127, ValueError), ('say "no"', ValueError), ("café", ValueError), ([[1]], TypeError)]:
+        for value, error in [
+            (1.5, TypeError),
+            (True, TypeError),
+            (2**127, ValueError),
+            ('say "no"', ValueError),
+            ("café", ValueError),
+            ([[1]], TypeError),
+        ]:
             with self.assertRaisesRegex(error, "node 'a': "):
                 gp2.Graph().add_node("a", value)
 
@@ -79,17 +96,32 @@ class Texts(unittest.TestCase):
         self.assertEqual(list(gp2.run("Main = skip", graph).graph.nodes), list(graph.nodes))
 
     def test_what_is_no_host(self):
-        for text, line in [("[ (a, 1) ]", 1), ("[\n (a, 1)\n (a, 2) | ]", 3), ("[ | \n(e, a, b, 1) ]", 2), ("[ (a, 1 # dashed) | ]", 1), ("", 1),
-                           ("[\n  (a, 1)\n|\n  (e, a, b, 1)\n]\n", 4), ("[\n  (if, 1)\n|\n]\n", 2), ("[ (a, 1) | ] x", 1)]:
+        for text, line in [
+            ("[ (a, 1) ]", 1),
+            ("[\n (a, 1)\n (a, 2) | ]", 3),
+            ("[ | \n(e, a, b, 1) ]", 2),
+            ("[ (a, 1 # dashed) | ]", 1),
+            ("", 1),
+            ("[\n  (a, 1)\n|\n  (e, a, b, 1)\n]\n", 4),
+            ("[\n  (if, 1)\n|\n]\n", 2),
+            ("[ (a, 1) | ] x", 1),
+        ]:
             with self.assertRaisesRegex(ValueError, f"^host: line {line}: "):
                 gp2.Graph.from_text(text)
 
     def test_dictionaries(self):
-        graph = gp2.Graph.from_dict({"edges": [("a", "b"), ("b", "c", 5), ("c", "c", {"mark": "red", "label": [1, "x"]})]})
+        graph = gp2.Graph.from_dict(
+            {"edges": [("a", "b"), ("b", "c", 5), ("c", "c", {"mark": "red", "label": [1, "x"]})]}
+        )
         self.assertEqual(list(graph.nodes), ["a", "b", "c"])
         self.assertEqual(graph.edges[2], gp2.Edge("c", "c", (1, "x"), "red"))
-        for data, said in [({"a": ["b"]}, "but not 'a'"), ({}, "neither nodes nor edges"), ({"nodes": {"a": {"labl": 1}}}, "'labl' is none of"),
-                           ({"edges": [("a",)]}, "a source, a target"), ({"nodes": ["a"], "edges": [("a", "b")]}, "no node 'b'")]:
+        for data, said in [
+            ({"a": ["b"]}, "but not 'a'"),
+            ({}, "neither nodes nor edges"),
+            ({"nodes": {"a": {"labl": 1}}}, "'labl' is none of"),
+            ({"edges": [("a",)]}, "a source, a target"),
+            ({"nodes": ["a"], "edges": [("a", "b")]}, "no node 'b'"),
+        ]:
             with self.assertRaisesRegex(ValueError, said):
                 gp2.Graph.from_dict(data)
 
@@ -139,13 +171,23 @@ class Runs(unittest.TestCase):
             ("Main = skip\n'", host, "program", "BadByte 12", 2, 12),
             ("Main = skip", "[ (a, 1) | ", "host", "Syntax line 1", 1, None),
             ("Main = skip", "[\n\n (a, \xe9) | ]", "host", "BadByte 8", 3, 8),
-            ("Main = r; s\nr() [ | ] => [ | ] interface = {}\ns() [ | ] => [ (n, y) | ] interface = {}", host, "program", "rule s: Unbound y", 3, None),
+            (
+                "Main = r; s\nr() [ | ] => [ | ] interface = {}\ns() [ | ] => [ (n, y) | ] interface = {}",
+                host,
+                "program",
+                "rule s: Unbound y",
+                3,
+                None,
+            ),
             ("Main = r", host, "program", "Unknown r", None, None),
             ("Main = skip", "[ | (e, a, b, 1) ]", "host", "NoSuchEnd a", None, None),
         ]:
             with self.subTest(fault=fault), self.assertRaises(gp2.Refused) as caught:
                 gp2.run(program, graph)
-            self.assertEqual((caught.exception.file, caught.exception.fault, caught.exception.line, caught.exception.offset), (file, fault, line, offset))
+            self.assertEqual(
+                (caught.exception.file, caught.exception.fault, caught.exception.line, caught.exception.offset),
+                (file, fault, line, offset),
+            )
             self.assertTrue(str(caught.exception).startswith(f"{file}: {fault}"))
         with self.assertRaisesRegex(ValueError, "a file is named by a pathlib.Path"):
             gp2.run("closure.gp2", host)
@@ -161,7 +203,13 @@ class Runs(unittest.TestCase):
         self.assertEqual((caught.exception.rule, caught.exception.kind), ("half", "zero-divisor"))
 
     def test_options(self):
-        for options, error in [({"workers": 0}, ValueError), ({"bound": -1}, ValueError), ({"seed": 2**64}, ValueError), ({"seed": 1.0}, TypeError), ({"bound": True}, TypeError)]:
+        for options, error in [
+            ({"workers": 0}, ValueError),
+            ({"bound": -1}, ValueError),
+            ({"seed": 2**64}, ValueError),
+            ({"seed": 1.0}, TypeError),
+            ({"bound": True}, TypeError),
+        ]:
             with self.assertRaises(error):
                 gp2.run("Main = skip", "[ | ]", **options)
         results = {bool(gp2.run("Main = skip or fail", "[ | ]", seed=seed)) for seed in range(20)}
@@ -177,13 +225,18 @@ class Runs(unittest.TestCase):
 
 
 class Journals(unittest.TestCase):
-    LINK = "Main = P!  P = [ go(x:int) [ (n, x) (m, 1) | (e(B), n, m, 1) ] => [ (n, 2) (m, 1) | (e(B), n, m, 1) ] interface = {n, m} where x != 2 ] go"
+    LINK = (
+        "Main = P!  P = [ go(x:int) [ (n, x) (m, 1) | (e(B), n, m, 1) ] => [ (n, 2) (m, 1) | (e(B), n, m, 1) ]"
+        " interface = {n, m} where x != 2 ] go"
+    )
 
     def test_items(self):
         result = gp2.run(self.LINK, {"nodes": {"a": 1, "b": 7}, "edges": [("a", "b", 1)]}, journal=True)
         self.assertEqual([item.kind for item in result.journal], ["turn", "step", "turn", "back"])
         step = result.journal[1]
-        self.assertEqual((step.rule, step.rule_number, step.nodes, step.edges, step.against), ("go", 0, ("b", "a"), (0,), (0,)))
+        self.assertEqual(
+            (step.rule, step.rule_number, step.nodes, step.edges, step.against), ("go", 0, ("b", "a"), (0,), (0,))
+        )
         self.assertEqual((result.journal[-1].undone, len(result.journal[1:])), (0, 3))
         self.assertTrue(result.journal.text.startswith("gp2-trace 2\nturn\n"))
         self.assertTrue(result.journal.text.endswith("\nend\n"))
@@ -194,7 +247,11 @@ class Journals(unittest.TestCase):
                 program = file.read_text()
                 names = [rule.name for rule in rules_of(program)]
                 self.assertEqual(names, [rule.name for rule in rules_of(gp2.fmt(file))])
-                self.assertEqual(program.count("interface ="), len(names) + "\n".join(line for line in program.split("\n") if line.startswith("//")).count("interface ="))
+                self.assertEqual(
+                    program.count("interface ="),
+                    len(names)
+                    + "\n".join(line for line in program.split("\n") if line.startswith("//")).count("interface ="),
+                )
 
     def test_check(self):
         result = gp2.run(NUMBER, TOWNS, journal=True)
@@ -207,7 +264,12 @@ class Journals(unittest.TestCase):
             gp2.check(NUMBER, TOWNS, gp2.run(NUMBER, TOWNS))
 
     def test_steps(self):
-        for program, graph in [(NUMBER, TOWNS), (EXAMPLES / "tutorial/depth-first.gp2", EXAMPLES / "tutorial/roads.host"), ("Main = fail", TOWNS), ("Main = skip", "[ | ]")]:
+        for program, graph in [
+            (NUMBER, TOWNS),
+            (EXAMPLES / "tutorial/depth-first.gp2", EXAMPLES / "tutorial/roads.host"),
+            ("Main = fail", TOWNS),
+            ("Main = skip", "[ | ]"),
+        ]:
             result = gp2.run(program, graph, journal=True)
             places = list(gp2.steps(program, graph))
             self.assertEqual([place.item for place in places], [None, *result.journal])
@@ -243,7 +305,9 @@ class Journals(unittest.TestCase):
 
 class Finding(unittest.TestCase):
     def test_named_program(self):
-        with mock.patch.dict(os.environ, {"GP2_PROGRAM": "/no/such/gp2"}), self.assertRaisesRegex(gp2.ProgramNotFound, "GP2_PROGRAM is /no/such/gp2"):
+        with mock.patch.dict(os.environ, {"GP2_PROGRAM": "/no/such/gp2"}), self.assertRaisesRegex(
+            gp2.ProgramNotFound, "GP2_PROGRAM is /no/such/gp2"
+        ):
             gp2.run("Main = skip", "[ | ]")
 
     def test_version(self):
@@ -259,7 +323,14 @@ class Networks(unittest.TestCase):
         graph.add_node("none")
         graph.add_edge("Aber", ("St.", "Asaph"), label=31, mark="red", other=1.5)
         again = gp2.run("Main = skip", graph).to_networkx()
-        self.assertEqual(dict(again.nodes(data=True)), {"Aber": {"label": "Aber", "root": True}, ("St.", "Asaph"): {"label": ("St. Asaph", 3355), "mark": "grey"}, "none": {"label": ()}})
+        self.assertEqual(
+            dict(again.nodes(data=True)),
+            {
+                "Aber": {"label": "Aber", "root": True},
+                ("St.", "Asaph"): {"label": ("St. Asaph", 3355), "mark": "grey"},
+                "none": {"label": ()},
+            },
+        )
         self.assertEqual(list(again.edges(data=True)), [("Aber", ("St.", "Asaph"), {"label": 31, "mark": "red"})])
         self.assertIsInstance(again, networkx.MultiDiGraph)
 
@@ -284,7 +355,9 @@ class Networks(unittest.TestCase):
         for _ in range(20):
             graph = gp2.Graph()
             for name in range(chosen.randint(1, 8)):
-                graph.add_node(name, chosen.choice([(), 1, ("a", 2)]), chosen.choice([None, "red"]), chosen.random() < 0.2)
+                graph.add_node(
+                    name, chosen.choice([(), 1, ("a", 2)]), chosen.choice([None, "red"]), chosen.random() < 0.2
+                )
             wanted = networkx.MultiDiGraph()
             wanted.add_nodes_from(graph.to_networkx().nodes(data=True))
             for _ in range(chosen.randint(0, 25)):

@@ -1,4 +1,5 @@
-"""What scripts/check-why runs: on each row with a fault, the reader of scripts/why has to find that fault and its place."""
+"""What scripts/check-why runs: on each row with a fault, the reader of scripts/why has to find that fault and its
+place."""
 import re
 import sys
 from pathlib import Path

@@ -79,12 +79,17 @@ class Rules:
         rule = self.rule
         lists = [("variable", [name for name, _ in rule.variables])]
         for said, side in self.sides():
-            lists += [(f"{said} node", [it.name for it in side.nodes]), (f"{said} edge", [it.name for it in side.edges])]
+            lists += [
+                (f"{said} node", [it.name for it in side.nodes]),
+                (f"{said} edge", [it.name for it in side.edges]),
+            ]
         for kind, names in lists + [("name in the interface", rule.interface)]:
             seen = set()
             for name in names:
                 if name.text in seen:
-                    yield self.of_token("TwiceDeclared", name, f"There is another {kind} `{name.text}` before this one.")
+                    yield self.of_token(
+                        "TwiceDeclared", name, f"There is another {kind} `{name.text}` before this one."
+                    )
                 seen.add(name.text)
 
     def unknown_node(self):
@@ -96,11 +101,17 @@ class Rules:
                         yield self.of_token("UnknownNode", end, f"The {said} side has no node `{end.text}`, which this "
                                             f"edge begins or ends at. {near(end.text, there)}")
         for part in self.values():
-            for name in part.ends if part.kind == "edge test" else [part.name] if part.kind in ("indeg", "outdeg") else []:
+            for name in (
+                part.ends if part.kind == "edge test" else [part.name] if part.kind in ("indeg", "outdeg") else []
+            ):
                 if name.text not in self.left:
                     where = "is a node of the right side only" if name.text in self.right else "is no node of this rule"
-                    yield self.of_token("UnknownNode", name, f"`edge`, `indeg` and `outdeg` ask about nodes of the left "
-                                        f"side, and `{name.text}` {where}. {near(name.text, self.left)}")
+                    yield self.of_token(
+                        "UnknownNode",
+                        name,
+                        f"`edge`, `indeg` and `outdeg` ask about nodes of the left "
+                        f"side, and `{name.text}` {where}. {near(name.text, self.left)}",
+                    )
 
     def bad_interface(self):
         edges = {it.name.text for _, side in self.sides() for it in side.edges}
@@ -112,7 +123,9 @@ class Rules:
                 hint = (f"`{name.text}` is a node of the {'left' if on_left else 'right'} side only. The interface has "
                         "the nodes that stay, so they stand on both sides.")
             elif name.text in edges:
-                hint = f"`{name.text}` is an edge. The interface has nodes only; an edge stays by its name and its ends."
+                hint = (
+                    f"`{name.text}` is an edge. The interface has nodes only; an edge stays by its name and its ends."
+                )
             else:
                 hint = f"Neither side has a node `{name.text}`. {near(name.text, self.left & self.right)}"
             yield self.of_token("BadInterface", name, hint)
@@ -132,7 +145,9 @@ class Rules:
             if declared and (said == "left" or name.text in on_left):
                 continue
             if declared:
-                hint = (f"`{name.text}` is declared, but stands in no label of the left side, so a match gives it no value.")
+                hint = (
+                    f"`{name.text}` is declared, but stands in no label of the left side, so a match gives it no value."
+                )
             else:
                 hint = f"The variable `{name.text}` is not declared. {near(name.text, self.types)}"
                 if name.text in self.left | self.right:
@@ -172,11 +187,15 @@ class Rules:
             for value in numbers:
                 if self.type_of(value) != "int":
                     said, more = self.said_type(value)
-                    yield self.of_part("BadType", value, hint=f"Arithmetic and `< <= > >=` take integers, and {said}{more}.")
+                    yield self.of_part(
+                        "BadType", value, hint=f"Arithmetic and `< <= > >=` take integers, and {said}{more}."
+                    )
             for value in strings:
                 if self.type_of(value) not in ("string", "char"):
                     said, _ = self.said_type(value)
-                    yield self.of_part("BadType", value, hint=f"`.` joins strings, and {said}. `:` joins the atoms of a list.")
+                    yield self.of_part(
+                        "BadType", value, hint=f"`.` joins strings, and {said}. `:` joins the atoms of a list."
+                    )
 
     def not_simple(self):
         computed = {"sum": "arithmetic", "product": "arithmetic", "minus": "arithmetic", "indeg": "a degree",
@@ -190,14 +209,21 @@ class Rules:
                                        "take a variable there, and ask for its value behind `where`.")
             lists = [it for it in parts if it.kind == "variable" and self.types.get(it.name.text) == "list"]
             if len(lists) > 1:
-                yield self.of_part("NotSimple", lists[1], hint="A label of the left side has at most one list variable, since "
-                                   "there would be several ways to split the list.")
+                yield self.of_part(
+                    "NotSimple",
+                    lists[1],
+                    hint="A label of the left side has at most one list variable, since "
+                    "there would be several ways to split the list.",
+                )
             for chain in parts:
                 used = [it for it in parts_of(chain) if it.kind == "variable"]
                 strings = [it for it in used if self.types.get(it.name.text) == "string"]
                 if chain.kind == "string chain" and len(strings) > 1:
-                    hint = ("A string of the left side has at most one string variable, since there would be several ways to "
-                            "split it; a char variable is one character.")
+                    hint = (
+                        "A string of the left side has at most one string variable, since there would be several ways "
+                        "to "
+                        "split it; a char variable is one character."
+                    )
                     yield self.of_part("NotSimple", strings[1], hint=hint)
 
     def bad_mark(self):
@@ -215,11 +241,17 @@ class Rules:
                     name, there = item.name.text, any_nodes & self.kept if item.kind == "node" else any_edges
                     if name not in there:
                         kept = ", and is in the interface" if item.kind == "node" else ""
-                        yield self.of_token("BadMark", mark, f"`any` on the right keeps the mark that was found, so it needs a "
-                                            f"left {item.kind} `{name}` that has `# any`{kept}.")
+                        yield self.of_token(
+                            "BadMark",
+                            mark,
+                            f"`any` on the right keeps the mark that was found, so it needs a "
+                            f"left {item.kind} `{name}` that has `# any`{kept}.",
+                        )
         for part in parts_of(rule.condition):
             if part.kind == "edge test" and part.label and part.label.mark and part.label.mark.text not in EDGE_MARKS:
-                yield self.of_token("BadMark", part.label.mark, self.mark_hint(part.label.mark.text, "edge", EDGE_MARKS))
+                yield self.of_token(
+                    "BadMark", part.label.mark, self.mark_hint(part.label.mark.text, "edge", EDGE_MARKS)
+                )
 
     def mark_hint(self, mark, kind, marks):
         if mark in NODE_MARKS + EDGE_MARKS:
@@ -242,12 +274,17 @@ class Rules:
                 continue
             else:
                 hint = f"The left edge `{name}` is between `{other.source.text}` and `{other.target.text}`."
-            yield self.of_token("BadBidi", edge.name, f"{hint} A `(B)` edge of the right side keeps the direction that was "
-                                "found, so the left side has a `(B)` edge of this name between the same two nodes.")
+            yield self.of_token(
+                "BadBidi",
+                edge.name,
+                f"{hint} A `(B)` edge of the right side keeps the direction that was "
+                "found, so the left side has a `(B)` edge of this name between the same two nodes.",
+            )
 
 
 def rule_fault(tokens, tree, rule_name, fault, told):
-    """The place of this fault in the first rule of this name that has it; or the rule's name, and that it is all that is known."""
+    """The place of this fault in the first rule of this name that has it; or the rule's name, and that it is all that
+    is known."""
     named = [it for it in rules_of(tree.declarations) if it.name.text == rule_name]
     for rule in named:
         for found in Rules(tokens, rule).faults():

@@ -1,12 +1,14 @@
-"""Tokens and trees of GP 2 programs and hosts, with their places in the text, for scripts that say more than `gp2` does.
+"""Tokens and trees of GP 2 programs and hosts, with their places in the text, for scripts that say more than `gp2`
+does.
 
-`gp2` decides what a text is; these trees only tell where. A text is a `str` with one character for each byte (latin-1), so
-that an index is a byte offset. Call `tokens_of`, then `read_program` or `read_host`."""
+`gp2` decides what a text is; these trees only tell where. A text is a `str` with one character for each byte
+(latin-1), so that an index is a byte offset. Call `tokens_of`, then `read_program` or `read_host`."""
 import re
 
 RESERVED = frozenset(
-    "interface where empty not and or edge indeg outdeg length int char string atom list if then else try skip fail break"
-    .split())
+    "interface where empty not and or edge indeg outdeg length int char string atom list".split()
+    + "if then else try skip fail break".split()
+)
 TYPES = ("int", "char", "string", "atom", "list")
 COMPARISONS = ("=", "!=", "<", "<=", ">", ">=")
 LARGEST = 1 << 127
@@ -437,7 +439,9 @@ class Reader:
         return self.part("call", first, names=names)
 
     def rule_name(self):
-        return self.one("a rule's name", lambda it: it.kind == "word" and "a" <= it.text[0] <= "z" and it.text not in RESERVED)
+        return self.one(
+            "a rule's name", lambda it: it.kind == "word" and "a" <= it.text[0] <= "z" and it.text not in RESERVED
+        )
 
     def rule(self):
         first = self.at

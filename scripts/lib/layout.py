@@ -1,5 +1,5 @@
-"""What scripts/layout runs: `layout.py TEXT CANONICAL MADE`, three files. It sets the canonical text of a program in lines of
-at most 100 columns, and puts the comments of the program's own text back where they stood."""
+"""What scripts/layout runs: `layout.py TEXT CANONICAL MADE`, three files. It sets the canonical text of a program in
+lines of at most 100 columns, and puts the comments of the program's own text back where they stood."""
 import bisect
 import difflib
 import sys
@@ -92,7 +92,9 @@ class Source:
     def width(self, first, last):
         """The columns of these tokens on one line, with the comments between them."""
         size = self.tokens[last].end - self.tokens[first].start
-        return size + sum(len(it.text) + 1 for at in range(first, last + 1) for it in self.before[at] if it.kind == "inline")
+        return size + sum(
+            len(it.text) + 1 for at in range(first, last + 1) for it in self.before[at] if it.kind == "inline"
+        )
 
     def is_broken(self, first, last):
         """Whether a comment ends a line within these tokens."""
@@ -248,8 +250,8 @@ class Layout:
 
 
 def set_in_lines(text, canonical):
-    """The program in lines; None if its text and its canonical text do not go together. A comment before a parenthesis that
-    is left out may stand alone then, so this is repeated until nothing changes."""
+    """The program in lines; None if its text and its canonical text do not go together. A comment before a
+    parenthesis that is left out may stand alone then, so this is repeated until nothing changes."""
     try:
         parsed = read_program(canonical)
         for _ in range(6):

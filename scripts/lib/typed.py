@@ -1,6 +1,7 @@
-"""Types command lines into a shell and tells what it completes: `typed.py bash|zsh|fish ROOM`, with a line on standard input
-for each command line. ROOM is a folder in which they are typed. Printed is, for each line, what is offered, sorted, and with
-one blank between. bash and zsh run at a terminal, and get the key that inserts all completions; fish is asked for them."""
+"""Types command lines into a shell and tells what it completes: `typed.py bash|zsh|fish ROOM`, with a line on
+standard input for each command line. ROOM is a folder in which they are typed. Printed is, for each line, what is
+offered, sorted, and with one blank between. bash and zsh run at a terminal, and get the key that inserts all
+completions; fish is asked for them."""
 import os
 import pty
 import re
@@ -78,8 +79,13 @@ def offered(line, shown):
 
 
 def fish_offers(line, room, home):
-    told = subprocess.run(["fish", "-c", f"source {COMPLETIONS}/gp2.fish; complete -C '{line}'"], cwd=room, capture_output=True, text=True,
-                          env={**os.environ, "HOME": home, "XDG_CONFIG_HOME": home, "XDG_DATA_HOME": home})
+    told = subprocess.run(
+        ["fish", "-c", f"source {COMPLETIONS}/gp2.fish; complete -C '{line}'"],
+        cwd=room,
+        capture_output=True,
+        text=True,
+        env={**os.environ, "HOME": home, "XDG_CONFIG_HOME": home, "XDG_DATA_HOME": home},
+    )
     if told.stderr:
         return [told.stderr]
     return sorted({it.split("\t")[0].rstrip("/").replace("\\ ", " ") for it in told.stdout.splitlines()})

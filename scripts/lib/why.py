@@ -46,9 +46,16 @@ def read_words(words):
                 usage(f"`{name} {value}`: a number is wanted" + (", or `end`" if name == "--at" else ""))
             given[name[2:]] = value
     if not least <= len(files) <= most:
-        usage(f"`{words[0]}` takes {least if least == most else f'{least} or {most}'} words besides its options, and not {len(files)}")
+        usage(
+            f"`{words[0]}` takes {least if least == most else f'{least} or {most}'} words besides its "
+            f"options, and not {len(files)}"
+        )
     options = {it: [f"--{it}", given[it]] if it in given else [] for it in ("bound", "seed")}
-    return run, files, {**options, "short": "short" in given, "at": given.get("at"), "seconds": int(given.get("seconds", 60))}
+    return (
+        run,
+        files,
+        {**options, "short": "short" in given, "at": given.get("at"), "seconds": int(given.get("seconds", 60))},
+    )
 
 
 def main():

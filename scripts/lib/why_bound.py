@@ -1,10 +1,11 @@
 """`why bound`: which loop spends the bound of a run.
 
-A run that reaches its bound has no journal. So the program is run again with a node more, which counts turns: each loop
-`P!` becomes `(why_turn_K; P)!`, where `why_turn_K` is a rule that takes one from the label of that node, and has no match at
-0. No rule of the program matches the node, by its mark and its label. So the loops end after so many turns, and there is a
-journal, which tells by the rule `why_turn_K` which loop each turn is of. What it shows up to the first loop that ends so is
-the beginning of a run that the rules allow: the one of `gp2 run`, unless the node more changed which match was found."""
+A run that reaches its bound has no journal. So the program is run again with a node more, which counts turns: each
+loop `P!` becomes `(why_turn_K; P)!`, where `why_turn_K` is a rule that takes one from the label of that node, and has
+no match at 0. No rule of the program matches the node, by its mark and its label. So the loops end after so many
+turns, and there is a journal, which tells by the rule `why_turn_K` which loop each turn is of. What it shows up to
+the first loop that ends so is the beginning of a run that the rules allow: the one of `gp2 run`, unless the node more
+changed which match was found."""
 import os
 import re
 import tempfile
@@ -155,7 +156,8 @@ class Search:
     """Looks for the number of turns after which a run is cut where it reaches its bound."""
 
     def __init__(self, gp2, room, text, tokens, loops, counter, host, options, bound):
-        self.gp2, self.room, self.host, self.counter, self.options, self.bound = gp2, room, host, counter, options, bound
+        self.gp2, self.room, self.host, self.counter = gp2, room, host, counter
+        self.options, self.bound = options, bound
         self.program = os.path.join(room, "counted.gp2")
         with open(self.program, "w", encoding="latin-1") as out:
             out.write(counted_program(text, tokens, loops, counter))
@@ -166,7 +168,9 @@ class Search:
         with open(file, "w", encoding="latin-1") as out:
             out.write(counted_host(self.host, self.counter, turns))
         most = min(4 * self.bound + 4 * turns + 1000, 1 << 40)
-        status, printed, said = self.gp2.run(["run", self.program, file, "--journal", "--bound", str(most), *self.options["seed"]])
+        status, printed, said = self.gp2.run(
+            ["run", self.program, file, "--journal", "--bound", str(most), *self.options["seed"]]
+        )
         if status in (0, 1):
             return Prefix(printed, rules, self.bound)
         if status in (5, 6):
@@ -226,8 +230,11 @@ def print_loops(text, tokens, rules, loops, prefix):
     spending = [it for it in stack if 2 * (counted - it[2]) >= counted]
     if spending:
         at, of_loop, began = spending[-1]
-        print(f"{shown(at)} spends the bound: it is in its turn {of_loop}, and {counted - began} of the {counted} steps and "
-              "turns were made since it began")
+        print(
+            f"{shown(at)} spends the bound: it is in its turn {of_loop}, and {counted - began} of the "
+            f"{counted} steps and "
+            "turns were made since it began"
+        )
         body = loops.loops[at].body
         if loops.cannot_fail(body) and not loops.has_break(body):
             print("  Its body cannot fail and has no `break`, so it never ends.")
@@ -273,7 +280,9 @@ def bound(gp2, options, words):
         tokens, _, tree = read_both(gp2, text, program_file, host_file, words)
         rules, loops = list(rules_of(tree.declarations)), Loops(tree)
         most = int((options["bound"] or ["", DEFAULT])[1])
-        status, printed, said = gp2.run(["run", program_file, host_file, "--journal", "--bound", str(most), *options["seed"]])
+        status, printed, said = gp2.run(
+            ["run", program_file, host_file, "--journal", "--bound", str(most), *options["seed"]]
+        )
         if status in (0, 1):
             return tell_end(text, rules, printed, most)
         if status != 5:

@@ -1,6 +1,7 @@
 """`why fault`: where and why `gp2` refuses a program or a host.
 
-`gp2` is asked first, and only what it answers is explained. A place of its own is told only where it agrees with `gp2`."""
+`gp2` is asked first, and only what it answers is explained. A place of its own is told only where it agrees with
+`gp2`."""
 import os
 import re
 import tempfile
@@ -34,16 +35,26 @@ def what(fault, told, text):
         "TooLong": "the file has more than 2^28 bytes", "OpenString": "the string that begins here does not end",
         "OpenComment": "the comment that begins here does not end", "NumberTooLong": "the number is greater than 2^127",
         "TooDeep": "more than 64 brackets, or `-` signs, or `not`s, are open here",
-        "NumberRange": "2^127 is allowed only with a minus sign", "NoMain": "there is no procedure `Main` outside procedures",
-        "TwoMains": "`Main` is declared a second time", "TwoRules": f"`{told}` is declared a second time",
-        "Unknown": f"`{told}` is called, and cannot be called here", "Recursive": f"`{told}` calls itself",
-        "DeepCalls": f"the calls that begin at `{told}` are too deep", "StrayBreak": "`break` outside a loop",
-        "TooLarge": "the rule is too large", "TwiceDeclared": f"`{told}` stands here a second time",
-        "UnknownNode": f"`{told}` is not a node here", "BadInterface": f"`{told}` may not be in the interface",
-        "Unbound": f"`{told}` has no value", "BadType": "an operand has the wrong type",
-        "NotSimple": "this may not stand on the left side", "BadMark": f"`{shown}` is not a mark that may stand here",
-        "BadBidi": f"`{told}` may not have `(B)` here", "TwoNodes": f"a second node has the name `{told}`",
-        "TwoEdges": f"a second edge has the name `{told}`", "NoSuchEnd": f"no node has the name `{told}`",
+        "NumberRange": "2^127 is allowed only with a minus sign",
+        "NoMain": "there is no procedure `Main` outside procedures",
+        "TwoMains": "`Main` is declared a second time",
+        "TwoRules": f"`{told}` is declared a second time",
+        "Unknown": f"`{told}` is called, and cannot be called here",
+        "Recursive": f"`{told}` calls itself",
+        "DeepCalls": f"the calls that begin at `{told}` are too deep",
+        "StrayBreak": "`break` outside a loop",
+        "TooLarge": "the rule is too large",
+        "TwiceDeclared": f"`{told}` stands here a second time",
+        "UnknownNode": f"`{told}` is not a node here",
+        "BadInterface": f"`{told}` may not be in the interface",
+        "Unbound": f"`{told}` has no value",
+        "BadType": "an operand has the wrong type",
+        "NotSimple": "this may not stand on the left side",
+        "BadMark": f"`{shown}` is not a mark that may stand here",
+        "BadBidi": f"`{told}` may not have `(B)` here",
+        "TwoNodes": f"a second node has the name `{told}`",
+        "TwoEdges": f"a second edge has the name `{told}`",
+        "NoSuchEnd": f"no node has the name `{told}`",
         "WrongMark": f"`{shown}` is not a mark that may stand here",
     }
     return words.get(fault.name, "")
@@ -54,20 +65,33 @@ def bad_byte(fault, text):
     line, column = text.line_at(fault.start)
     sign = line[column] if column < len(line) else "\n"
     if text.data[:2] in (b"\xff\xfe", b"\xfe\xff") or (fault.start < 2 and text.data[1:2] == b"\0"):
-        return "this is no plain text", "The file seems to be UTF-16. Save it as plain text (UTF-8 without a byte order mark)."
+        return (
+            "this is no plain text",
+            "The file seems to be UTF-16. Save it as plain text (UTF-8 without a byte order mark).",
+        )
     if text.data[:3] == b"\xef\xbb\xbf" and fault.start < 3:
         return "the file begins with a byte order mark", "Save it as UTF-8 without a byte order mark."
     opened = open_string(text.text, fault.start)
     if opened is not None:
         line_of, column_of = text.place(opened)
         if sign in "\r\n" or column >= len(line):
-            return "the line ends within a string", f"The string begins at {line_of}:{column_of}, and has to end on that line."
+            return (
+                "the line ends within a string",
+                f"The string begins at {line_of}:{column_of}, and has to end on that line.",
+            )
         seen = "a tab" if sign == "\t" else f"`{sign}`"
-        return f"{seen} is not allowed in a string", "A string has the ASCII characters from space to `~`, but for the quotation mark."
+        return (
+            f"{seen} is not allowed in a string",
+            "A string has the ASCII characters from space to `~`, but for the quotation mark.",
+        )
     if ord(sign) > 126 or ord(sign) < 32:
         shown = f"`{sign}`" if sign.isprintable() else f"the character U+{ord(sign):04X}"
         meant = LOOKS_LIKE.get(sign)
-        hint = f"It may be meant as {meant if len(meant) > 6 or meant in ('nothing', 'a space') else f'`{meant}`'}. " if meant else ""
+        hint = (
+            f"It may be meant as {meant if len(meant) > 6 or meant in ('nothing', 'a space') else f'`{meant}`'}. "
+            if meant
+            else ""
+        )
         return f"{shown} is not allowed here", f"{hint}Outside of comments only ASCII characters are allowed."
     return f"`{sign}` is not allowed here", INSTEAD.get(sign, "")
 
@@ -126,8 +150,18 @@ class Syntax:
         return self.token.kind == "sign" and self.token.text in signs
 
     def hint(self):
-        for look in (self.swapped, self.declaration, self.variables, self.reserved, self.rule, self.comparison, self.commands,
-                     self.graph, self.label, self.brackets):
+        for look in (
+            self.swapped,
+            self.declaration,
+            self.variables,
+            self.reserved,
+            self.rule,
+            self.comparison,
+            self.commands,
+            self.graph,
+            self.label,
+            self.brackets,
+        ):
             said = look()
             if said:
                 return said
@@ -156,10 +190,16 @@ class Syntax:
         if self.is_sign("["):
             return f"Behind a rule's name stand its variables in parentheses, also if there are none: `{name}()`."
         if self.first > 0 and self.ahead(-2).text == "while":
-            return "There is no `while`: `r!` repeats r as long as possible, and `(if c then p else break)!` as long as c holds."
+            return (
+                "There is no `while`: `r!` repeats r as long as possible, and `(if c then p else break)!` as "
+                "long as c holds."
+            )
         if self.first > 0:
-            return (f"Here `{name}` is read as the beginning of a declaration, since no `;` stands before it. Commands that "
-                    f"run one after another are separated by `;`.")
+            return (
+                f"Here `{name}` is read as the beginning of a declaration, since no `;` stands before it. "
+                "Commands that "
+                f"run one after another are separated by `;`."
+            )
         return f"A rule begins `{name}(..)`, and a procedure `{name[0].upper() + name[1:]} = ..`."
 
     def variables(self):
@@ -180,7 +220,9 @@ class Syntax:
         if self.token.kind != "word" or self.token.text not in RESERVED:
             return None
         named = self.wanted & set(NAMES) or "a value" in self.wanted and self.token.text in NO_VALUES
-        declared = "a declaration" in self.wanted and self.ahead(1).text in ("=", "(") and self.token.text not in ("if", "try")
+        declared = (
+            "a declaration" in self.wanted and self.ahead(1).text in ("=", "(") and self.token.text not in ("if", "try")
+        )
         if named or declared:
             return f"`{self.token.text}` is a reserved word, so it cannot be a name."
         return None
@@ -224,8 +266,11 @@ class Syntax:
         if self.wanted & set(COMPARISONS) and not self.is_sign(")", "]", "}"):
             return "A condition compares two values, or is a test such as `int(x)` or `edge(n, m)`."
         if "a condition" in self.wanted and self.token.kind == "word":
-            return ("A condition is a comparison such as `i > 0`, a test such as `int(x)` or `edge(n, m)`, or made of these by "
-                    "`not`, `and` and `or`.")
+            return (
+                "A condition is a comparison such as `i > 0`, a test such as `int(x)` or `edge(n, m)`, or made "
+                "of these by "
+                "`not`, `and` and `or`."
+            )
         return None
 
     # ---- commands
@@ -270,13 +315,19 @@ class Syntax:
         if self.is_sign(","):
             return "Commands are separated by `;`; a `,` stands only in a set such as `{r, s}`."
         if token.text in ("then", "else") and token.kind == "word":
-            return (f"This `{token.text}` belongs to no `if` or `try`. Several commands in one branch stand in parentheses, as in "
-                    "`if c then (a; b) else d`.")
+            return (
+                f"This `{token.text}` belongs to no `if` or `try`. Several commands in one branch stand in "
+                "parentheses, as in "
+                "`if c then (a; b) else d`."
+            )
         if self.is_sign("(", "=") and before.kind == "word" and before.text not in RESERVED:
             sign = self.ahead(-2).text
             if sign in (";", "=") and (self.is_sign("=") or self.behind_partner().text == "["):
-                return (f"`{before.text}` is read as a command, since `{sign}` stands before it. If its declaration begins here, "
-                        + ("take the `;` away." if sign == ";" else "commands are missing behind the `=`, such as `skip`."))
+                return (
+                    f"`{before.text}` is read as a command, since `{sign}` stands before it. If its declaration "
+                    "begins here, "
+                    + ("take the `;` away." if sign == ";" else "commands are missing behind the `=`, such as `skip`.")
+                )
             return f"`{before.text}` is called by its name alone." if self.is_sign("(") else None
         if self.is_sign("|"):
             return "`P or Q` runs one of the two."
@@ -308,7 +359,11 @@ class Syntax:
         if token.kind == "word" and token.text in RESERVED:
             return f"`{token.text}` is a reserved word, so it cannot be a name."
         if self.is_sign("["):
-            return "Local declarations stand between `=` and the commands, as in `P = [ .. ] r`." if before.text != "=" else None
+            return (
+                "Local declarations stand between `=` and the commands, as in `P = [ .. ] r`."
+                if before.text != "="
+                else None
+            )
         return None
 
     # ---- graphs
@@ -344,7 +399,13 @@ class Syntax:
         commas = sum(it.text == "," and it.kind == "sign" for it in self.item())
         if kind == "node" and commas >= 3:
             return "This looks like an edge; edges stand behind the `|`."
-        if self.inner == kind and self.is_sign(")") and self.wanted == {","} or self.is_sign(")") and self.wanted <= {",", "("}:
+        if (
+            self.inner == kind
+            and self.is_sign(")")
+            and self.wanted == {","}
+            or self.is_sign(")")
+            and self.wanted <= {",", "("}
+        ):
             if kind == "node":
                 return "A node has a name and a label, which is `empty` for the empty list: `(n, empty)`."
             return "An edge has a name, a source, a target, and a label: `(e, n, m, empty)`."
@@ -368,7 +429,9 @@ class Syntax:
             return None
         token, before = self.token, self.ahead(-1)
         if "a mark" in self.wanted:
-            return "Behind `#` stands a mark: red, green, blue, grey (nodes only), dashed (edges only), or `any` in rules."
+            return (
+                "Behind `#` stands a mark: red, green, blue, grey (nodes only), dashed (edges only), or `any` in rules."
+            )
         if token.kind == "word" and token.text in MARKS and "#" in self.wanted:
             return f"A mark stands behind `#`: `# {token.text}`."
         if self.is_sign(",") and "#" in self.wanted and self.ahead(1).text in MARKS:
@@ -438,7 +501,9 @@ def host_names(text, fault_name, told):
     for item in graph.nodes + graph.edges:
         kind, name = item.kind, item.name
         if fault_name == ("TwoNodes" if kind == "node" else "TwoEdges") and name.text == told and (kind, told) in seen:
-            return Fault(fault_name, name.start, name.end, told, hint=f"Another {kind} `{told}` stands before this one.")
+            return Fault(
+                fault_name, name.start, name.end, told, hint=f"Another {kind} `{told}` stands before this one."
+            )
         seen.add((kind, name.text))
         if fault_name == "NoSuchEnd" and kind == "edge":
             for end in (item.source, item.target):
@@ -449,7 +514,10 @@ def host_names(text, fault_name, told):
             marks = (gp2_clauses.NODE_MARKS if kind == "node" else gp2_clauses.EDGE_MARKS)[:-1]
             if mark.text not in marks:
                 other = ", which is for rules" if mark.text == "any" else ""
-                hint = f"A {kind} of a host may be {gp2_clauses.either(marks)}, or have no mark; here is `{mark.text}`{other}."
+                hint = (
+                    f"A {kind} of a host may be {gp2_clauses.either(marks)}, or have no mark; here is "
+                    f"`{mark.text}`{other}."
+                )
                 return Fault(fault_name, mark.start, mark.end, told, hint=hint)
     return None
 
@@ -467,7 +535,9 @@ def located(text, line, is_host):
     if by_offset:
         start = int(by_offset[2])
         found = re.compile(r"[0-9]+").match(text.text, start)
-        return Fault(by_offset[1], start, found.end() if found and "Number" in by_offset[1] else start + 1, by_offset[2])
+        return Fault(
+            by_offset[1], start, found.end() if found and "Number" in by_offset[1] else start + 1, by_offset[2]
+        )
     if by_line:
         fault, tokens = own_fault(text, is_host)
         if fault and fault.name == by_line[1] and text.place(fault.start)[0] == int(by_line[2]):
@@ -526,7 +596,11 @@ def explained(text, line, is_host):
     rule = re.match(r"program: rule (\w+): ", line)
     of_rule = f" in rule {rule[1]}" if rule else ""
     head = f"{text.at(fault.start)}: {fault.name}{of_rule}: {said}"
-    return head, [] if fault.name == "TooLong" else shown_line(text, fault), [it.strip() for it in sentences if it and it.strip()]
+    return (
+        head,
+        [] if fault.name == "TooLong" else shown_line(text, fault),
+        [it.strip() for it in sentences if it and it.strip()],
+    )
 
 
 def number_fault(text, line):
@@ -609,7 +683,9 @@ def tell(texts, status, said, short, has_run):
     if not has_run and status == 10:
         ended = "(it was not run: no host was named)"
     elif status in (0, 1):
-        ended = "and the run ends with " + ("a graph" if status == 0 else "`fail`; `why match` tells why a rule does not match")
+        ended = "and the run ends with " + (
+            "a graph" if status == 0 else "`fail`; `why match` tells why a rule does not match"
+        )
     else:
         raise Stop("\n".join(said) or f"gp2 ended with status {status}", status or 1)
     if not short:

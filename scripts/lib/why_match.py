@@ -1,7 +1,7 @@
 """`why match`: why a rule has no match on a host. `gp2` itself is asked, with weaker forms of the rule.
 
-A form keeps the left side and the condition, and deletes what the rule deletes; on its right side nothing is computed. So a
-form matches where the rule would if just the named changes were made to it."""
+A form keeps the left side and the condition, and deletes what the rule deletes; on its right side nothing is
+computed. So a form matches where the rule would if just the named changes were made to it."""
 import copy
 import itertools
 import os
@@ -108,7 +108,9 @@ class Form:
         """The parts of the condition that can be asked, and are."""
         bound = {name for it in self.nodes + self.edges for name in it.uses}
         there = {it.name for it in self.nodes} | set(self.renamed)
-        return [at for at, it in enumerate(self.parts) if at not in self.dropped and it.uses <= bound and it.nodes <= there]
+        return [
+            at for at, it in enumerate(self.parts) if at not in self.dropped and it.uses <= bound and it.nodes <= there
+        ]
 
     def written(self, name):
         types = "; ".join(f"{it}:{kind}" for it, kind in self.types.items())
@@ -116,7 +118,9 @@ class Form:
         parts = []
         for at in self.asked():
             part = self.parts[at]
-            text = " ".join(self.renamed.get(it.text, it.text) if it.kind != "string" else it.text for it in part.tokens)
+            text = " ".join(
+                self.renamed.get(it.text, it.text) if it.kind != "string" else it.text for it in part.tokens
+            )
             parts.append(f"({text})" if part.is_or else text)
         where = " where " + " and ".join(parts) if parts else ""
         nodes, edges, right = (" ".join(it.written() for it in items) for items in (self.nodes, self.edges, kept))
@@ -125,7 +129,8 @@ class Form:
 
 
 class Change:
-    """A change that makes a form weaker: how much it is, what it leaves out, what is said of it, and what it is about."""
+    """A change that makes a form weaker: how much it is, what it leaves out, what is said of it, and what it is
+    about."""
 
     def __init__(self, weight, covers, says, apply, about=None):
         self.weight, self.covers, self.says, self.apply, self.about = weight, frozenset(covers), says, apply, about
@@ -169,7 +174,12 @@ class Changes:
 
     def conditions(self):
         for at, part in enumerate(self.form.parts):
-            self.add(1, {("condition", at)}, f"the condition `{part.text}` is left out", lambda form, at=at: form.dropped.add(at))
+            self.add(
+                1,
+                {("condition", at)},
+                f"the condition `{part.text}` is left out",
+                lambda form, at=at: form.dropped.add(at),
+            )
 
     def roots(self):
         for it in self.form.nodes:
@@ -179,8 +189,12 @@ class Changes:
     def marks(self):
         for it in self.form.nodes + self.form.edges:
             if it.mark != "any":
-                says = f"{it.kind} {it.name} need not be {it.mark}" if it.mark else f"{it.kind} {it.name} may have a mark"
-                self.add(1, {("mark", it.kind, it.name)}, says, set_to(it.kind, it.name, mark="any"), (it.kind, it.name))
+                says = (
+                    f"{it.kind} {it.name} need not be {it.mark}" if it.mark else f"{it.kind} {it.name} may have a mark"
+                )
+                self.add(
+                    1, {("mark", it.kind, it.name)}, says, set_to(it.kind, it.name, mark="any"), (it.kind, it.name)
+                )
 
     def types(self):
         used = {name for it in self.form.nodes + self.form.edges for name in it.uses}
@@ -199,7 +213,9 @@ class Changes:
                     form.dropped |= broken
                 said = {"list": "any list", "atom": "any atom", "string": "any string"}[wider]
                 more = {("wider", name)} if wider == "list" else set()
-                self.add(1, {("type", name)} | more, f"variable {name}, now of type {kind}, may be {said}", apply, about)
+                self.add(
+                    1, {("type", name)} | more, f"variable {name}, now of type {kind}, may be {said}", apply, about
+                )
 
     def broken_by(self, name, wider):
         """The parts of the condition that this type does not allow; None if a label does not."""
@@ -217,8 +233,14 @@ class Changes:
 
     def labels(self):
         for it in self.form.nodes + self.form.edges:
-            if it.uses and re.fullmatch(r"\w+", it.label) and self.form.types.get(it.label) == "list" and self.only_in([it]):
-                continue # any list is asked for already
+            if (
+                it.uses
+                and re.fullmatch(r"\w+", it.label)
+                and self.form.types.get(it.label) == "list"
+                and self.only_in([it])
+            ):
+                continue  # any list is asked for already
+
             def apply(form, kind=it.kind, name=it.name):
                 item = form.item(name, kind)
                 if item:
@@ -236,8 +258,13 @@ class Changes:
     def kept(self):
         for it in self.form.nodes:
             if it.name not in self.form.kept:
-                self.add(1, {("kept", it.name)}, f"node {it.name} is not deleted", lambda form, name=it.name: form.kept.add(name),
-                         ("rest", it.name))
+                self.add(
+                    1,
+                    {("kept", it.name)},
+                    f"node {it.name} is not deleted",
+                    lambda form, name=it.name: form.kept.add(name),
+                    ("rest", it.name),
+                )
 
     def of_edge(self, it):
         return {("edge", it.name), ("direction", it.name), ("mark", "edge", it.name), ("label", "edge", it.name)}
@@ -249,7 +276,9 @@ class Changes:
 
     def no_edges(self):
         for it in self.form.edges:
-            self.add(2, self.of_edge(it) | self.only_in([it]), f"edge {it.name} is left out", self.without_edge(it.name))
+            self.add(
+                2, self.of_edge(it) | self.only_in([it]), f"edge {it.name} is left out", self.without_edge(it.name)
+            )
 
     def same_nodes(self):
         for one, other in itertools.combinations(self.form.nodes, 2):
@@ -260,20 +289,40 @@ class Changes:
                 form.renamed[other] = one
                 for it in form.edges:
                     it.source, it.target = (one if end == other else end for end in (it.source, it.target))
-            covers = {("same", one.name, other.name), ("root", other.name), ("mark", "node", other.name), ("label", "node", other.name)}
-            self.add(2, covers, f"nodes {one.name} and {other.name} may be the same node, with the label and mark of {one.name}",
-                     apply, ("node", one.name))
+
+            covers = {
+                ("same", one.name, other.name),
+                ("root", other.name),
+                ("mark", "node", other.name),
+                ("label", "node", other.name),
+            }
+            self.add(
+                2,
+                covers,
+                f"nodes {one.name} and {other.name} may be the same node, with the label and mark of {one.name}",
+                apply,
+                ("node", one.name),
+            )
 
     def no_nodes(self):
         for it in self.form.nodes:
             edges = [edge for edge in self.form.edges if it.name in (edge.source, edge.target)]
-            covers = {("node", it.name), ("root", it.name), ("mark", "node", it.name), ("label", "node", it.name), ("kept", it.name)}
+            covers = {
+                ("node", it.name),
+                ("root", it.name),
+                ("mark", "node", it.name),
+                ("label", "node", it.name),
+                ("kept", it.name),
+            }
             covers = covers.union(*(self.of_edge(edge) for edge in edges)) | self.only_in([it, *edges])
 
             def apply(form, name=it.name):
                 form.nodes = [node for node in form.nodes if node.name != name]
                 form.edges = [edge for edge in form.edges if name not in (edge.source, edge.target)]
-            more = f" with edge{'s' if len(edges) > 1 else ''} " + ", ".join(edge.name for edge in edges) if edges else ""
+
+            more = (
+                f" with edge{'s' if len(edges) > 1 else ''} " + ", ".join(edge.name for edge in edges) if edges else ""
+            )
             if len(self.form.nodes) > 1:
                 self.add(5, covers, f"node {it.name}{more} is left out", apply)
 
@@ -447,7 +496,11 @@ class Host:
         """The edges at a node that are not matched."""
         name = self.graph.nodes[index].name.text
         matched = {int(it.rstrip("~")) for it in edges}
-        return [it for at, it in enumerate(self.graph.edges) if at not in matched and name in (it.source.text, it.target.text)]
+        return [
+            it
+            for at, it in enumerate(self.graph.edges)
+            if at not in matched and name in (it.source.text, it.target.text)
+        ]
 
     def told(self, form, match, about):
         """What the host has where the change is about."""
@@ -479,7 +532,9 @@ def print_sets(host, changes, found):
         for change in chosen:
             if change.about:
                 lines += host.told(changed(changes, chosen), match, change.about)
-        for line in dict.fromkeys(it for it in lines if not any(other != it and other.startswith(it) for other in lines)):
+        for line in dict.fromkeys(
+            it for it in lines if not any(other != it and other.startswith(it) for other in lines)
+        ):
             print(f"    {line}")
     if len(by_what) > MOST_SHOWN:
         print(f"- and {len(by_what) - MOST_SHOWN} more such changes")
@@ -506,8 +561,10 @@ def graph_at(gp2, options, files, room):
     if count == "end":
         status, printed, said = gp2.run(["run", *words, "--journal", *more])
         if status not in (0, 1):
-            raise Stop((said[-1] if said else f"gp2 ended with status {status}") + ": such a run has no journal", status)
-        count = printed[:printed.index("\nend\n") + 1].count("\n") - 1
+            raise Stop(
+                (said[-1] if said else f"gp2 ended with status {status}") + ": such a run has no journal", status
+            )
+        count = printed[: printed.index("\nend\n") + 1].count("\n") - 1
     script = os.path.join(room, "script")
     with open(script, "w") as out:
         out.write("forward\n" * int(count) + "show\n")
@@ -579,8 +636,11 @@ def tell_match(text, tokens, rule, host, asker, where):
     said = f"on {where}{host.name} ({host.sizes()})"
     if found:
         print(f"{place}: rule {name} matches {said}: at {host.at(found)}")
-        print("If a run makes no step by it, it is not called, or only when the graph is another: `--at K` asks about the graph "
-              "after K items of the run, and `--at end` about its end.")
+        print(
+            "If a run makes no step by it, it is not called, or only when the graph is another: `--at K` "
+            "asks about the graph "
+            "after K items of the run, and `--at end` about its end."
+        )
         return 0
     if asker.faulty:
         print(f"{place}: rule {name} has a match {said}, but a number has no value there: {asker.faulty[0].split()[2]}")
@@ -604,6 +664,9 @@ def tell_match(text, tokens, rule, host, asker, where):
         print(f"{asker.tried} weaker forms of the rule have no match either; then the time was over (`--seconds N`).")
     else:
         nodes = len(rule.left.nodes)
-        print(f"The left side has {nodes} nodes, which match different nodes, and this graph has {len(host.graph.nodes)}."
-              if nodes > len(host.graph.nodes) else f"{asker.tried} weaker forms of the rule have no match either.")
+        print(
+            f"The left side has {nodes} nodes, which match different nodes, and this graph has {len(host.graph.nodes)}."
+            if nodes > len(host.graph.nodes)
+            else f"{asker.tried} weaker forms of the rule have no match either."
+        )
     return 1
