@@ -1,5 +1,6 @@
 -- Conditions, part by part, and their sizes.
 use Rattle.std.proofs.Common.{◌≡◌, ℕ, zero, suc, ◌+◌, ◌<◌, ◌≤◌, List, [], ◌∷◌, length, map, drop, fold, get_or, All, refl, sym, ap, subst, ◌∙◌, arith, Bool}
+use Rattle.gp_values.specs.declared.atom.Atom.{Atom}
 use Rattle.gp_values.specs.declared.marks.EdgeMark.{EdgeMark}
 use Rattle.gp_syntax.specs.declared.rule.MarkPattern.{MarkPattern as Pattern}
 use Rattle.gp_syntax.specs.declared.expression.Cond.{Cond}
@@ -8,8 +9,8 @@ use Rattle.gp_syntax.specs.declared.expression.Cond.TheOpen.{Cond-F}
 use Rattle.gp_syntax.specs.declared.expression.Cond.TheFolds.{fold-roll-Cond}
 use Rattle.gp_syntax.specs.Expression.{MarkPattern, Condition, And, Or}
 use Rattle.gp_syntax.specs.Tree.{condition_of, pattern_of, ands, ors}
-use Rattle.gp_syntax.specs.Truth.{truth_of}
-use Rattle.gp_syntax.specs.Value.{Setting, Valued, Value, NoValue, ◌>>=◌}
+use Rattle.gp_syntax.specs.Truth.{truth_of, has_edge, has_edge_with}
+use Rattle.gp_syntax.specs.Value.{Setting, Valued, Value, NoValue, ◌>>=◌, image_at}
 use Rattle.gp_syntax.specs.WellFormed.{IsConditionWithin}
 use Rattle.gp_eval.specs.declared.valued.Missing.{Missing}
 use Rattle.gp_eval.specs.declared.valued.Missing.TheVariants as missing
@@ -111,3 +112,10 @@ module _ (f : Bool → Tree → Valued Bool) where
 
 pub one_tested : {X : Type 0} (f : X → Bool) (v : Valued X) (x : X) (r : Bool) → v ≡ Value x → r ≡ f x → (v >>= λ a. Value (f a)) ≡ Value r
 one_tested f v x r h k = ap (λ z. z >>= λ a. Value (f a)) h ∙ ap (λ z. Value z) (sym k)
+
+-- an edge between images, asked of the graph of the same setting
+pub edge_at : (s v : Setting) (m n a b : ℕ) (r : Bool) → v ≡ s → m ≡ image_at s a → n ≡ image_at s b → r ≡ has_edge v.graph m n → r ≡ has_edge s.graph (image_at s a) (image_at s b)
+edge_at s v m n a b r e k l h = h ∙ (λ i. has_edge (e i).graph (k i) (l i))
+
+pub edge_with_at : (s v : Setting) (m n a b : ℕ) (label : List Atom) (mark : MarkPattern EdgeMark) (r : Bool) → v ≡ s → m ≡ image_at s a → n ≡ image_at s b → r ≡ has_edge_with v.graph m n label mark → r ≡ has_edge_with s.graph (image_at s a) (image_at s b) label mark
+edge_with_at s v m n a b label mark r e k l h = h ∙ (λ i. has_edge_with (e i).graph (k i) (l i) label mark)

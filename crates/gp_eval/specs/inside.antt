@@ -3,3 +3,5 @@ pub mod Size
 pub mod Between
 pub mod Early
 pub mod Compared
+pub mod Setting
+pub mod Chosen

@@ -1,21 +1,19 @@
 //! Comparisons of expressions. Integers are compared without their lists.
 
-ghost use Rattle.std.specs.Prelude.{◌≡◌, ℤ, true, length};
+ghost use Rattle.std.specs.Prelude.{◌≡◌, ℤ, true};
 ghost use Rattle.gp_syntax.specs.Tree.{expression_of};
 ghost use Rattle.gp_syntax.specs.Truth.{compared};
 ghost use Rattle.gp_syntax.specs.Value.{Valued, value_of};
-ghost use Rattle.gp_syntax.specs.WellFormed.{IsWithin};
-ghost use Rattle.gp_syntax.specs.Assigned.{IsWhole};
-ghost use Rattle.gp_eval.specs.Answer.{setting, AreNodes};
 ghost use Rattle.gp_eval.specs.inside.Chains.{Values, Gives};
 ghost use Rattle.gp_eval.specs.inside.Compared.{compared_values, compared_integers, IsByIntegers};
+ghost use Rattle.gp_eval.specs.inside.Setting.{IsIn};
 
 use crate::arithmetic::integer;
 use crate::expression::{eval, eval_integer};
 use crate::leaf::read;
+use crate::setting::Setting;
 use crate::valued::Missing;
-use gp_graph::Graph;
-use gp_syntax::{Assignment, Comparison, Expr};
+use gp_syntax::{Comparison, Expr};
 use gp_values::List;
 use std::alloc::Global;
 
@@ -24,24 +22,20 @@ pub fn compare(
     alloc: Global,
     comparison: Comparison,
     sides: (&Expr<u32>, &Expr<u32>),
-    assignment: &Assignment,
-    nodes: &[u64],
-    graph: &Graph,
+    setting: &Setting<'_>,
 ) -> Result<bool, Missing>
-    requires first { IsWithin (length assignment.now.types) (length nodes.now) (expression_of sides.0.now) }
-    requires second { IsWithin (length assignment.now.types) (length nodes.now) (expression_of sides.1.now) }
-    requires whole { IsWhole assignment.now }
-    requires nodes { AreNodes graph.now.graph nodes.now }
-    ensures { Gives result (compared_values comparison (value_of (expression_of sides.entry.0.now) (setting assignment.now nodes.now graph.now.graph)) (value_of (expression_of sides.entry.1.now) (setting assignment.now nodes.now graph.now.graph))) }
+    requires first { IsIn setting.now (expression_of sides.0.now) }
+    requires second { IsIn setting.now (expression_of sides.1.now) }
+    ensures { Gives result (compared_values comparison (value_of (expression_of sides.entry.0.now) setting.now) (value_of (expression_of sides.entry.1.now) setting.now)) }
 {
     let (d, e) = sides;
-    if are_by_integers(comparison, d, e, assignment, nodes, graph) {
-        let x = eval_integer(alloc, d, assignment, nodes, graph);
-        let y = eval_integer(alloc, e, assignment, nodes, graph);
+    if are_by_integers(comparison, d, e, setting) {
+        let x = eval_integer(alloc, d, setting);
+        let y = eval_integer(alloc, e, setting);
         compared_integers(comparison, x, y)
     } else {
-        let x = eval(alloc, d, assignment, nodes, graph);
-        let y = eval(alloc, e, assignment, nodes, graph);
+        let x = eval(alloc, d, setting);
+        let y = eval(alloc, e, setting);
         compared_lists(comparison, x, y)
     }
 }
@@ -52,20 +46,16 @@ fn are_by_integers(
     comparison: Comparison,
     d: &Expr<u32>,
     e: &Expr<u32>,
-    assignment: &Assignment,
-    nodes: &[u64],
-    graph: &Graph,
+    setting: &Setting<'_>,
 ) -> bool
-    requires first { IsWithin (length assignment.now.types) (length nodes.now) (expression_of d.now) }
-    requires second { IsWithin (length assignment.now.types) (length nodes.now) (expression_of e.now) }
-    requires whole { IsWhole assignment.now }
-    requires nodes { AreNodes graph.now.graph nodes.now }
-    ensures { result ≡ true → IsByIntegers comparison (value_of (expression_of d.now) (setting assignment.now nodes.now graph.now.graph)) (value_of (expression_of e.now) (setting assignment.now nodes.now graph.now.graph)) }
+    requires first { IsIn setting.now (expression_of d.now) }
+    requires second { IsIn setting.now (expression_of e.now) }
+    ensures { result ≡ true → IsByIntegers comparison (value_of (expression_of d.now) setting.now) (value_of (expression_of e.now) setting.now) }
 {
     match comparison {
         Comparison::Equal | Comparison::NotEqual => {
-            let x = read(d, assignment, nodes, graph);
-            let y = read(e, assignment, nodes, graph);
+            let x = read(d, setting);
+            let y = read(e, setting);
             matches!((x, y), (Some(_), Some(_)))
         }
         _ => true,

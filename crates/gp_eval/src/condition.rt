@@ -1,16 +1,18 @@
 //! The truth of conditions.
 
-ghost use Rattle.std.specs.Prelude.{◌≡◌, length, fold, All};
+ghost use Rattle.std.specs.Prelude.{◌≡◌, length, fold};
 ghost use Rattle.gp_syntax.specs.Tree.{condition_of, pattern_of};
 ghost use Rattle.gp_syntax.specs.Truth.{truth_of};
 ghost use Rattle.gp_syntax.specs.WellFormed.{IsConditionWithin};
 ghost use Rattle.gp_syntax.specs.Assigned.{IsWhole};
 ghost use Rattle.gp_eval.specs.Answer.{Tells, setting, AreNodes};
 ghost use Rattle.gp_eval.specs.inside.Chains.{Gives, and_step, or_step};
+ghost use Rattle.gp_eval.specs.inside.Setting.{IsConditionIn, AreConditionsIn};
 
 use crate::comparison::compare;
 use crate::edges::{has_edge, has_edge_with};
 use crate::expression::eval;
+use crate::setting::Setting;
 use crate::valued::{Missing, Valued};
 use gp_graph::Graph;
 use gp_syntax::{Assignment, Cond, MarkPattern, is_of};
@@ -31,7 +33,12 @@ pub fn holds(
     requires nodes { AreNodes graph.now.graph nodes.now }
     ensures { Tells result (truth_of (condition_of pattern_of condition.now) (setting assignment.now nodes.now graph.now.graph)) }
 {
-    match truth(alloc, condition, assignment, nodes, graph) {
+    let setting = Setting {
+        assignment,
+        nodes,
+        graph,
+    };
+    match truth(alloc, condition, &setting) {
         Ok(holds) => Valued::Value(holds),
         Err(Missing::NoValue(kind)) => Valued::NoValue(kind),
         Err(Missing::NoMemory) => Valued::NoMemory,
@@ -43,50 +50,26 @@ pub fn holds(
 fn truth(
     alloc: Global,
     condition: &Cond<u32, MarkPattern<EdgeMark>>,
-    assignment: &Assignment,
-    nodes: &[u64],
-    graph: &Graph,
+    setting: &Setting<'_>,
 ) -> Result<bool, Missing>
-    requires within { IsConditionWithin (length assignment.now.types) (length nodes.now) (condition_of pattern_of condition.now) }
-    requires whole { IsWhole assignment.now }
-    requires nodes { AreNodes graph.now.graph nodes.now }
-    ensures { Gives result (truth_of (condition_of pattern_of condition.now) (setting assignment.now nodes.now graph.now.graph)) }
+    requires { IsConditionIn setting.now (condition_of pattern_of condition.now) }
+    ensures { Gives result (truth_of (condition_of pattern_of condition.now) setting.now) }
 {
     match condition {
         Cond::HasType(declared, e) => {
-            let list = eval(alloc, e, assignment, nodes, graph)?;
+            let list = eval(alloc, e, setting)?;
             Ok(is_of(*declared, list.atoms()))
         }
-        Cond::HasEdge(a, b) => Ok(has_edge(graph, nodes[*a as usize], nodes[*b as usize])),
+        Cond::HasEdge(a, b) => Ok(has_edge(setting.graph, setting.image(*a), setting.image(*b))),
         Cond::HasEdgeWith(a, b, e, mark) => {
-            let list = eval(alloc, e, assignment, nodes, graph)?;
-            let (source, target) = (nodes[*a as usize], nodes[*b as usize]);
-            Ok(has_edge_with(graph, source, target, &list, *mark))
+            let list = eval(alloc, e, setting)?;
+            let (source, target) = (setting.image(*a), setting.image(*b));
+            Ok(has_edge_with(setting.graph, source, target, &list, *mark))
         }
-        Cond::Compared(comparison, d, e) => {
-            compare(alloc, *comparison, (d, e), assignment, nodes, graph)
-        }
-        Cond::Not(part) => Ok(!truth(alloc, part.get(), assignment, nodes, graph)?),
-        Cond::And(first, rest) => {
-            all_true(
-                alloc,
-                first.get(),
-                rest.as_slice(),
-                assignment,
-                nodes,
-                graph,
-            )
-        }
-        Cond::Or(first, rest) => {
-            some_true(
-                alloc,
-                first.get(),
-                rest.as_slice(),
-                assignment,
-                nodes,
-                graph,
-            )
-        }
+        Cond::Compared(comparison, d, e) => compare(alloc, *comparison, (d, e), setting),
+        Cond::Not(part) => Ok(!truth(alloc, part.get(), setting)?),
+        Cond::And(first, rest) => all_true(alloc, first.get(), rest.as_slice(), setting),
+        Cond::Or(first, rest) => some_true(alloc, first.get(), rest.as_slice(), setting),
     }
 }
 
@@ -96,22 +79,17 @@ fn all_true(
     alloc: Global,
     first: &Cond<u32, MarkPattern<EdgeMark>>,
     rest: &[Cond<u32, MarkPattern<EdgeMark>>],
-    assignment: &Assignment,
-    nodes: &[u64],
-    graph: &Graph,
+    setting: &Setting<'_>,
 ) -> Result<bool, Missing>
-    requires first { IsConditionWithin (length assignment.now.types) (length nodes.now) (condition_of pattern_of first.now) }
-    requires rest { All (λ t. IsConditionWithin (length assignment.now.types) (length nodes.now) (condition_of pattern_of t)) rest.now }
-    requires whole { IsWhole assignment.now }
-    requires nodes { AreNodes graph.now.graph nodes.now }
-    ensures { Gives result (fold (and_step (setting assignment.now nodes.now graph.now.graph)) (truth_of (condition_of pattern_of first.now) (setting assignment.now nodes.now graph.now.graph)) rest.now) }
+    requires { AreConditionsIn setting.now first.now rest.now }
+    ensures { Gives result (fold (and_step setting.now) (truth_of (condition_of pattern_of first.now) setting.now) rest.now) }
 {
-    let mut holds = truth(alloc, first, assignment, nodes, graph)?;
+    let mut holds = truth(alloc, first, setting)?;
     'parts: for part in rest {
         if !holds {
             return Ok(false);
         }
-        holds = truth(alloc, part, assignment, nodes, graph)?;
+        holds = truth(alloc, part, setting)?;
     }
     Ok(holds)
 }
@@ -122,22 +100,17 @@ fn some_true(
     alloc: Global,
     first: &Cond<u32, MarkPattern<EdgeMark>>,
     rest: &[Cond<u32, MarkPattern<EdgeMark>>],
-    assignment: &Assignment,
-    nodes: &[u64],
-    graph: &Graph,
+    setting: &Setting<'_>,
 ) -> Result<bool, Missing>
-    requires first { IsConditionWithin (length assignment.now.types) (length nodes.now) (condition_of pattern_of first.now) }
-    requires rest { All (λ t. IsConditionWithin (length assignment.now.types) (length nodes.now) (condition_of pattern_of t)) rest.now }
-    requires whole { IsWhole assignment.now }
-    requires nodes { AreNodes graph.now.graph nodes.now }
-    ensures { Gives result (fold (or_step (setting assignment.now nodes.now graph.now.graph)) (truth_of (condition_of pattern_of first.now) (setting assignment.now nodes.now graph.now.graph)) rest.now) }
+    requires { AreConditionsIn setting.now first.now rest.now }
+    ensures { Gives result (fold (or_step setting.now) (truth_of (condition_of pattern_of first.now) setting.now) rest.now) }
 {
-    let mut holds = truth(alloc, first, assignment, nodes, graph)?;
+    let mut holds = truth(alloc, first, setting)?;
     'parts: for part in rest {
         if holds {
             return Ok(true);
         }
-        holds = truth(alloc, part, assignment, nodes, graph)?;
+        holds = truth(alloc, part, setting)?;
     }
     Ok(holds)
 }

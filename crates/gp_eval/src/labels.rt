@@ -1,14 +1,16 @@
 //! Whether labels have values.
 
-ghost use Rattle.std.specs.Prelude.{◌≡◌, length, fold, All};
+ghost use Rattle.std.specs.Prelude.{◌≡◌, length, fold};
 ghost use Rattle.gp_syntax.specs.Tree.{expression_of};
 ghost use Rattle.gp_syntax.specs.Value.{Valued as Meaning, value_of};
 ghost use Rattle.gp_syntax.specs.WellFormed.{IsWithin};
 ghost use Rattle.gp_syntax.specs.Assigned.{IsWhole};
 ghost use Rattle.gp_eval.specs.Answer.{Tells, presence, setting, AreNodes};
 ghost use Rattle.gp_eval.specs.inside.Chains.{Gives, join_step};
+ghost use Rattle.gp_eval.specs.inside.Setting.{IsIn, AreIn};
 
 use crate::expression::eval_integer;
+use crate::setting::Setting;
 use crate::valued::{Missing, Valued};
 use gp_graph::Graph;
 use gp_syntax::{Assignment, Expr};
@@ -28,12 +30,16 @@ pub fn has_value(
     requires nodes { AreNodes graph.now.graph nodes.now }
     ensures { Tells result (presence (value_of (expression_of e.now) (setting assignment.now nodes.now graph.now.graph))) }
 {
+    let setting = Setting {
+        assignment,
+        nodes,
+        graph,
+    };
     match e {
         Expr::Join(first, rest) => {
-            let rest = rest.as_slice();
-            told(have_parts(alloc, first.get(), rest, assignment, nodes, graph))
+            told(have_parts(alloc, first.get(), rest.as_slice(), &setting))
         }
-        _ => told(has_part(alloc, e, assignment, nodes, graph)),
+        _ => told(has_part(alloc, e, &setting)),
     }
 }
 
@@ -49,23 +55,15 @@ fn told(present: Result<(), Missing>) -> Valued<()>
 }
 
 // Whether a part of a list has a value.
-fn has_part(
-    alloc: Global,
-    e: &Expr<u32>,
-    assignment: &Assignment,
-    nodes: &[u64],
-    graph: &Graph,
-) -> Result<(), Missing>
-    requires within { IsWithin (length assignment.now.types) (length nodes.now) (expression_of e.now) }
-    requires whole { IsWhole assignment.now }
-    requires nodes { AreNodes graph.now.graph nodes.now }
-    ensures { Gives result (presence (value_of (expression_of e.now) (setting assignment.now nodes.now graph.now.graph))) }
+fn has_part(alloc: Global, e: &Expr<u32>, setting: &Setting<'_>) -> Result<(), Missing>
+    requires { IsIn setting.now (expression_of e.now) }
+    ensures { Gives result (presence (value_of (expression_of e.now) setting.now)) }
 {
     match e {
         Expr::Text(_) => Ok(()),
         Expr::Empty => Ok(()),
         Expr::Variable(_) => Ok(()),
-        _ => match eval_integer(alloc, e, assignment, nodes, graph) {
+        _ => match eval_integer(alloc, e, setting) {
             Ok(_) => Ok(()),
             Err(missing) => Err(missing),
         },
@@ -77,19 +75,14 @@ fn have_parts(
     alloc: Global,
     first: &Expr<u32>,
     rest: &[Expr<u32>],
-    assignment: &Assignment,
-    nodes: &[u64],
-    graph: &Graph,
+    setting: &Setting<'_>,
 ) -> Result<(), Missing>
-    requires first { IsWithin (length assignment.now.types) (length nodes.now) (expression_of first.now) }
-    requires rest { All (λ t. IsWithin (length assignment.now.types) (length nodes.now) (expression_of t)) rest.now }
-    requires whole { IsWhole assignment.now }
-    requires nodes { AreNodes graph.now.graph nodes.now }
-    ensures { Gives result (presence (fold (join_step (setting assignment.now nodes.now graph.now.graph)) (value_of (expression_of first.now) (setting assignment.now nodes.now graph.now.graph)) rest.now)) }
+    requires { AreIn setting.now first.now rest.now }
+    ensures { Gives result (presence (fold (join_step setting.now) (value_of (expression_of first.now) setting.now) rest.now)) }
 {
-    has_part(alloc, first, assignment, nodes, graph)?;
+    has_part(alloc, first, setting)?;
     'parts: for part in rest {
-        has_part(alloc, part, assignment, nodes, graph)?;
+        has_part(alloc, part, setting)?;
     }
     Ok(())
 }

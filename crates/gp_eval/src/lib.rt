@@ -10,6 +10,7 @@
 #![tactic(auto)]
 
 mod arithmetic;
+mod chosen;
 mod comparison;
 mod condition;
 mod denied;
@@ -17,6 +18,7 @@ mod edges;
 mod expression;
 mod labels;
 mod leaf;
+mod setting;
 mod valued;
 
 pub use condition::holds;

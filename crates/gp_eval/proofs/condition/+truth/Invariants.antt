@@ -2,7 +2,6 @@ use Rattle.std.proofs.Common.{◌≡◌, ◌+◌, drop, fold}
 use Rattle.gp_syntax.specs.Tree.{condition_of, pattern_of}
 use Rattle.gp_syntax.specs.Truth.{truth_of}
 use Rattle.gp_syntax.specs.Value.{Value}
-use Rattle.gp_eval.specs.Answer.{setting}
 use Rattle.gp_eval.specs.inside.Chains.{and_step, or_step}
 use Rattle.gp_eval.specs.inside.Size.{condition_size, condition_sizes}
 use Rattle.gp_eval.proofs.condition.+truth.Given as goal
@@ -17,7 +16,7 @@ abbrev pub decreases-some_true : goal.decreases-some_true
 decreases-some_true l = 1 + condition_size l.first.now + condition_sizes l.rest.now
 
 abbrev pub invariant-all_true-parts : goal.invariant-all_true-parts
-invariant-all_true-parts l = let s = setting l.assignment l.nodes l.graph.graph in fold (and_step s) (Value l.holds) (drop l.part-index l.rest) ≡ fold (and_step s) (truth_of (condition_of pattern_of l.first) s) l.rest
+invariant-all_true-parts l = let s = l.setting in fold (and_step s) (Value l.holds) (drop l.part-index l.rest) ≡ fold (and_step s) (truth_of (condition_of pattern_of l.first) s) l.rest
 
 abbrev pub invariant-some_true-parts : goal.invariant-some_true-parts
-invariant-some_true-parts l = let s = setting l.assignment l.nodes l.graph.graph in fold (or_step s) (Value l.holds) (drop l.part-index l.rest) ≡ fold (or_step s) (truth_of (condition_of pattern_of l.first) s) l.rest
+invariant-some_true-parts l = let s = l.setting in fold (or_step s) (Value l.holds) (drop l.part-index l.rest) ≡ fold (or_step s) (truth_of (condition_of pattern_of l.first) s) l.rest

@@ -1,29 +1,29 @@
-use Rattle.std.proofs.Common.{◌≡◌, rules, ℕ, length, ap, sym, subst, ◌∙◌}
+use Rattle.std.proofs.Common.{◌≡◌, rules, ℕ, ap, sym, subst, ◌∙◌}
 use mir.Val.{SFits}
 use mir.Syntax.{w128}
 use Rattle.std.proofs.lemmas.Int.{to_z-of_z}
 use Rattle.gp_memory.proofs.Basics.{some_map as some_as}
 use Rattle.gp_syntax.specs.Tree.{expression_of}
 use Rattle.gp_syntax.specs.Value.{Value, number}
-use Rattle.gp_syntax.specs.WellFormed.{IsWithin}
 use Rattle.gp_syntax.proofs.Trees.{expression_of-Number, expression_of-Variable, expression_of-InDegree, expression_of-OutDegree, expression_of-Length}
+use Rattle.gp_eval.specs.inside.Setting.{IsIn}
 use Rattle.gp_eval.proofs.leaf.read.Goals as goal
 
-pub value_at-requires-clause-known : goal.value_at-requires-clause-known
-value_at-requires-clause-known c =
-    subst (IsWithin (length c.args.assignment.now.types) (length c.args.nodes.now)) (ap expression_of c.in-Variable.is ∙ expression_of-Variable {R = ℕ} c.in-Variable.x) c.requires.within
+pub assigned-requires : goal.assigned-requires
+assigned-requires c =
+    subst (IsIn c.args.setting.now) (ap expression_of c.in-Variable.is ∙ expression_of-Variable {R = ℕ} c.in-Variable.x) c.requires
 
-pub in_degree_of-requires-clause-known : goal.in_degree_of-requires-clause-known
-in_degree_of-requires-clause-known c =
-    subst (IsWithin (length c.args.assignment.now.types) (length c.args.nodes.now)) (ap expression_of c.in-InDegree.is ∙ expression_of-InDegree {R = ℕ} c.in-InDegree.n) c.requires.within
+pub in_degree_of-requires : goal.in_degree_of-requires
+in_degree_of-requires c =
+    subst (IsIn c.args.setting.now) (ap expression_of c.in-InDegree.is ∙ expression_of-InDegree {R = ℕ} c.in-InDegree.n) c.requires
 
-pub out_degree_of-requires-clause-known : goal.out_degree_of-requires-clause-known
-out_degree_of-requires-clause-known c =
-    subst (IsWithin (length c.args.assignment.now.types) (length c.args.nodes.now)) (ap expression_of c.in-OutDegree.is ∙ expression_of-OutDegree {R = ℕ} c.in-OutDegree.n) c.requires.within
+pub out_degree_of-requires : goal.out_degree_of-requires
+out_degree_of-requires c =
+    subst (IsIn c.args.setting.now) (ap expression_of c.in-OutDegree.is ∙ expression_of-OutDegree {R = ℕ} c.in-OutDegree.n) c.requires
 
-pub length_of-requires-clause-known : goal.length_of-requires-clause-known
-length_of-requires-clause-known c =
-    subst (IsWithin (length c.args.assignment.now.types) (length c.args.nodes.now)) (ap expression_of c.in-Length.is ∙ expression_of-Length {R = ℕ} c.in-Length.x) c.requires.within
+pub length_of-requires : goal.length_of-requires
+length_of-requires c =
+    subst (IsIn c.args.setting.now) (ap expression_of c.in-Length.is ∙ expression_of-Length {R = ℕ} c.in-Length.x) c.requires
 
 pub returns-in-Number : goal.returns-in-Number
 returns-in-Number c =
@@ -32,7 +32,7 @@ returns-in-Number c =
 
 pub returns-in-Variable : goal.returns-in-Variable
 returns-in-Variable c =
-    rw (c.in-Variable.is, expression_of-Variable {R = ℕ} c.in-Variable.x) (some_as _ (λ z. c.value_at.result.now ≡ number z) _ (λ z e. ap Value (sym c.value_at.ensures ∙ e)) c.only_integer.ensures)
+    rw (c.in-Variable.is, expression_of-Variable {R = ℕ} c.in-Variable.x) (some_as _ (λ z. c.assigned.result.now ≡ number z) _ (λ z e. ap Value (sym c.assigned.ensures ∙ e)) c.only_integer.ensures)
 
 pub returns-in-InDegree : goal.returns-in-InDegree
 returns-in-InDegree c =
