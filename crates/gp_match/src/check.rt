@@ -1,23 +1,22 @@
 //! The verdict on a match.
 
-ghost use Rattle.std.specs.Prelude.{◌≡◌, length, All};
-ghost use Rattle.gp_syntax.specs.Assigned.{IsInTypes, IsWhole};
+ghost use Rattle.std.specs.Prelude.{◌≡◌, length};
+ghost use Rattle.gp_syntax.specs.Assigned.{IsInTypes};
 ghost use Rattle.gp_syntax.specs.Step.{first_fault, right_labels};
 ghost use Rattle.gp_syntax.specs.Tree.{condition_or_true, pattern_of, rule_of_tree};
 ghost use Rattle.gp_syntax.specs.Truth.{truth_of};
-ghost use Rattle.gp_syntax.specs.WellFormed.{IsConditionWithin, IsWithin, IsWellFormed};
-ghost use Rattle.gp_eval.specs.Answer.{AreNodes, Tells, setting};
+ghost use Rattle.gp_syntax.specs.WellFormed.{IsWellFormed};
 ghost use Rattle.gp_match.specs.Told.{IsTold};
 ghost use Rattle.gp_match.specs.Verdict.{Judges};
 ghost use Rattle.gp_match.specs.inside.Faults.{JudgedBy};
 
 use crate::fault::right_faults;
+use crate::scene::Scene;
 use crate::stand::stands;
-use gp_eval::{Valued, holds};
+use gp_eval::Valued;
 use gp_graph::Graph;
-use gp_syntax::{Assignment, Cond, Found, MarkPattern, NumberKind, Rule, RuleParts};
+use gp_syntax::{Assignment, Found, NumberKind, Rule, RuleParts};
 use gp_unify::assignment_by;
-use gp_values::EdgeMark;
 use std::alloc::Global;
 
 /// A match applies, or it is faulty: its condition, or with a true condition a right label, has no value, and why; or it
@@ -78,25 +77,21 @@ pub fn check_told(
     if !stands(parts, graph, found.nodes(), found.edges()) {
         return Verdict::No;
     }
-    judge(alloc, parts, graph, found.nodes(), assignment)
+    let scene = Scene {
+        parts,
+        assignment,
+        nodes: found.nodes(),
+        graph,
+    };
+    judge(alloc, &scene)
 }
 
 // The verdict on a match whose assignment this is.
-fn judge(
-    alloc: Global,
-    parts: &RuleParts,
-    graph: &Graph,
-    nodes: &[u64],
-    assignment: &Assignment,
-) -> Verdict
-    requires condition { IsConditionWithin (length assignment.now.types) (length nodes.now) (condition_or_true pattern_of parts.now.condition) }
-    requires labels { All (IsWithin (length assignment.now.types) (length nodes.now)) (right_labels (rule_of_tree parts.now)) }
-    requires whole { IsWhole assignment.now }
-    requires nodes { AreNodes graph.now.graph nodes.now }
-    ensures { JudgedBy result (truth_of (condition_or_true pattern_of parts.now.condition) (setting assignment.now nodes.now graph.now.graph)) (first_fault (right_labels (rule_of_tree parts.now)) (setting assignment.now nodes.now graph.now.graph)) }
+fn judge(alloc: Global, scene: &Scene<'_>) -> Verdict
+    ensures { JudgedBy result (truth_of (condition_or_true pattern_of scene.now.parts.condition) scene.now.setting) (first_fault (right_labels (rule_of_tree scene.now.parts)) scene.now.setting) }
 {
-    match condition_holds(alloc, &parts.condition, assignment, nodes, graph) {
-        Valued::Value(true) => match right_faults(alloc, parts, assignment, nodes, graph) {
+    match scene.holds(alloc) {
+        Valued::Value(true) => match right_faults(alloc, scene) {
             Valued::Value(()) => Verdict::Applies,
             Valued::NoValue(kind) => Verdict::Faulty(kind),
             Valued::NoMemory => Verdict::NoMemory,
@@ -104,24 +99,5 @@ fn judge(
         Valued::Value(false) => Verdict::No,
         Valued::NoValue(kind) => Verdict::Faulty(kind),
         Valued::NoMemory => Verdict::NoMemory,
-    }
-}
-
-// The truth of a condition; where none is written, it holds.
-fn condition_holds(
-    alloc: Global,
-    condition: &Option<Cond<u32, MarkPattern<EdgeMark>>>,
-    assignment: &Assignment,
-    nodes: &[u64],
-    graph: &Graph,
-) -> Valued<bool>
-    requires within { IsConditionWithin (length assignment.now.types) (length nodes.now) (condition_or_true pattern_of condition.now) }
-    requires whole { IsWhole assignment.now }
-    requires nodes { AreNodes graph.now.graph nodes.now }
-    ensures { Tells result (truth_of (condition_or_true pattern_of condition.now) (setting assignment.now nodes.now graph.now.graph)) }
-{
-    match condition {
-        Some(condition) => holds(alloc, condition, assignment, nodes, graph),
-        None => Valued::Value(true),
     }
 }

@@ -10,6 +10,7 @@ mod check;
 mod dangling;
 mod fault;
 pub mod laws;
+mod scene;
 mod stand;
 
 pub use check::{Verdict, check_match, check_told};

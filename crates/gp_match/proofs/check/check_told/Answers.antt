@@ -1,4 +1,4 @@
-use Rattle.std.proofs.Common.{◌≡◌, true, false, length, sym, ap, subst, ◌∙◌}
+use Rattle.std.proofs.Common.{rules, ◌≡◌, true, false, length, sym, ap, subst, ◌∙◌}
 use Rattle.gp_syntax.specs.Step.{first_fault, right_labels}
 use Rattle.gp_syntax.specs.Tree.{condition_or_true, pattern_of, rule_of_tree}
 use Rattle.gp_syntax.specs.Truth.{truth_of}
@@ -33,15 +33,16 @@ returns-then-not-stands c =
     let h : stands r g m.nodes es ≡ false = sym (c.stands.ensures ∙ ap (λ ns. stands r g ns es) c.nodes.ensures) ∙ c.if-not-stands.true in
     none_judged (rule_of_tree r) g m (no_match r g m es c.edges.ensures.numbers c.edges.ensures.directions p one h)
 
-pub judge-requires-clause-nodes : goal.judge-requires-clause-nodes
-judge-requires-clause-nodes c =
+pub invariant_of-scene : goal.invariant_of-scene
+invariant_of-scene c =
     let r = c.args.parts.now in
     let g = c.args.graph.now.graph in
     let m = c.args.found.now in
     let es = c.edges.result.now in
     let p = c.args.assignment.now in
     let one = fits_alone (rule_of_tree r) g m p c.read_values.ensures c.requires.told in
-    rw c.nodes-2.ensures (are_nodes r g m es c.edges.ensures.numbers c.edges.ensures.directions p one)
+    let there = are_nodes r g m es c.edges.ensures.numbers c.edges.ensures.directions p one in
+    record { condition = search rules; labels = search rules; whole = c.requires.told.whole; nodes = rw c.nodes-2.ensures there }
 
 pub returns : goal.returns
 returns c =
