@@ -89,7 +89,10 @@ def _attributes(label: Label, mark: Optional[str], names: Names, where: Tuple[Ha
 
 
 def _join(made: Any, graph: Graph, names: Names) -> None:
-    """Adds the edges to a MultiDiGraph that has none yet, as its add_edge does, which takes five times as long."""
+    """Adds the edges to a MultiDiGraph that has none yet, as its add_edge does, which takes five times as long.
+
+    That it has a dictionary for what comes before and behind each node is so in networkx 2 and 3.
+    """
     after, before = made._succ, made._pred
     for source, target, label, mark in graph.edges:
         if names.__class__ is str:
@@ -112,12 +115,16 @@ def to_networkx(graph: Graph, node_label: Names, edge_label: Names, create_using
         if not {"mark", "root", "key"}.isdisjoint([names] if isinstance(names, str) else names):
             raise ValueError("mark, root, and key are no names for parts of labels")
     made = _networkx().empty_graph(0, create_using=create_using, default=_networkx().MultiDiGraph)
+    is_usual = type(made) is _networkx().MultiDiGraph
     for name, (label, mark, root) in graph.nodes.items():
         data = _attributes(label, mark, node_label, (name,))
         if root:
             data["root"] = True
-        made.add_node(name, **data)
-    if type(made) is _networkx().MultiDiGraph:
+        if is_usual:
+            made._node[name], made._succ[name], made._pred[name] = data, {}, {}
+        else:
+            made.add_node(name, **data)
+    if is_usual:
         _join(made, graph, edge_label)
         return made
     for source, target, label, mark in graph.edges:

@@ -2,6 +2,8 @@
 from __future__ import annotations
 
 import re
+from itertools import repeat
+from operator import itemgetter
 from typing import Any, Dict, Hashable, Iterator, List, Mapping, NamedTuple, NoReturn, Optional, Set, Tuple
 
 from .graph import EDGE_MARKS, LEAST, MOST, NODE_MARKS, RESERVED, Edge, Graph, Label, Node, gc_paused
@@ -16,6 +18,7 @@ _TOKENS = re.compile(
     r'|(?P<token>"[ !#-~]*"|[A-Za-z0-9_]+|<=|>=|!=|=>|[\[\](){}<>|,;:#.+*/=!-])|(?P<bad>.)',
     re.DOTALL,
 )
+DIGITS = 39  # a number with fewer signs fits into 128 bits
 Marked = Tuple[Label, Optional[str]]
 
 
@@ -46,8 +49,10 @@ class _Labels(Dict[str, Marked]):
         found = _LABEL.fullmatch(text)
         if not found or found[2] not in self.marks:
             raise KeyError(text)
-        label = () if found[1] == "empty" else tuple([_value(atom) for atom in _ATOMS.findall(found[1])])
-        self[text] = marked = (label, found[2])
+        atoms, mark = found.groups()
+        parts = () if atoms == "empty" else _ATOMS.findall(atoms)
+        label = tuple([it[1:-1] if it[0] == '"' else int(it) if len(it) < DIGITS else _value(it) for it in parts])
+        self[text] = marked = (label, mark)
         return marked
 
 
@@ -61,8 +66,13 @@ class Printed(NamedTuple):
 
     def edges(self, name_of: Mapping[str, Hashable]) -> List[Edge]:
         """The edges, with other names for their ends. KeyError says that there is no such end or label."""
-        new, labels = tuple.__new__, self.labels
-        return [new(Edge, (name_of[source], name_of[target]) + labels[label]) for _, source, target, label in self.rows]
+        if not self.rows:
+            return []
+        _, sources, targets, texts = zip(*self.rows)
+        marked = [*map(self.labels.__getitem__, texts)]
+        ends = map(name_of.__getitem__, sources), map(name_of.__getitem__, targets)
+        parts = zip(*ends, map(itemgetter(0), marked), map(itemgetter(1), marked))
+        return [*map(tuple.__new__, repeat(Edge), parts)]
 
 
 def read_printed(text: str) -> Optional[Printed]:
